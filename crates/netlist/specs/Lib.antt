@@ -1,0 +1,5 @@
+-- The definitions of document 01 that say what an accepted circuit means. A reader must believe these files, in this order.
+pub mod Values
+pub mod Probes
+pub mod Calls
+pub mod Counts

@@ -1,0 +1,26 @@
+-- The reader's answer: accepted with the number of words, or refused with the rule's number, the line and the word.
+use mathlib.Core.List.{List}
+use Prim.Native.Nat.{ℕ}
+use lib.ListN.{length}
+use Rattle.text.specs.declared.TextVerdict.{TextVerdict}
+use Rattle.text.specs.declared.TextVerdict.the-variants.{Accepted, Refused}
+use Rattle.checker.specs.Lists.{over}
+use Rattle.checker.specs.Rules.{Judgement, pass, refuse}
+use Rattle.text.specs.Reader.{Read}
+
+pub data TextAnswer : Type 0 where
+  accepted : (count : ℕ) → TextAnswer
+  refused : (rule line word : ℕ) → TextAnswer
+
+-- what the code's answer says
+abbrev pub said : TextVerdict → TextAnswer
+said (Accepted count) = accepted count
+said (Refused rule line word) = refused rule line word
+
+abbrev pub answer : List ℕ → Judgement → TextAnswer
+answer found pass = accepted (length found)
+answer found (refuse rule line word) = refused rule line word
+
+-- the table after a call: the words of the whole lines before a refusal, or of all; the rest untouched
+abbrev pub tableAfter : Read → List ℕ → List ℕ
+tableAfter read table = over (read .found) table

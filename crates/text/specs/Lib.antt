@@ -1,0 +1,4 @@
+-- The definitions of document 01 that say which texts the reader takes. A reader must believe these files, in this order.
+pub mod Lines
+pub mod Reader
+pub mod Answer
