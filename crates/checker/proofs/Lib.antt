@@ -1,2 +1,4 @@
 -- What is proved of the definitions, and of the code.
+pub mod Base
+pub mod Parts
 pub mod Composition

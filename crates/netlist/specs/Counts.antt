@@ -1,9 +1,10 @@
 -- Document 01, "For demand 3": secret bits, sharings, and the number of pairs of sharing and tape from which a reading arises.
+use mathlib.Core.Path.{_≡_}
 use mathlib.Core.Bool.{Bool, true, false, cond, _&&_, Bool·beq}
 use mathlib.Core.List.{List, [], _∷_}
-use Prim.Native.Nat.{ℕ, zero, suc, _+_, _*_}
+use Prim.Native.Nat.{ℕ, zero, suc, _+_, _*_, _<_}
 use lib.Dec.{eqb}
-use lib.ListN.{take, drop}
+use lib.ListN.{length, take, drop}
 use Rattle.checker.specs.Lists.{_⊕_, mem}
 use Rattle.checker.specs.Circuit.{Circuit}
 use Rattle.netlist.specs.Values.{bits}
@@ -41,3 +42,8 @@ unfoldable pub pairsFor : Circuit → (probes : List ℕ) (secrets : List Bool) 
 pairsFor k probes secrets reading = sumOver (k .inputs * k .d) (λ shares. sumOver (k .randoms) (λ tape.
     cond (alike Bool·beq (secretsOf (k .d) (k .inputs) (bits shares)) secrets
     && alike eqb (readingOf (k .wires) probes (bits shares) (bits tape)) reading) 1 0))
+
+-- demand 3: where fewer than d different wires are probed, every reading arises equally often under any two sets of secret bits
+abbrev pub EqualCounts : Circuit → (probes : List ℕ) → Type 0
+EqualCounts k probes = different probes < k .d → (one other : List Bool) → length one ≡ k .inputs → length other ≡ k .inputs
+    → (reading : List ℕ) → pairsFor k probes one reading ≡ pairsFor k probes other reading
