@@ -1,4 +1,5 @@
 -- What is proved of the definitions, and of the code.
 pub mod Base
 pub mod Parts
+pub mod Sizes
 pub mod Composition
