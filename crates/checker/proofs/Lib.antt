@@ -2,4 +2,8 @@
 pub mod Base
 pub mod Parts
 pub mod Sizes
+pub mod Walk
 pub mod Composition
+pub mod Judging
+pub mod Fitting
+pub mod Exact

@@ -86,7 +86,7 @@ module _ (μ : List Part → ℕ) (none : μ [] ≡ 0) (both : (xs ys : List Par
   of-ref d p q h1 h2 = both (fresh1 d) (map s (labels d)) ∙ ap₂ (λ x y. x + y)
       (over-pairs (above d) (λ i j. r i j ∷ []) p h1 (labels d) ∙ ap (λ x. x * p) (above-count d)) h2
 
-labels-map : {A : Type 0} (d : ℕ) (f : ℕ → A) → length (map f (labels d)) ≡ d
+pub labels-map : {A : Type 0} (d : ℕ) (f : ℕ → A) → length (map f (labels d)) ≡ d
 labels-map d f = length-map (labels d) f ∙ range-length 0 d
 
 pub and-size : (d : ℕ) → length (inAND d) + d ≡ 7 * (d * (d - 1)) + 4 * d
