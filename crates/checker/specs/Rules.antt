@@ -8,7 +8,7 @@ use Rattle.checker.specs.Limits.{tableLimit, wireLimit, notesRoom, stage
 use Rattle.checker.specs.Lists.{nth}
 use Rattle.checker.specs.Wires.{Place, named, inner}
 use Rattle.checker.specs.Kinds.{Kind, kindOf, WordRule, order, label, value, stage, random, like, share, before, shape, words}
-use Rattle.checker.specs.Circuit.{Circuit, size, empty, place, labelOf, newStage, extend}
+use Rattle.checker.specs.Circuit.{Circuit, size, empty, place, labelOf, stageShown, newStage, extend}
 
 -- nothing is broken; or the number of the first rule broken, the frame and the word
 pub data Judgement : Type 0 where
@@ -29,11 +29,6 @@ refuse rule frame word then j = refuse rule frame word
 abbrev pub isNamed : Place → Bool
 isNamed (named l t) = true
 isNamed (inner t) = false
-
--- the stage that a wire shows; an inner one shows none, and 9 is tested before this counts
-abbrev pub stageShown : Place → ℕ
-stageShown (named l t) = t
-stageShown (inner t) = 0
 
 -- a frame of number f on the circuit k, with these words after its kind
 module _ (k : Circuit) (f : ℕ) (ops : List ℕ) where
