@@ -6,17 +6,19 @@ use Prim.Native.Nat.{ℕ, zero, suc, _+_, _≤_}
 use native.Mathlib.Omega.{arith}
 use lib.Dec.{leb, eqb}
 use lib.ListN.{length, take, drop, take-append-drop}
-use lib.Seq.{drop-nil}
-use borrow.Author.Tests.{leb-true, eqb-true}
-use Rattle.checker.specs.Limits.{tableLimit, notesRoom, fewestShares, mostShares}
+use lib.Seq.{drop-nil, take-at, drop-at}
+use borrow.Author.Tests.{leb-true, le-leb, eqb-true}
+use Rattle.checker.specs.Limits.{tableLimit, wireLimit, notesRoom, stageLimit, fewestShares, mostShares}
 use Rattle.checker.specs.Lists.{nth}
 use Rattle.checker.specs.Kinds.{kindOf, order, words}
-use Rattle.checker.specs.Circuit.{Circuit, empty, extend}
+use Rattle.checker.specs.Circuit.{Circuit, size, empty, place, stageOf, extend}
 use Rattle.checker.specs.Rules.{Judgement, pass, refuse, wordRule, frameRule, Checked, onward, frames, headRule, checked}
-use Rattle.checker.proofs.Base.{and-left, and-right}
+use Rattle.checker.proofs.Base.{and-left, and-right, and-both}
+use Rattle.checker.proofs.Walk.{frames-pass}
 use Rattle.checker.proofs.Composition.{Frame, AllFit, done, next, build, kindWord, wordsOf}
-use Rattle.checker.proofs.Judging.{never, need-then, word-pass}
-use Rattle.checker.proofs.Fitting.{Passed, frame-pass}
+use Rattle.checker.proofs.Building.{Lawful, InTime, build-size, stage-le, intime-step, build-intime}
+use Rattle.checker.proofs.Judging.{never, need-then, then-need, word-pass, pass-word}
+use Rattle.checker.proofs.Fitting.{kind-known, Passed, frame-pass, Meeting, fit-meets, fit-pass}
 
 -- what the acceptance of a table shows
 pub record Accepted (table : List ℕ) (room : ℕ) : Type 0 where
@@ -59,10 +61,10 @@ walked k f zero (x ∷ xs) ge h =
       circuit-is = ap (λ r. r .circuit) on ∙ w .circuit-is;
     }
 
-headed : (xs : List ℕ) → 2 ≤ length xs → nth xs 0 ≡ 0 → xs ≡ 0 ∷ nth xs 1 ∷ drop 2 xs
-headed [] l e = absurd (omega arith)
-headed (x ∷ []) l e = absurd (omega arith)
-headed (x ∷ y ∷ xs) l e = ap (λ (z : ℕ). z ∷ y ∷ xs) e
+headed : (xs ws : List ℕ) → 2 ≤ length xs → nth xs 0 ≡ 0 → drop 2 xs ≡ ws → xs ≡ 0 ∷ nth xs 1 ∷ ws
+headed [] ws l e h = absurd (omega arith)
+headed (x ∷ []) ws l e h = absurd (omega arith)
+headed (x ∷ y ∷ xs) ws l e h = cc
 
 -- soundness
 pub sound : (table : List ℕ) (room : ℕ) → checked table room .judgement ≡ pass → Accepted table room
@@ -79,8 +81,7 @@ sound table room h =
     record {
       d = d;
       fs = w .fs;
-      table-is = headed table (leb-true 2 (length table) (and-left _ _ p3)) (eqb-true (nth table 0) 0 (and-right (leb 2 (length table)) _ p3))
-          ∙ ap (λ (l : List ℕ). 0 ∷ d ∷ l) (w .words-are);
+      table-is = headed table (wordsOf (w .fs)) (leb-true 2 (length table) (and-left _ _ p3)) (eqb-true (nth table 0) 0 (and-right (leb 2 (length table)) _ p3)) (w .words-are);
       least = ge;
       most = le;
       short = leb-true (length table) tableLimit p1;
@@ -88,3 +89,36 @@ sound table room h =
       fit = w .fit;
       circuit-is = ap (λ r. r .circuit) on ∙ w .circuit-is;
     }
+
+-- completeness: frames that fit are walked to the end
+frames-fit : (k : Circuit) (f : ℕ) (fs : List Frame) → fewestShares ≤ k .d → Lawful InTime k → AllFit k fs
+    → frames k f 0 (wordsOf fs) ≡ record { circuit = build k fs; judgement = pass }
+frames-fit k f _ ge h done = unfold frames in refl
+frames-fit k f _ ge h (next {f = g} {fs = fs} fits few more) =
+    let kind = g .kind in
+    let count = fit-meets k kind (g .ops) ge h fits .count in
+    rw (
+      frames-pass k f (kindWord kind) (g .ops ++ wordsOf fs) (fit-pass k f kind (g .ops) (wordsOf fs) ge h fits few),
+      kind-known kind,
+      take-at (g .ops) (wordsOf fs) (words (k .d) kind) count,
+      drop-at (g .ops) (wordsOf fs) (words (k .d) kind) count,
+    ) (frames-fit (extend k (g .ops) kind) (suc f) fs ge (intime-step k (g .ops) kind ge fits h) more)
+
+pub complete : (d : ℕ) (fs : List Frame) (room : ℕ) → fewestShares ≤ d → d ≤ mostShares → length (0 ∷ d ∷ wordsOf fs) ≤ tableLimit → notesRoom ≤ room
+    → AllFit (empty d) fs → checked (0 ∷ d ∷ wordsOf fs) room ≡ record { circuit = build (empty d) fs; judgement = pass }
+unfolding checked headRule
+complete d fs room ge le short roomy fit =
+    let table : List ℕ = 0 ∷ d ∷ wordsOf fs in
+    let head : headRule table room ≡ pass =
+    then-need _ 1 0 0 _ (le-leb (length table) tableLimit short)
+    (then-need _ 2 0 0 _ (le-leb notesRoom room roomy)
+    (then-need _ 3 0 0 _ (and-both _ _ (le-leb 2 (length table) (omega arith)) refl)
+    (pass-word (empty 0) 0 [] order 1 d (ge, le)))) in
+    rw head (frames-fit (empty d) 1 fs ge tt fit)
+
+-- what holds of the circuit of every accepted table: at most 8,192 wires, and no stage over 255
+pub accepted-size : {table : List ℕ} {room : ℕ} → Accepted table room → size (checked table room .circuit) ≤ wireLimit
+accepted-size a = rw (a .circuit-is) (build-size (a .fs) (a .fit) (omega arith))
+
+pub accepted-stages : {table : List ℕ} {room : ℕ} → Accepted table room → (x : ℕ) → stageOf (place (checked table room .circuit) x) ≤ stageLimit
+accepted-stages a x = rw (a .circuit-is) (stage-le (build (empty (a .d)) (a .fs)) (build-intime (a .d) (a .fs) (a .least) (a .fit)) x)

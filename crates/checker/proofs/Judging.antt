@@ -12,8 +12,8 @@ use Rattle.checker.specs.Limits.{stageLimit, fewestShares, mostShares}
 use Rattle.checker.specs.Lists.{nth}
 use Rattle.checker.specs.Wires.{Place, named, inner, constant, _placed_}
 use Rattle.checker.specs.Kinds.{WordRule, order, label, value, stage, random, like, share, before}
-use Rattle.checker.specs.Circuit.{Circuit, size, place, labelOf}
-use Rattle.checker.specs.Rules.{Judgement, pass, refuse, need, _then_, isNamed, stageShown, wireRule, wordRule, wordsRule}
+use Rattle.checker.specs.Circuit.{Circuit, size, place, labelOf, stageShown}
+use Rattle.checker.specs.Rules.{Judgement, pass, refuse, need, _then_, isNamed, wireRule, wordRule, wordsRule}
 use Rattle.checker.proofs.Base.{cases, and-left, and-right, and-both, AllFrom}
 
 pub never : {A : Type 0} (rule frame word : ℕ) → refuse rule frame word ≡ pass → A

@@ -4,6 +4,7 @@ pub mod Parts
 pub mod Sizes
 pub mod Walk
 pub mod Composition
+pub mod Building
 pub mod Judging
 pub mod Fitting
 pub mod Exact
