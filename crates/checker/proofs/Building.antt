@@ -1,35 +1,26 @@
 -- Laws of every wire of a circuit of frames that fit, frame by frame. First of them: there are at most 8,192 wires, and no stage is over 255.
-use mathlib.Core.Path.{_≡_, refl, sym, ap, subst, _∙_}
+use mathlib.Core.Path.{_≡_, refl, sym, ap, subst, subst₂, _∙_}
 use mathlib.Core.Bool.{false}
 use mathlib.Core.List.{List, [], _∷_, _++_, map}
 use Prim.Native.Nat.{ℕ, zero, suc, _+_, _≤_, _<_}
 use native.Mathlib.Omega.{arith}
 use lib.ListN.{length, getD, length-append, length-map, List·getD-append}
+use lib.Seq.{getD-append-add}
 use Rattle.checker.specs.Limits.{wireLimit, stageLimit, fewestShares}
 use Rattle.checker.specs.Lists.{nth}
 use Rattle.checker.specs.Wires.{Gate, constant, Place, named, inner, Wire, _placed_}
 use Rattle.checker.specs.Gadgets.{Part, r, R, B, m, M, u, U, v, V′, w, W, c, s, S, labels, gate, delay, inAND, inREF, index, gadget}
 use Rattle.checker.specs.Kinds.{Kind, shape}
 use Rattle.checker.specs.Circuit.{Circuit, size, empty, place, stageShown, stageOf, newStage, made, extend}
-use Rattle.checker.proofs.Base.{Every, every-of, every-imp, AllFrom, all-append, all-imp, all-zip, all-map, all-of}
-use Rattle.checker.proofs.Parts.{label-lt, InAND, and-parts, InREF, fresh, added, ref-parts}
+use Rattle.checker.proofs.Base.{every-of, AllFrom, Has, all-append, all-left, all-right, all-map, all-unmap, all-of}
+use Rattle.checker.proofs.Numbered.{all-get, get-all, all-below, all-at}
+use Rattle.checker.proofs.Parts.{index-at, label-lt, InAND, and-parts, InREF, fresh, added, ref-parts}
 use Rattle.checker.proofs.Sizes.{made-size}
 use Rattle.checker.proofs.Composition.{Frame, Row, Fits, fit-IN, fit-CON, fit-XOR, fit-NOT, fit-REG, fit-AND, fit-REF, fit-OUT, AllFit, done, next, build}
 
 -- the wire of a number; a constant, where there is no such wire
 abbrev pub wireAt : Circuit → ℕ → Wire
 wireAt k x = getD (k .wires) x (constant false placed inner 0)
-
--- properties of every element of a list, with its number
-module _ {A : Type 0} (Q : ℕ → A → Type 0) where
-  pub all-get : (n : ℕ) (xs : List A) (z : A) → AllFrom Q n xs → (i : ℕ) → i < length xs → Q (n + i) (getD xs i z)
-  all-get n [] z h i l = absurd (omega arith)
-  all-get n (x ∷ xs) z h zero l = subst (λ (m : ℕ). Q m x) (omega arith) (h .0)
-  all-get n (x ∷ xs) z h (suc i) l = subst (λ (m : ℕ). Q m (getD xs i z)) (omega arith) (all-get (suc n) xs z (h .1) i (omega arith))
-
-  pub all-below : (P : ℕ → A → Type 0) (n : ℕ) (xs : List A) → ((m : ℕ) (x : A) → m < n + length xs → Q m x → P m x) → AllFrom Q n xs → AllFrom P n xs
-  all-below P n [] f h = tt
-  all-below P n (x ∷ xs) f h = (f n x (omega arith) (h .0), all-below P (suc n) xs (λ m y l. f m y (omega arith)) (h .1))
 
 -- the wires of a gadget: its parts, then its outputs
 module _ (Q : ℕ → Wire → Type 0) (d first : ℕ) (a b : ℕ → ℕ) (inside : List Part) (out : ℕ → Part) (start end : ℕ) where
@@ -47,6 +38,33 @@ module _ (Q : ℕ → Wire → Type 0) (d first : ℕ) (a b : ℕ → ℕ) (insi
       (subst (λ (n : ℕ). AllFrom Q (first + n) (map output (labels d))) (sym (length-map inside part))
       (all-map Q output (first + length inside) (labels d)
       (all-of (λ x i. Q x (output i)) (λ i. i < d) (first + length inside) (labels d) outer (every-of (λ i. i < d) (labels d) (label-lt d)))))
+
+-- behind other wires, the wire of the number of a part is that part's, and the outputs come after the parts
+module _ (ws : List Wire) (d : ℕ) (a b : ℕ → ℕ) (inside : List Part) (out : ℕ → Part) (start end : ℕ) (z : Wire) where
+  abbrev partOf : Part → Wire
+  partOf p = gate d a b (λ q. length ws + index q inside) p placed inner (start + delay p)
+
+  abbrev outputOf : ℕ → Wire
+  outputOf i = gate d a b (λ q. length ws + index q inside) (out i) placed named i end
+
+  abbrev whole : List Wire
+  whole = ws ++ gadget d (length ws) a b inside out start end
+
+  wires-at : AllFrom (λ x wire. getD whole x z ≡ wire) (length ws) (gadget d (length ws) a b inside out start end)
+  wires-at = get-all (λ x wire. getD whole x z ≡ wire) (length ws) (gadget d (length ws) a b inside out start end) z
+      (λ i l. getD-append-add ws (gadget d (length ws) a b inside out start end) i z)
+
+  pub part-at : (p : Part) → Has p inside → getD whole (length ws + index p inside) z ≡ partOf p
+  unfolding gadget
+  part-at p h = index-at (λ x q. getD whole x z ≡ partOf q) (length ws) inside p h
+      (all-unmap (λ x wire. getD whole x z ≡ wire) partOf (length ws) inside
+      (all-left (λ x wire. getD whole x z ≡ wire) (length ws) (map partOf inside) (map outputOf (labels d)) wires-at))
+
+  pub output-at : (i : ℕ) → i < d → getD whole (length ws + length inside + i) z ≡ outputOf i
+  unfolding gadget
+  output-at i l = subst₂ (λ x j. getD whole (length ws + x + i) z ≡ outputOf j) (length-map inside partOf) (omega arith)
+      (all-at (λ x wire. getD whole x z ≡ wire) outputOf (length ws + length (map partOf inside)) 0 d
+      (all-right (λ x wire. getD whole x z ≡ wire) (length ws) (map partOf inside) (map outputOf (labels d)) wires-at) i l)
 
 -- the places of a frame
 pub place-old : (k : Circuit) (ops : List ℕ) (kind : Kind) (x : ℕ) → x < size k → place (extend k ops kind) x ≡ place k x

@@ -15,17 +15,13 @@ use Rattle.checker.specs.Kinds.{Kind, HEAD, IN, CON, XOR, NOT, REG, AND,
 use Rattle.checker.specs.Circuit.{Circuit, size, place, labelOf, stageShown, newStage}
 use Rattle.checker.specs.Rules.{pass, need, wordsRule, frameRule}
 use Rattle.checker.proofs.Base.{and-left, and-right, and-both, AllFrom, all-append, all-left, all-right}
+use Rattle.checker.proofs.Numbered.{range-at, all-at, at-all}
 use Rattle.checker.proofs.Sizes.{labels-map}
 use Rattle.checker.proofs.Composition.{Row, Fits, fit-IN, fit-CON, fit-XOR, fit-NOT, fit-REG, fit-AND, fit-REF, fit-OUT, kindWord}
 use Rattle.checker.proofs.Building.{row-first, Lawful, InTime, shown-limit}
 use Rattle.checker.proofs.Judging.{then-pass, pass-then, need-then, then-need, need-pass, pass-need, Meets, AllMeet, words-pass, pass-words}
 
 -- the kind words
-range-at : (n c i : ℕ) → i < c → nth (range n c) i ≡ n + i
-range-at n zero i l = absurd (omega arith)
-range-at n (suc c) zero l = omega arith
-range-at n (suc c) (suc i) l = range-at (suc n) c i (omega arith) ∙ omega arith
-
 pub known : (w : ℕ) → w ≤ 8 → kindWord (kindOf w) ≡ w
 unfolding kindOf
 known w h = sym (List·getD-map kindWord (HEAD ∷ IN ∷ CON ∷ XOR ∷ NOT ∷ REG ∷ AND ∷ REF ∷ OUT ∷ []) w HEAD) ∙ range-at 0 9 w (omega arith) ∙ omega arith
@@ -68,20 +64,6 @@ ref-words d = omega (arith, labels-map d (λ i. share i 1))
 out-words : (d : ℕ) → words d OUT ≡ d
 unfolding shape
 out-words d = labels-map d (λ i. share i 0)
-
--- a property of each element of a list that is given by number
-module _ {A : Type 0} (Q : ℕ → A → Type 0) (g : ℕ → A) where
-  all-at : (n m c : ℕ) → AllFrom Q n (map g (range m c)) → (i : ℕ) → i < c → Q (n + i) (g (m + i))
-  all-at n m zero h i l = absurd (omega arith)
-  all-at n m (suc c) h zero l = subst₂ (λ x y. Q x (g y)) (omega arith) (omega arith) (h .0)
-  all-at n m (suc c) h (suc i) l = subst₂ (λ x y. Q x (g y)) (omega arith) (omega arith) (all-at (suc n) (suc m) c (h .1) i (omega arith))
-
-  at-all : (n m c : ℕ) → ((i : ℕ) → i < c → Q (n + i) (g (m + i))) → AllFrom Q n (map g (range m c))
-  at-all n m zero h = tt
-  at-all n m (suc c) h = (
-    subst₂ (λ x y. Q x (g y)) (omega arith) (omega arith) (h 0 (omega arith)),
-    at-all (suc n) (suc m) c (λ i l. subst₂ (λ x y. Q x (g y)) (omega arith) (omega arith) (h (suc i) (omega arith))),
-  )
 
 module _ (k : Circuit) (ops : List ℕ) where
   open Circuit k using (d)

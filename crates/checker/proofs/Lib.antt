@@ -1,5 +1,6 @@
 -- What is proved of the definitions, and of the code.
 pub mod Base
+pub mod Numbered
 pub mod Parts
 pub mod Sizes
 pub mod Walk
