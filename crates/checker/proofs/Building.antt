@@ -1,7 +1,7 @@
 -- Laws of every wire of a circuit of frames that fit, frame by frame. First of them: there are at most 8,192 wires, and no stage is over 255.
 use mathlib.Core.Path.{_≡_, refl, sym, ap, subst, subst₂, _∙_}
 use mathlib.Core.Bool.{false}
-use mathlib.Core.List.{List, [], _∷_, _++_, map}
+use mathlib.Core.List.{List, [], _∷_, _++_, map, append-nil, append-assoc}
 use Prim.Native.Nat.{ℕ, zero, suc, _+_, _≤_, _<_}
 use native.Mathlib.Omega.{arith}
 use lib.ListN.{length, getD, length-append, length-map, List·getD-append}
@@ -88,6 +88,12 @@ module _ (Q : Circuit → ℕ → Wire → Type 0) where
     pub build-all : {k : Circuit} (fs : List Frame) → fewestShares ≤ k .d → AllFit k fs → Lawful k → Lawful (build k fs)
     build-all _ ge done h = h
     build-all _ ge (next {k} {f} fits few more) h = build-all _ ge more (step-all k (f .ops) (f .kind) ge fits h)
+
+-- frames add wires behind those that are there
+pub build-more : (k : Circuit) (fs : List Frame) → (more : List Wire) × (build k fs .wires ≡ k .wires ++ more)
+build-more k [] = ([], sym (append-nil (k .wires)))
+build-more k (f ∷ fs) = let (more, e) = build-more (extend k (f .ops) (f .kind)) fs in
+    (made k (f .ops) (f .kind) ++ more, e ∙ append-assoc (k .wires) (made k (f .ops) (f .kind)) more)
 
 -- at most 8,192 wires
 pub size-extend : (k : Circuit) (ops : List ℕ) (kind : Kind) → size (extend k ops kind) ≡ size k + shape (k .d) kind .makes

@@ -3,3 +3,4 @@ pub mod Cases
 pub mod Randoms
 pub mod Earlier
 pub mod Stages
+pub mod Reading
