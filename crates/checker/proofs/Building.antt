@@ -13,7 +13,7 @@ use Rattle.checker.specs.Gadgets.{Part, r, R, B, m, M, u, U, v, V′, w,
 use Rattle.checker.specs.Kinds.{Kind, shape}
 use Rattle.checker.specs.Circuit.{Circuit, size, empty, place, stageShown, stageOf, newStage, made, extend}
 use Rattle.checker.proofs.Base.{every-of, AllFrom, Has, all-append, all-left, all-right, all-map, all-unmap, all-of}
-use Rattle.checker.proofs.Numbered.{all-get, get-all, all-below, all-at}
+use Rattle.checker.proofs.Numbered.{get-all, all-below, all-at}
 use Rattle.checker.proofs.Parts.{index-at, label-lt, InAND, and-parts, InREF, fresh, added, ref-parts}
 use Rattle.checker.proofs.Sizes.{made-size}
 use Rattle.checker.proofs.Composition.{Frame, Row, Fits, fit-IN, fit-CON, fit-XOR, fit-NOT, fit-REG, fit-AND, fit-REF, fit-OUT, AllFit, done, next, build}
@@ -94,6 +94,19 @@ pub build-more : (k : Circuit) (fs : List Frame) → (more : List Wire) × (buil
 build-more k [] = ([], sym (append-nil (k .wires)))
 build-more k (f ∷ fs) = let (more, e) = build-more (extend k (f .ops) (f .kind)) fs in
     (made k (f .ops) (f .kind) ++ more, e ∙ append-assoc (k .wires) (made k (f .ops) (f .kind)) more)
+
+-- frames before and after a place
+pub build-append : (k : Circuit) (fs gs : List Frame) → build k (fs ++ gs) ≡ build (build k fs) gs
+build-append k [] gs = refl
+build-append k (f ∷ fs) gs = build-append (extend k (f .ops) (f .kind)) fs gs
+
+pub build-shares : (k : Circuit) (fs : List Frame) → build k fs .d ≡ k .d
+build-shares k [] = refl
+build-shares k (f ∷ fs) = build-shares (extend k (f .ops) (f .kind)) fs
+
+pub fit-split : (k : Circuit) (fs gs : List Frame) → AllFit k (fs ++ gs) → AllFit k fs × AllFit (build k fs) gs
+fit-split k [] gs h = (done, h)
+fit-split k (f ∷ fs) gs (next fits few more) = let (p, q) = fit-split (extend k (f .ops) (f .kind)) fs gs more in (next fits few p, q)
 
 -- at most 8,192 wires
 pub size-extend : (k : Circuit) (ops : List ℕ) (kind : Kind) → size (extend k ops kind) ≡ size k + shape (k .d) kind .makes

@@ -1,8 +1,8 @@
 -- Exactness: the checker accepts a table exactly where it is a HEAD and frames that fit one after the other.
-use mathlib.Core.Path.{_≡_, refl, sym, ap, ap₂, subst, _∙_}
+use mathlib.Core.Path.{_≡_, refl, sym, ap, ap₂, _∙_}
 use mathlib.Core.Bool.{_&&_}
 use mathlib.Core.List.{List, [], _∷_, _++_}
-use Prim.Native.Nat.{ℕ, zero, suc, _+_, _≤_}
+use Prim.Native.Nat.{ℕ, zero, suc, _≤_}
 use native.Mathlib.Omega.{arith}
 use lib.Dec.{leb, eqb}
 use lib.ListN.{length, take, drop, take-append-drop}
@@ -12,13 +12,13 @@ use Rattle.checker.specs.Limits.{tableLimit, wireLimit, notesRoom, stage
 use Rattle.checker.specs.Lists.{nth}
 use Rattle.checker.specs.Kinds.{kindOf, order, words}
 use Rattle.checker.specs.Circuit.{Circuit, size, empty, place, stageOf, extend}
-use Rattle.checker.specs.Rules.{Judgement, pass, refuse, wordRule, frameRule, Checked, onward, frames, headRule, checked}
+use Rattle.checker.specs.Rules.{Judgement, pass, refuse, frameRule, Checked, onward, frames, headRule, checked}
 use Rattle.checker.proofs.Base.{and-left, and-right, and-both}
 use Rattle.checker.proofs.Walk.{frames-pass}
 use Rattle.checker.proofs.Composition.{Frame, AllFit, done, next, build, kindWord, wordsOf}
 use Rattle.checker.proofs.Building.{Lawful, InTime, build-size, stage-le, intime-step, build-intime}
 use Rattle.checker.proofs.Judging.{never, need-then, then-need, word-pass, pass-word}
-use Rattle.checker.proofs.Fitting.{kind-known, Passed, frame-pass, Meeting, fit-meets, fit-pass}
+use Rattle.checker.proofs.Fitting.{kind-known, frame-pass, fit-meets, fit-pass}
 
 -- what the acceptance of a table shows
 pub record Accepted (table : List ℕ) (room : ℕ) : Type 0 where

@@ -1,23 +1,23 @@
 -- A frame passes exactly where it fits: the words' rules against the composition rules, kind by kind.
-use mathlib.Core.Path.{_≡_, refl, sym, ap, subst, subst₂, _∙_}
+use mathlib.Core.Path.{_≡_, refl, sym, ap, subst, _∙_}
 use mathlib.Core.Bool.{_&&_}
-use mathlib.Core.List.{List, [], _∷_, _++_, map}
-use Prim.Native.Nat.{ℕ, zero, suc, _+_, _≤_, _<_}
+use mathlib.Core.List.{List, [], _∷_, _++_}
+use Prim.Native.Nat.{ℕ, suc, _+_, _≤_, _<_}
 use native.Mathlib.Omega.{arith}
 use lib.Dec.{leb}
 use lib.ListN.{length, take, length-append, List·getD-map}
 use lib.Seq.{length-take-le, take-at}
 use borrow.Author.Tests.{leb-true, le-leb}
 use Rattle.checker.specs.Limits.{wireLimit, stageLimit, fewestShares}
-use Rattle.checker.specs.Lists.{nth, range}
+use Rattle.checker.specs.Lists.{nth}
 use Rattle.checker.specs.Wires.{named}
 use Rattle.checker.specs.Kinds.{Kind, HEAD, IN, CON, XOR, NOT, REG, AND, REF, OUT, kindOf, WordRule, share, before, row, shape, words}
-use Rattle.checker.specs.Circuit.{Circuit, size, place, labelOf, stageShown, newStage}
-use Rattle.checker.specs.Rules.{pass, need, wordsRule, frameRule}
-use Rattle.checker.proofs.Base.{and-left, and-right, and-both, AllFrom, all-append, all-left, all-right}
+use Rattle.checker.specs.Circuit.{Circuit, size, place, stageShown, newStage}
+use Rattle.checker.specs.Rules.{pass, wordsRule, frameRule}
+use Rattle.checker.proofs.Base.{and-left, and-right, and-both, all-append, all-left, all-right}
 use Rattle.checker.proofs.Numbered.{range-at, all-at, at-all}
 use Rattle.checker.proofs.Sizes.{labels-map}
-use Rattle.checker.proofs.Composition.{Row, Fits, fit-IN, fit-CON, fit-XOR, fit-NOT, fit-REG, fit-AND, fit-REF, fit-OUT, kindWord}
+use Rattle.checker.proofs.Composition.{Fits, fit-IN, fit-CON, fit-XOR, fit-NOT, fit-REG, fit-AND, fit-REF, fit-OUT, kindWord}
 use Rattle.checker.proofs.Building.{row-first, Lawful, InTime, shown-limit}
 use Rattle.checker.proofs.Judging.{then-pass, pass-then, need-then, then-need, need-pass, pass-need, Meets, AllMeet, words-pass, pass-words}
 

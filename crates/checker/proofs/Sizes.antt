@@ -8,7 +8,7 @@ use lib.Dec.{eqb, ltb}
 use lib.ListN.{length, length-append, length-map}
 use borrow.Author.Tests.{eqb-true, lt-ltb, ltb-true}
 use Rattle.checker.specs.Lists.{range, keep, each}
-use Rattle.checker.specs.Wires.{Gate, Wire, named, inner, _placed_}
+use Rattle.checker.specs.Wires.{Gate, named, inner, _placed_}
 use Rattle.checker.specs.Gadgets.{Part, r, s, labels, above, others, gate, delay, inAND, inREF, index, gadget}
 use Rattle.checker.specs.Kinds.{Kind, HEAD, IN, CON, XOR, NOT, REG, AND, REF, OUT, pairs, shape}
 use Rattle.checker.specs.Circuit.{Circuit, made}

@@ -1,5 +1,5 @@
 -- In a circuit of frames that fit, every gate takes earlier wires only.
-use mathlib.Core.Path.{_≡_, refl, subst}
+use mathlib.Core.Path.{refl, subst}
 use mathlib.Core.List.{List, [], _∷_, _++_, map}
 use mathlib.Core.Logic.{inl, inr}
 use Prim.Native.Nat.{ℕ, _+_, _≤_, _<_}
@@ -7,14 +7,14 @@ use native.Mathlib.Omega.{arith}
 use lib.ListN.{length}
 use Rattle.checker.specs.Limits.{fewestShares}
 use Rattle.checker.specs.Lists.{nth, each}
-use Rattle.checker.specs.Wires.{Gate, constant, inner, Wire, _placed_}
-use Rattle.checker.specs.Gadgets.{Part, r, R, B, m, M, u, U, v, V′, w, W, c, s, S, labels, above, others, sorted, gate, inAND, inREF, index, gadget}
+use Rattle.checker.specs.Wires.{Gate, Wire}
+use Rattle.checker.specs.Gadgets.{Part, r, R, B, m, u, U, v, V′, w, W, c, s, S, labels, above, others, sorted, gate, inAND, inREF, index, gadget}
 use Rattle.checker.specs.Kinds.{Kind}
-use Rattle.checker.specs.Circuit.{Circuit, size, empty, made, extend}
+use Rattle.checker.specs.Circuit.{Circuit, size, empty, made}
 use Rattle.checker.specs.Rules.{checked}
 use Rattle.checker.proofs.Base.{In, in-head, in-tail, Has, has-left, Every, every-append, every-map, every-of, AllFrom, all-map, all-of}
 use Rattle.checker.proofs.Numbered.{all-get}
-use Rattle.checker.proofs.Parts.{index-lt, Before, before-append, before-each, More, Ready, ordered, Pair, label-lt, above-pair, others-pair, InAND, is-M, is-U, is-W, and-has, cell1, cell2, cell3, sec1, sec2, sec3, has1, InREF, added, fresh1, fresh-has, ref-has, sorted-at}
+use Rattle.checker.proofs.Parts.{index-lt, Before, before-append, before-each, More, Ready, ordered, label-lt, others-pair, InAND, is-M, is-U, is-W, and-has, cell1, cell2, cell3, sec1, sec2, sec3, has1, added, fresh1, fresh-has, ref-has, sorted-at}
 use Rattle.checker.proofs.Composition.{Frame, Fits, fit-IN, fit-CON, fit-XOR, fit-NOT, fit-REG, fit-AND, fit-REF, fit-OUT, AllFit, build}
 use Rattle.checker.proofs.Building.{wireAt, gadget-all, Lawful, build-all}
 use Rattle.checker.proofs.Judging.{named-made}
@@ -144,6 +144,9 @@ pub earlier : (d : ℕ) (fs : List Frame) → fewestShares ≤ d → AllFit (emp
 earlier d fs ge fit n l =
     let k = build (empty d) fs in
     subst (λ (m : ℕ). Early m (wireAt k n .gate)) (omega arith) (all-get (EarlyIn k) 0 (k .wires) _ (build-early d fs ge fit) n l)
+
+pub accepted-early : {table : List ℕ} {room : ℕ} → Accepted table room → Lawful EarlyIn (checked table room .circuit)
+accepted-early a = rw (a .circuit-is) (build-early (a .d) (a .fs) (a .least) (a .fit))
 
 pub accepted-earlier : {table : List ℕ} {room : ℕ} → Accepted table room
     → (n : ℕ) → n < size (checked table room .circuit) → Early n (wireAt (checked table room .circuit) n .gate)

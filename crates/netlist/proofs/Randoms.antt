@@ -1,15 +1,18 @@
 -- How many random bits each kind takes: the numbers of document 01's table.
-use mathlib.Core.Path.{_≡_, refl, ap, _∙_}
-use mathlib.Core.Bool.{Bool, true, false, cond}
+use mathlib.Core.Path.{_≡_, refl, ap, ap₂, _∙_}
+use mathlib.Core.Bool.{false, cond}
 use mathlib.Core.List.{List, [], _∷_, _++_, map}
 use Prim.Native.Nat.{ℕ, suc, _+_}
 use native.Mathlib.Omega.{arith}
 use Rattle.checker.specs.Wires.{Gate, Wire, named, inner, _placed_}
-use Rattle.checker.specs.Gadgets.{Part, r, c, s, S, labels, gate, delay, inAND, inREF, index, gadget}
+use Rattle.checker.specs.Gadgets.{Part, c, s, S, labels, gate, delay, index, gadget}
 use Rattle.checker.specs.Kinds.{Kind, HEAD, IN, CON, XOR, NOT, REG, AND, REF, OUT, shape}
-use Rattle.checker.specs.Circuit.{Circuit, size, made, extend}
+use Rattle.checker.specs.Circuit.{Circuit, size, empty, made, extend}
+use Rattle.checker.specs.Rules.{checked}
 use Rattle.checker.proofs.Base.{cases}
 use Rattle.checker.proofs.Sizes.{of-and, of-ref}
+use Rattle.checker.proofs.Composition.{Frame, build}
+use Rattle.checker.proofs.Exact.{Accepted}
 use Rattle.netlist.specs.Values.{isRandom}
 
 -- the number of random gates among wires
@@ -67,3 +70,12 @@ made-randoms k ops AND = gadget-drawn (k .d) (size k) _ _ _ _ _ c (λ i. refl)
 made-randoms k ops REF = gadget-drawn (k .d) (size k) _ _ _ _ _ S (λ i. refl)
     ∙ of-ref (drawn (k .d) (size k) _ _ _ _ 0) refl (drawn-append (k .d) (size k) _ _ _ _ 0) (k .d) 1 0 (λ i j. refl) (drawn-sums (k .d) (size k) _ _ _ _ 0 (labels (k .d))) ∙ omega arith
 made-randoms k ops OUT = refl
+
+-- a circuit has as many random gates as it counts
+pub build-randoms : (k : Circuit) (fs : List Frame) → randomsIn (k .wires) ≡ k .randoms → randomsIn (build k fs .wires) ≡ build k fs .randoms
+build-randoms k [] h = h
+build-randoms k (f ∷ fs) h = build-randoms (extend k (f .ops) (f .kind)) fs
+    (randoms-append (k .wires) (made k (f .ops) (f .kind)) ∙ ap₂ (λ x y. x + y) h (made-randoms k (f .ops) (f .kind)))
+
+pub accepted-randoms : {table : List ℕ} {room : ℕ} → Accepted table room → randomsIn (checked table room .circuit .wires) ≡ checked table room .circuit .randoms
+accepted-randoms a = rw (a .circuit-is) (build-randoms (empty (a .d)) (a .fs) refl)

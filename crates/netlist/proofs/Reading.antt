@@ -1,7 +1,7 @@
 -- What probes read: a stop itself, another wire what its operands read, an AND's output its registers; a probe list counts as a set.
 use mathlib.Core.Path.{_≡_, refl, sym, ap, ap₂, subst, _∙_, fun-ext}
 use mathlib.Core.Bool.{Bool, true, false, cond, false≢true}
-use mathlib.Core.List.{List, [], _∷_, _++_, map, append-assoc}
+use mathlib.Core.List.{List, [], _∷_, _++_, map}
 use Prim.Native.Nat.{ℕ, zero, suc, _+_, _≤_, _<_}
 use native.Mathlib.Omega.{arith}
 use lib.Dec.{eqb}
@@ -11,17 +11,17 @@ use borrow.Author.Tests.{eqb-true}
 use Rattle.checker.specs.Limits.{wireLimit, fewestShares}
 use Rattle.checker.specs.Lists.{nth, mem, range, each}
 use Rattle.checker.specs.Wires.{Gate, constant, sum, inner, Wire, _placed_}
-use Rattle.checker.specs.Gadgets.{Part, M, U, W, c, others, gate, inAND, index, gadget}
+use Rattle.checker.specs.Gadgets.{Part, M, U, W, c, others, gate, inAND, index}
 use Rattle.checker.specs.Kinds.{AND}
-use Rattle.checker.specs.Circuit.{Circuit, size, made, newStage, extend}
-use Rattle.checker.proofs.Base.{cases, clash, or-cases, or-left, or-right, In, in-head, in-tail, in-append, in-each, Sub, Every, every-append, every-map, every-imp, AllFrom, all-append}
+use Rattle.checker.specs.Circuit.{Circuit, size, empty, made, extend}
+use Rattle.checker.proofs.Base.{cases, or-cases, or-left, In, in-tail, in-append, in-each, Sub, Every, every-append, every-map, every-imp, AllFrom, all-append}
 use Rattle.checker.proofs.Parts.{index-lt, others-pair, InAND, is-M, is-U, is-W, and-has}
 use Rattle.checker.proofs.Sizes.{gadget-size}
-use Rattle.checker.proofs.Composition.{Frame, Fits, build}
-use Rattle.checker.proofs.Building.{Lawful, build-more, part-at, output-at}
+use Rattle.checker.proofs.Composition.{Frame, Fits, AllFit, next, build}
+use Rattle.checker.proofs.Building.{Lawful, build-more, build-append, build-shares, fit-split, part-at, output-at}
 use Rattle.netlist.specs.Values.{at, byte, valuesOf}
 use Rattle.netlist.specs.Probes.{isStop, operands, reads, readBy, stopsFrom, stops, sheet, readingOf}
-use Rattle.netlist.proofs.Earlier.{Early, EarlyIn, early-new}
+use Rattle.netlist.proofs.Earlier.{Early, EarlyIn, early-new, build-early}
 
 -- two tests that pass together
 same-test : (a b : Bool) → (a ≡ true → b ≡ true) → (b ≡ true → a ≡ true) → a ≡ b
@@ -124,12 +124,21 @@ selves : (f : ℕ → List ℕ) (xs : List ℕ) → Every (λ y. f y ≡ y ∷ [
 selves f [] h = refl
 selves f (x ∷ xs) h = ap₂ (λ a b. a ++ b) (h .0) (selves f xs (h .1))
 
--- a probe on an AND's output c(i) reads M(i), all U(i,j) and all W(i,j), and nothing else
+-- AND: the wire of a part, the wires made before the gadget being `first` many; and M(i), all U(i,j) and all W(i,j)
+abbrev pub partWire : (d first : ℕ) → Part → ℕ
+partWire d first p = first + index p (inAND d)
+
+abbrev pub outputStops : (d first i : ℕ) → List ℕ
+outputStops d first i = partWire d first (M i) ∷ (map (λ j. partWire d first (U i j)) (others d i) ++ map (λ j. partWire d first (W i j)) (others d i))
+
 module _ (k : Circuit) (ops : List ℕ) (early : Lawful EarlyIn k) (fits : Fits k AND ops) where
   open Circuit k using (d)
 
-  abbrev partWire : Part → ℕ
-  partWire p = size k + index p (inAND d)
+  abbrev wire : Part → ℕ
+  wire = partWire d (size k)
+
+  abbrev gateIn : Part → Gate
+  gateIn = gate d (λ i. nth ops (1 + i)) (λ i. nth ops (1 + d + i)) wire
 
   abbrev behind : List Wire
   behind = extend k ops AND .wires
@@ -145,42 +154,52 @@ module _ (k : Circuit) (ops : List ℕ) (early : Lawful EarlyIn k) (fits : Fits 
   unfolding made
   behind-size = length-append (k .wires) (made k ops AND) ∙ ap (λ (n : ℕ). size k + n) (gadget-size _ _ _ _ _ _ _ _)
 
-  abbrev gateIn : Part → Gate
-  gateIn = gate d (λ i. nth ops (1 + i)) (λ i. nth ops (1 + d + i)) partWire
-
-  part-gate : {p : Part} → InAND d p → getD behind (partWire p) nothing .gate ≡ gateIn p
+  part-gate : {p : Part} → InAND d p → getD behind (wire p) nothing .gate ≡ gateIn p
   unfolding made
-  part-gate {p} o = ap (λ wire. wire .gate) (part-at (k .wires) d (λ i. nth ops (1 + i)) (λ i. nth ops (1 + d + i)) (inAND d) c _ _ nothing p (and-has d o))
+  part-gate {p} o = ap (λ x. x .gate) (part-at (k .wires) d (λ i. nth ops (1 + i)) (λ i. nth ops (1 + d + i)) (inAND d) c _ _ nothing p (and-has d o))
 
   output-gate : (i : ℕ) → i < d → getD behind (size k + length (inAND d) + i) nothing .gate ≡ gateIn (c i)
   unfolding made
-  output-gate i l = ap (λ wire. wire .gate) (output-at (k .wires) d (λ i. nth ops (1 + i)) (λ i. nth ops (1 + d + i)) (inAND d) c _ _ nothing i l)
+  output-gate i l = ap (λ x. x .gate) (output-at (k .wires) d (λ i. nth ops (1 + i)) (λ i. nth ops (1 + d + i)) (inAND d) c _ _ nothing i l)
 
-  register-reads : {p : Part} → InAND d p → isStop (gateIn p) ≡ true → probe behind (partWire p) ≡ partWire p ∷ []
-  register-reads {p} o h = stop-reads behind early-behind nothing (partWire p) (omega (arith, behind-size, index-lt (inAND d) p (and-has d o))) (ap isStop (part-gate o) ∙ h)
+  register-reads : {p : Part} → InAND d p → isStop (gateIn p) ≡ true → probe behind (wire p) ≡ wire p ∷ []
+  register-reads {p} o h = stop-reads behind early-behind nothing (wire p) (omega (arith, behind-size, index-lt (inAND d) p (and-has d o))) (ap isStop (part-gate o) ∙ h)
 
-  abbrev pub outputStops : ℕ → List ℕ
-  outputStops i = partWire (M i) ∷ (map (λ j. partWire (U i j)) (others d i) ++ map (λ j. partWire (W i j)) (others d i))
-
-  and-reads : (i : ℕ) → i < d → probe behind (size k + length (inAND d) + i) ≡ outputStops i
+  and-reads : (i : ℕ) → i < d → probe behind (size k + length (inAND d) + i) ≡ outputStops d (size k) i
   and-reads i l =
       let Q : ℕ → Type 0 = λ y. probe behind y ≡ y ∷ [] in
       let e = output-gate i l in
       gate-reads behind early-behind nothing (size k + length (inAND d) + i) (omega (arith, behind-size)) (ap isStop e)
       ∙ ap (λ g. each (operands g) (probe behind)) e
-      ∙ selves (probe behind) (outputStops i) (
+      ∙ selves (probe behind) (outputStops d (size k) i) (
         register-reads (is-M i l) refl,
-        every-append Q (map (λ j. partWire (U i j)) (others d i)) (map (λ j. partWire (W i j)) (others d i))
-            (every-map Q (λ j. partWire (U i j)) (others d i) (λ j z. register-reads (is-U i j (others-pair d i j l z)) refl))
-            (every-map Q (λ j. partWire (W i j)) (others d i) (λ j z. register-reads (is-W i j (others-pair d i j l z)) refl)),
+        every-append Q (map (λ j. wire (U i j)) (others d i)) (map (λ j. wire (W i j)) (others d i))
+            (every-map Q (λ j. wire (U i j)) (others d i) (λ j z. register-reads (is-U i j (others-pair d i j l z)) refl))
+            (every-map Q (λ j. wire (W i j)) (others d i) (λ j z. register-reads (is-W i j (others-pair d i j l z)) refl)),
       )
 
   -- whatever frames come after it
-  pub output-reads : (fs : List Frame) (i : ℕ) → i < d → probe (build (extend k ops AND) fs .wires) (size k + length (inAND d) + i) ≡ outputStops i
-  output-reads fs i l =
+  later-reads : (fs : List Frame) (i : ℕ) → i < d → probe (build (extend k ops AND) fs .wires) (size k + length (inAND d) + i) ≡ outputStops d (size k) i
+  later-reads fs i l =
       let (more, e) = build-more (extend k ops AND) fs in
       ap (λ ws. probe ws (size k + length (inAND d) + i)) e
       ∙ probe-kept behind more (size k + length (inAND d) + i) (omega (arith, behind-size)) ∙ and-reads i l
+
+first-fits : {k : Circuit} {f : Frame} {fs : List Frame} → AllFit k (f ∷ fs) → Fits k (f .kind) (f .ops)
+first-fits (next fits few more) = fits
+
+-- a probe on an AND's output c(i) reads M(i), all U(i,j) and all W(i,j), each once, and nothing else
+pub output-reads : (d : ℕ) (before after : List Frame) (ops : List ℕ) → fewestShares ≤ d → AllFit (empty d) (before ++ record { kind = AND; ops = ops } ∷ after)
+    → (i : ℕ) → i < d → probe (build (empty d) (before ++ record { kind = AND; ops = ops } ∷ after) .wires) (size (build (empty d) before) + length (inAND d) + i)
+    ≡ outputStops d (size (build (empty d) before)) i
+output-reads d before after ops ge fit i l =
+    let k = build (empty d) before in
+    let and : Frame = record { kind = AND; ops = ops } in
+    let shares = build-shares (empty d) before in
+    let (p, q) = fit-split (empty d) before (and ∷ after) fit in
+    ap (λ z. probe (z .wires) (size k + length (inAND d) + i)) (build-append (empty d) before (and ∷ after))
+    ∙ subst (λ (n : ℕ). probe (build (extend k ops AND) after .wires) (size k + length (inAND n) + i) ≡ outputStops n (size k) i) shares
+    (later-reads k ops (build-early d before ge p) (first-fits q) after i (omega arith))
 
 -- only the set of the probed wires counts: neither their order, nor how often one is probed
 sheet-same : (read other : List ℕ) (values : List Bool) → ((x : ℕ) → mem x read ≡ mem x other) → sheet read values ≡ sheet other values
