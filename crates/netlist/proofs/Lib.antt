@@ -1,2 +1,6 @@
 -- What is proved of the definitions.
 pub mod Cases
+pub mod Randoms
+pub mod Earlier
+pub mod Stages
+pub mod Reading
