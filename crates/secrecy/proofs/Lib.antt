@@ -1,0 +1,8 @@
+-- The theorems of equal counts and of products, in the order of the argument.
+pub mod Sums
+pub mod Randoms
+pub mod Coupled
+pub mod Same
+pub mod Roles
+pub mod Taken
+pub mod Flips

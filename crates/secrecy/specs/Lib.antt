@@ -1,0 +1,2 @@
+-- What theorem A says. Theorem B's statement, `EqualCounts`, stands beside the meaning of circuits.
+pub mod Deciding
