@@ -6,3 +6,6 @@ pub mod Same
 pub mod Roles
 pub mod Taken
 pub mod Flips
+pub mod Sites
+pub mod And
+pub mod Ref
