@@ -9,3 +9,4 @@ pub mod Flips
 pub mod Sites
 pub mod And
 pub mod Ref
+pub mod Frames
