@@ -10,3 +10,5 @@ pub mod Sites
 pub mod And
 pub mod Ref
 pub mod Frames
+pub mod Whole
+pub mod Tapes
