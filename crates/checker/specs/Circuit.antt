@@ -27,10 +27,16 @@ empty d = record { d = d; wires = []; inputs = 0; randoms = 0; latency = 0 }
 abbrev pub place : Circuit → ℕ → Place
 place k x = getD (k .wires) x (constant false placed inner 0) .place
 
+-- the label and the stage that a wire shows to other frames; an inner one shows none, and rule 9 is tested before this counts
 abbrev pub labelOf : Place → ℕ
 labelOf (named l t) = l
 labelOf (inner t) = 0
 
+abbrev pub stageShown : Place → ℕ
+stageShown (named l t) = t
+stageShown (inner t) = 0
+
+-- the stage at which a wire stands
 abbrev pub stageOf : Place → ℕ
 stageOf (named l t) = t
 stageOf (inner t) = t
@@ -46,7 +52,7 @@ module _ (k : Circuit) (ops : List ℕ) where
   label i = labelOf (place k (nth ops i))
 
   abbrev stage : ℕ → ℕ
-  stage i = stageOf (place k (nth ops i))
+  stage i = stageShown (place k (nth ops i))
 
   -- the stage of the wires that a frame makes for others to name; of OUT, that of its wires
   unfoldable pub newStage : Kind → ℕ

@@ -8,7 +8,7 @@ use Rattle.checker.specs.Limits.{tableLimit, wireLimit, notesRoom, stage
 use Rattle.checker.specs.Lists.{nth}
 use Rattle.checker.specs.Wires.{Place, named, inner}
 use Rattle.checker.specs.Kinds.{Kind, kindOf, WordRule, order, label, value, stage, random, like, share, before, shape, words}
-use Rattle.checker.specs.Circuit.{Circuit, size, empty, place, labelOf, stageOf, newStage, extend}
+use Rattle.checker.specs.Circuit.{Circuit, size, empty, place, labelOf, stageShown, newStage, extend}
 
 -- nothing is broken; or the number of the first rule broken, the frame and the word
 pub data Judgement : Type 0 where
@@ -43,7 +43,7 @@ module _ (k : Circuit) (f : ℕ) (ops : List ℕ) where
   labelAt x = labelOf (place k x)
 
   abbrev stageAt : ℕ → ℕ
-  stageAt x = stageOf (place k x)
+  stageAt x = stageShown (place k x)
 
   -- a word by its rule
   abbrev pub wordRule : WordRule → (w x : ℕ) → Judgement
