@@ -12,3 +12,6 @@ pub mod Ref
 pub mod Frames
 pub mod Whole
 pub mod Tapes
+pub mod FreeLabel
+pub mod Masks
+pub mod Sharings
