@@ -9,7 +9,7 @@ use Rattle.checker.specs.Lists.{nth}
 use Rattle.checker.specs.Wires.{Gate, input, constant, reg, inverse, sum, Place, named, inner, Wire, _placed_}
 use Rattle.checker.specs.Gadgets.{labels}
 use Rattle.checker.specs.Kinds.{Kind, HEAD, IN, CON, XOR, NOT, REG, AND, REF, OUT}
-use Rattle.checker.specs.Circuit.{Circuit, size, place, labelOf, stageOf, isSet, newStage, made}
+use Rattle.checker.specs.Circuit.{Circuit, size, place, labelOf, stageShown, isSet, newStage, made}
 use Rattle.checker.proofs.Base.{In, in-head, every-of, AllFrom, all-zip, all-map, all-unmap, all-of, map-two}
 use Rattle.checker.proofs.Parts.{label-lt}
 use Rattle.checker.proofs.Composition.{Fits, fit-IN, fit-CON, fit-XOR, fit-NOT, fit-REG, fit-AND, fit-REF, fit-OUT}
@@ -42,7 +42,7 @@ module _ (P : ℕ → Bool) (behind : List ℕ) (k : Circuit) where
   wireB ops i = nth ops (1 + k .d + i)
 
   abbrev stageAt : List ℕ → ℕ → ℕ
-  stageAt ops i = stageOf (place k (nth ops i))
+  stageAt ops i = stageShown (place k (nth ops i))
 
   abbrev andSite : List ℕ → Site
   andSite ops = site P (k .d) (size k) (wireA ops) (wireB ops) (stageAt ops (1 + k .d)) (newStage k ops AND) behind

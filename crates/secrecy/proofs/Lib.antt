@@ -15,3 +15,5 @@ pub mod Tapes
 pub mod FreeLabel
 pub mod Masks
 pub mod Sharings
+pub mod Totals
+pub mod Equations
