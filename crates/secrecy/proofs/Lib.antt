@@ -17,3 +17,4 @@ pub mod Masks
 pub mod Sharings
 pub mod Totals
 pub mod Equations
+pub mod Products
