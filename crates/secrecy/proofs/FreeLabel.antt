@@ -1,6 +1,6 @@
 -- The pigeonhole: a list of fewer than n numbers leaves out some number below n.
 use mathlib.Core.Path.{_≡_, ap}
-use mathlib.Core.Bool.{true, false, cond, false≢true}
+use mathlib.Core.Bool.{false, cond, false≢true}
 use mathlib.Core.List.{List, [], _∷_}
 use mathlib.Core.Logic.{_⊎_, inl, inr}
 use Prim.Native.Nat.{ℕ, zero, suc, _≤_, _<_}

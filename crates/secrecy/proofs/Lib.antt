@@ -18,3 +18,5 @@ pub mod Sharings
 pub mod Totals
 pub mod Equations
 pub mod Products
+pub mod Theorems
+pub mod Examples

@@ -10,7 +10,7 @@ use borrow.Author.Tests.{ltb-true}
 use Rattle.checker.specs.Lists.{_⊕_, nth}
 use Rattle.checker.specs.Wires.{Gate}
 use Rattle.checker.specs.Gadgets.{Part, r, R, B, m, M, u, U, v, V′, w, W, c, s, S, labels, others, sorted, inAND, inREF, index}
-use Rattle.checker.specs.Kinds.{AND, REF}
+use Rattle.checker.specs.Kinds.{Kind, AND, REF}
 use Rattle.checker.specs.Circuit.{Circuit, size, place, stageShown, newStage, empty, made}
 use Rattle.checker.proofs.Base.{cases, no-flip, ltb-other, AllFrom}
 use Rattle.checker.proofs.Parts.{index-at, Pair, other, label-lt, others-pair, InAND, is-R, is-B, is-m, is-M, is-u, is-U, is-v, is-V, is-w, is-W, and-has, added, ref-has}
@@ -89,41 +89,39 @@ module _ (d first : ℕ) (a : ℕ → ℕ) (f : Values) (sh : List Bool) where
     ref-adds = total-ext _ (λ i. f (a i) ⊕ total (others d i) (fresh i)) (labels d) (λ i h. S-is i (label-lt d i h))
         ∙ refreshed d fresh (λ i j e. ap (λ p. f (refWire p)) (sorted-swap r i j e)) (λ i. f (a i))
 
+-- a frame of this kind with these words
+abbrev pub frame : Kind → List ℕ → Frame
+frame kind ops = record { kind = kind; ops = ops }
+
 -- a frame in a circuit, k the circuit before it
 module _ (d : ℕ) (fs : List Frame) (ops : List ℕ) (gs : List Frame) (shares tape : List Bool) where
-  abbrev pub with-AND : List Frame
-  with-AND = fs ++ (record { kind = AND; ops = ops } ∷ gs)
-
-  abbrev pub with-REF : List Frame
-  with-REF = fs ++ (record { kind = REF; ops = ops } ∷ gs)
-
   abbrev k : Circuit
   k = build (empty d) fs
 
-  pub and-product : AllFit (empty d) with-AND
-      → let f : Values = at (valuesOf (build (empty d) with-AND .wires) shares tape) in
+  pub and-product : AllFit (empty d) (fs ++ (frame AND ops ∷ gs))
+      → let f : Values = at (valuesOf (build (empty d) (fs ++ (frame AND ops ∷ gs)) .wires) shares tape) in
       total (labels (k .d)) (λ i. f (size k + length (inAND (k .d)) + i))
       ≡ (total (labels (k .d)) (λ i. f (nth ops (1 + i))) && total (labels (k .d)) (λ i. f (nth ops (1 + k .d + i))))
   unfolding made
   and-product fit =
-      let f : Values = at (valuesOf (build (empty d) with-AND .wires) shares tape) in
+      let f : Values = at (valuesOf (build (empty d) (fs ++ (frame AND ops ∷ gs)) .wires) shares tape) in
       let a : ℕ → ℕ = λ i. nth ops (1 + i) in
       let b : ℕ → ℕ = λ i. nth ops (1 + k .d + i) in
       let start = stageShown (place k (nth ops (1 + k .d))) in
-      let meets = made-meets d fs (record { kind = AND; ops = ops }) gs fit shares tape in
+      let meets = made-meets d fs (frame AND ops) gs fit shares tape in
       and-adds (k .d) (size k) a b f shares
       (inner-meets (k .d) (size k) a b (inAND (k .d)) c start (newStage k ops AND) f shares meets)
       (outer-meets (k .d) (size k) a b (inAND (k .d)) c start (newStage k ops AND) f shares meets)
 
-  pub ref-sum : AllFit (empty d) with-REF
-      → let f : Values = at (valuesOf (build (empty d) with-REF .wires) shares tape) in
+  pub ref-sum : AllFit (empty d) (fs ++ (frame REF ops ∷ gs))
+      → let f : Values = at (valuesOf (build (empty d) (fs ++ (frame REF ops ∷ gs)) .wires) shares tape) in
       total (labels (k .d)) (λ i. f (size k + length (inREF (k .d)) + i)) ≡ total (labels (k .d)) (λ i. f (nth ops (1 + i)))
   unfolding made
   ref-sum fit =
-      let f : Values = at (valuesOf (build (empty d) with-REF .wires) shares tape) in
+      let f : Values = at (valuesOf (build (empty d) (fs ++ (frame REF ops ∷ gs)) .wires) shares tape) in
       let a : ℕ → ℕ = λ i. nth ops (1 + i) in
       let start = stageShown (place k (nth ops 1)) in
-      let meets = made-meets d fs (record { kind = REF; ops = ops }) gs fit shares tape in
+      let meets = made-meets d fs (frame REF ops) gs fit shares tape in
       ref-adds (k .d) (size k) a f shares
       (inner-meets (k .d) (size k) a a (inREF (k .d)) S start (newStage k ops REF) f shares meets)
       (outer-meets (k .d) (size k) a a (inREF (k .d)) S start (newStage k ops REF) f shares meets)
