@@ -1,4 +1,4 @@
--- AND: every probed wire, and every output in the share indices behind, looks the same.
+-- AND: every probed wire, and every output with a label among the share indices behind, looks the same.
 use mathlib.Core.Path.{_≡_, refl, sym, ap, ap₂, _∙_}
 use mathlib.Core.Bool.{Bool, true, false, not, _&&_, true≢false}
 use mathlib.Core.List.{List, [], _++_, map}
@@ -19,14 +19,16 @@ use Rattle.secrecy.proofs.Same.{Two, Same, settle, carry}
 use Rattle.secrecy.proofs.Flips.{delta, delta-swap, delta-none, delta-half, delta-u, delta-w, delta-agree}
 use Rattle.secrecy.proofs.Sites.{Site, number, gateOf, entry, lift, Known, Good, entriesAt, out, ins, out-ins, touched, Told, PartFact, OutFact, look, good, early-at}
 
-module _ (P : ℕ → Bool) (d first : ℕ) (a b : ℕ → ℕ) (start end : ℕ) (behind : List ℕ) where
+-- an AND of d shares, from the wire `first` on
+module _ (isProbed : ℕ → Bool) (d first : ℕ) (a b : ℕ → ℕ) (start end : ℕ) (behind : List ℕ) where
   abbrev pub site : Site
-  site = record { P = P; d = d; first = first; a = a; b = b; inside = inAND d; output = c; start = start; end = end; behind = behind }
+  site = record { isProbed = isProbed; d = d; first = first; a = a; b = b; inside = inAND d; output = c; start = start; end = end; behind = behind }
 
   -- the flip of the bit r(i,j)
   abbrev flip : ℕ → ℕ → Shift
   flip i j = delta (ins site) (out site) (touched site true) a b i j
 
+  -- the flips by role: only the bits r are random, so only theirs count
   abbrev pub flips : Role → Shift
   flips (lone i) f f′ = false
   flips (pair x i j) f f′ = flip i j f f′
@@ -37,12 +39,14 @@ module _ (P : ℕ → Bool) (d first : ℕ) (a b : ℕ → ℕ) (start end : ℕ
   -- a probed wire that is no w and no W: the bit is not flipped
   quiet : (f f′ : Values) (i j : ℕ) → Told site (pair false i j) → flip i j f f′ ≡ false
   unfolding ins touched
-  quiet f f′ i j t = delta-none (ins site) (out site) (touched site true) a b f f′ i j (t .one) (t .two) (seen-both P i j (out site) first (map role (inAND d)) (t .hit))
+  quiet f f′ i j t = delta-none (ins site) (out site) (touched site true) a b f f′ i j (t .one) (t .two) (seen-both isProbed i j (out site) first (map role (inAND d)) (t .hit))
 
+  -- two evaluations in which a(i) and b(i) look the same for each i in `ins`
   module _ (T : Two) (known : AllFrom (Known T flips) first (entriesAt site))
       (sa : (i : ℕ) → i < d → In i (ins site) → Same T (a i)) (sb : (i : ℕ) → i < d → In i (ins site) → Same T (b i)) where
     open Two T using (f, f′)
 
+    -- whether r(i,j) is flipped; what is known of a part's wire; its number; the number of r(i,j)
     abbrev D : ℕ → ℕ → Bool
     D i j = flip i j f f′
 
@@ -141,6 +145,7 @@ module _ (P : ℕ → Bool) (d first : ℕ) (a b : ℕ → ℕ) (start end : ℕ
         ∙ ap₂ (λ y z. y && z) ((sa i (o .fst) q) .valued) (sym (V-right (wire (V′ i j)) i j o e)) ∙ sym (g .bits .right refl) ∙ sym (h .bits .right refl))
         (λ z. absurd (true≢false z))
 
+    -- an output in `out`
     c-same : (x i : ℕ) → i < d → OutFact site T flips x i → In i (out site) → Same T x
     c-same x i l h k =
         let q = out-ins site i k in
@@ -153,6 +158,7 @@ module _ (P : ℕ → Bool) (d first : ℕ) (a b : ℕ → ℕ) (start end : ℕ
               (every-map (Same T) (λ j. wire (W i j)) (others d i) (λ j z. W-out i j (others-pair d i j l z) q k)),
         )
 
+    -- a probed inner wire, whichever it is
     inner-same : (x : ℕ) (p : Part) → InAND d p → Seen x p → Told site (role p) → Same T x
     inner-same x _ (is-r i j o l) h t = r-same x i j h (quiet f f′ i j t)
     inner-same x _ (is-R i j o l) h t = R-same x i j o l h (quiet f f′ i j t)
@@ -166,7 +172,7 @@ module _ (P : ℕ → Bool) (d first : ℕ) (a b : ℕ → ℕ) (start end : ℕ
     inner-same x _ (is-w i j o) h t = w-same x i j o h t
     inner-same x _ (is-W i j o) h t = W-same x i j o h t
 
-    pub and-good : AllFrom (Good T P behind) first (entriesAt site)
+    pub and-good : AllFrom (Good T isProbed behind) first (entriesAt site)
     and-good = good site T flips (InAND d) (and-parts d) inner-same c-same known
 
   -- every part is made behind those it uses, and flips are decided by the wires a and b

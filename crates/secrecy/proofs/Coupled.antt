@@ -22,6 +22,7 @@ Values = ℕ → Bool
 abbrev pub Shift : Type 0
 Shift = Values → Values → Bool
 
+-- a wire, and the shift of its bit if it is random
 pub record Step : Type 0 where
   pub wire : Wire
   pub shift : Shift
@@ -36,12 +37,14 @@ pub record Bits (sh sh′ : List Bool) (g : Gate) (δ : Shift) (f f′ : Values)
   pub flipped : isRandom g ≡ true → b′ ≡ (b ⊕ δ f f′)
 
 module _ (sh sh′ : List Bool) where
+  -- one walk over the wires, in which the values v and v′ so far grow to the values g and g′ of all
   abbrev pub Run : List Step → List Bool → List Bool → List Bool → List Bool → Type 0
   Run [] v v′ g g′ = (g ≡ v) × (g′ ≡ v′)
   Run (s ∷ ss) v v′ g g′ = (b : Bool) × (b′ : Bool) × Bits sh sh′ (s .wire .gate) (s .shift) (at v) (at v′) b b′
       × Run ss (v ++ (b ∷ [])) (v′ ++ (b′ ∷ [])) g g′
 
   module _ (F F′ : List Bool → ℕ) where
+    -- what F makes of the values in the first evaluation, summed over all tapes, is what F′ makes of those in the second
     abbrev Fair : List Step → Type 0
     Fair ss = (v v′ : List Bool) → ((g g′ : List Bool) → Run ss v v′ g g′ → F g ≡ F′ g′)
         → sumBits (randomsOf (map wireOf ss)) (λ t. F (valuesFrom sh t v (map wireOf ss)))
@@ -61,21 +64,25 @@ module _ (sh sh′ : List Bool) where
     one (product x y) p δ ss ih v v′ h = ih _ _ (λ g g′ r. h g g′ (_, _, plain (product x y) δ (at v) (at v′) refl, r))
     one (gated x y) p δ ss ih v v′ h = ih _ _ (λ g g′ r. h g g′ (_, _, plain (gated x y) δ (at v) (at v′) refl, r))
 
+    -- if F and F′ agree at the end of every walk, their sums are equal
     pub couple : (ss : List Step) → Fair ss
     couple [] v v′ h = h v v′ (refl, refl)
     couple (s ∷ ss) v v′ h = one (s .wire .gate) (s .wire .place) (s .shift) ss (couple ss) v v′ h
 
--- operands are earlier wires, and a flip is decided by earlier values
+-- two functions that agree below x
 abbrev pub Agree : {A : Type 0} → ℕ → (ℕ → A) → (ℕ → A) → Type 0
 Agree x f w = (y : ℕ) → y < x → f y ≡ w y
 
+-- the wires that a gate takes are earlier than x
 abbrev pub Low : ℕ → Gate → Type 0
 Low x g = Every (λ y. y < x) (operands g)
 
+-- a step at the wire x: its operands are earlier wires, and its flip is decided by earlier values
 pub record Early (x : ℕ) (s : Step) : Type 0 where
   pub low : Low x (s .wire .gate)
   pub decided : (f w f′ w′ : Values) → Agree x f w → Agree x f′ w′ → s .shift f f′ ≡ s .shift w w′
 
+-- a bit that is never flipped
 pub undecided : (x : ℕ) (f w f′ w′ : Values) → Agree x f w → Agree x f′ w′ → false ≡ false
 undecided x f w f′ w′ h h′ = refl
 

@@ -26,9 +26,11 @@ value-tape (sum xs) f sh t e = refl
 value-tape (product x y) f sh t e = refl
 value-tape (gated x y) f sh t e = refl
 
+-- a step that is never flipped
 abbrev calm : Wire → Step
 calm x = record { wire = x; shift = λ f f′. false }
 
+-- the values of a circuit are the end of such a walk
 run-values : (ws : List Wire) (sh t vs : List Bool) → Run sh sh (map calm ws) vs vs (valuesFrom sh t vs ws) (valuesFrom sh t vs ws)
 run-values [] sh t vs = (refl, refl)
 run-values (x ∷ ws) sh t vs =
@@ -40,9 +42,11 @@ run-values (x ∷ ws) sh t vs =
       run-values ws sh (cond (isRandom g) (drop 1 t) t) (vs ++ (b ∷ [])),
     )
 
+-- the wire x has the value of its gate, unless it is random
 abbrev pub Meets : Values → List Bool → ℕ → Gate → Type 0
 Meets f sh x g = isRandom g ≡ false → f x ≡ value g f sh []
 
+-- and so every wire does
 equations : (d : ℕ) (fs : List Frame) → AllFit (empty d) fs → (sh t : List Bool)
     → AllFrom (λ x k. Meets (at (valuesOf (build (empty d) fs .wires) sh t)) sh x (k .gate)) 0 (build (empty d) fs .wires)
 equations d fs fit sh t =
@@ -79,6 +83,7 @@ all-range Q x n (suc k) h (suc i) l = subst (λ (y : ℕ). Q y (n + suc i)) (ome
 
 -- the inner parts and the outputs of a gadget whose wires meet their equations
 module _ (d first : ℕ) (a b : ℕ → ℕ) (inside : List Part) (out : ℕ → Part) (start end : ℕ) (f : Values) (sh : List Bool) where
+  -- the gates and the wires of the gadget
   abbrev pub gateAt : Part → Gate
   gateAt = gate d a b (λ p. first + index p inside)
 

@@ -1,4 +1,4 @@
--- The flip of a pair's random bit in `and`, and what it does to the gadget's wires: bits only.
+-- The flip of a random bit of AND in the second evaluation, and what it does to the gadget's wires: bits only.
 use mathlib.Core.Path.{_≡_, refl, sym, _∙_}
 use mathlib.Core.Bool.{Bool, true, false, cond, not, _&&_}
 use mathlib.Core.List.{List}
@@ -8,17 +8,18 @@ use Rattle.checker.specs.Lists.{_⊕_, mem}
 use Rattle.checker.proofs.Base.{no-flip, cases, clash, In}
 use Rattle.secrecy.proofs.Coupled.{Values, Shift}
 
-abbrev dl : Bool → Bool → Bool → Bool → Bool
-dl true true x y = false
-dl true false x y = x
-dl false true x y = y
-dl false false x y = false
+-- x where only the first of two labels is there, y where only the second is, and no flip otherwise
+abbrev oneOf : Bool → Bool → Bool → Bool → Bool
+oneOf true true x y = false
+oneOf true false x y = x
+oneOf false true x y = y
+oneOf false false x y = false
 
-dl-swap : (p q x y : Bool) → dl p q x y ≡ dl q p y x
-dl-swap true true x y = refl
-dl-swap true false x y = refl
-dl-swap false true x y = refl
-dl-swap false false x y = refl
+oneOf-swap : (p q x y : Bool) → oneOf p q x y ≡ oneOf q p y x
+oneOf-swap true true x y = refl
+oneOf-swap true false x y = refl
+oneOf-swap false true x y = refl
+oneOf-swap false false x y = refl
 
 -- the bits: a wire b + r is restored by the flip b + b′
 restore : (b b′ r : Bool) → (b ⊕ r) ≡ (b′ ⊕ (r ⊕ (b ⊕ b′)))
@@ -39,16 +40,21 @@ gate-w : (a b b′ r : Bool) → (a && (b ⊕ r)) ≡ (a && (b′ ⊕ (r ⊕ (a 
 gate-w true b b′ r = restore b b′ r
 gate-w false b b′ r = refl
 
-module _ (ins out : List ℕ) (S : ℕ → ℕ → Bool) (a b : ℕ → ℕ) where
+-- `ins` and `out` are the share indices before and behind AND's inner wires; halfSeen tells whether w or W of (i,j) is probed;
+-- a and b are the wires that AND is given
+module _ (ins out : List ℕ) (halfSeen : ℕ → ℕ → Bool) (a b : ℕ → ℕ) where
+  -- the flip of r(i,j) where i is in `ins` and j is not: a(i)·(b(j) + b′(j)) if the output i may be seen, and b(j) + b′(j) if not
+  -- and w or W is
   unfoldable pub part : ℕ → ℕ → Shift
-  part i j v v′ = cond (mem i out) (v (a i)) (S i j) && (v (b j) ⊕ v′ (b j))
+  part i j v v′ = cond (mem i out) (v (a i)) (halfSeen i j) && (v (b j) ⊕ v′ (b j))
 
+  -- the flip of r(i,j)
   unfoldable pub delta : ℕ → ℕ → Shift
-  delta i j v v′ = dl (mem i ins) (mem j ins) (part i j v v′) (part j i v v′)
+  delta i j v v′ = oneOf (mem i ins) (mem j ins) (part i j v v′) (part j i v v′)
 
   pub delta-swap : (i j : ℕ) (v v′ : Values) → delta i j v v′ ≡ delta j i v v′
   unfolding delta
-  delta-swap i j v v′ = dl-swap (mem i ins) (mem j ins) (part i j v v′) (part j i v v′)
+  delta-swap i j v v′ = oneOf-swap (mem i ins) (mem j ins) (part i j v v′) (part j i v v′)
 
   module _ (v v′ : Values) where
     delta-both : (i j : ℕ) → In i ins → In j ins → delta i j v v′ ≡ false
@@ -60,14 +66,14 @@ module _ (ins out : List ℕ) (S : ℕ → ℕ → Bool) (a b : ℕ → ℕ) whe
     delta-one i j p q = rw (p, q)
 
     -- a probed wire r, R, u, U, v, V of the pair: the bit is not flipped
-    pub delta-none : (i j : ℕ) → In i ins → (In j ins ⊎ (mem i out ≡ false)) → (S i j ≡ true → In j ins) → delta i j v v′ ≡ false
+    pub delta-none : (i j : ℕ) → In i ins → (In j ins ⊎ (mem i out ≡ false)) → (halfSeen i j ≡ true → In j ins) → delta i j v v′ ≡ false
     unfolding part
     delta-none i j p c s = cases (mem j ins) (delta-both i j p)
         (λ n. delta-one i j p n ∙ ⊎-elim (λ k. clash k n)
-        (λ (o : mem i out ≡ false). cases (S i j) (λ k. clash (s k) n) (λ k. rw (o, k))) c)
+        (λ (o : mem i out ≡ false). cases (halfSeen i j) (λ k. clash (s k) n) (λ k. rw (o, k))) c)
 
     -- a probed wire w, W of the pair: V is restored
-    pub delta-half : (i j : ℕ) (r : Bool) → (In j ins → v (b j) ≡ v′ (b j)) → In i ins → (In j ins ⊎ (mem i out ≡ false)) → S i j ≡ true
+    pub delta-half : (i j : ℕ) (r : Bool) → (In j ins → v (b j) ≡ v′ (b j)) → In i ins → (In j ins ⊎ (mem i out ≡ false)) → halfSeen i j ≡ true
         → (v (b j) ⊕ r) ≡ (v′ (b j) ⊕ (r ⊕ delta i j v v′))
     unfolding part
     delta-half i j r sb p c s = cases (mem j ins)
@@ -87,6 +93,7 @@ module _ (ins out : List ℕ) (S : ℕ → ℕ → Bool) (a b : ℕ → ℕ) whe
         (λ q. rw (delta-both i j p q, no-flip r, sb q))
         (λ n. rw (delta-one i j p n, o) (gate-w (v (a i)) (v (b j)) (v′ (b j)) r))
 
+  -- it is decided by the wires a and b
   pub delta-agree : (i j : ℕ) (v w v′ w′ : Values) → v (a i) ≡ w (a i) → v (a j) ≡ w (a j) → v (b i) ≡ w (b i) → v (b j) ≡ w (b j)
       → v′ (b i) ≡ w′ (b i) → v′ (b j) ≡ w′ (b j) → delta i j v v′ ≡ delta i j w w′
   unfolding delta part

@@ -33,7 +33,7 @@ named-lt (v ∷ ws) zero l t h = omega arith
 named-lt (v ∷ ws) (suc x) l t h = omega (arith, named-lt ws x l t h)
 
 -- the wires of a frame with their roles, where P are probed and the share indices `behind` stand behind it
-module _ (P : ℕ → Bool) (behind : List ℕ) (k : Circuit) where
+module _ (isProbed : ℕ → Bool) (behind : List ℕ) (k : Circuit) where
   -- a frame's words: the wires a, which are REF's wires too, and the wires b
   abbrev wireA : List ℕ → ℕ → ℕ
   wireA ops i = nth ops (1 + i)
@@ -45,10 +45,10 @@ module _ (P : ℕ → Bool) (behind : List ℕ) (k : Circuit) where
   stageAt ops i = stageShown (place k (nth ops i))
 
   abbrev andSite : List ℕ → Site
-  andSite ops = site P (k .d) (size k) (wireA ops) (wireB ops) (stageAt ops (1 + k .d)) (newStage k ops AND) behind
+  andSite ops = site isProbed (k .d) (size k) (wireA ops) (wireB ops) (stageAt ops (1 + k .d)) (newStage k ops AND) behind
 
   abbrev refSite : List ℕ → Site
-  refSite ops = refsite P (k .d) (size k) (wireA ops) (stageAt ops 1) (newStage k ops REF) behind
+  refSite ops = refsite isProbed (k .d) (size k) (wireA ops) (stageAt ops 1) (newStage k ops REF) behind
 
   -- a wire of IN, and a wire with the label of the first that the frame names
   abbrev inEntry : List ℕ → ℕ → Entry
@@ -76,7 +76,7 @@ module _ (P : ℕ → Bool) (behind : List ℕ) (k : Circuit) where
   frameFlips ops XOR = still
   frameFlips ops NOT = still
   frameFlips ops REG = still
-  frameFlips ops AND = flips P (k .d) (size k) (wireA ops) (wireB ops) (stageAt ops (1 + k .d)) (newStage k ops AND) behind
+  frameFlips ops AND = flips isProbed (k .d) (size k) (wireA ops) (wireB ops) (stageAt ops (1 + k .d)) (newStage k ops AND) behind
   frameFlips ops REF = still
   frameFlips ops OUT = still
 
@@ -94,11 +94,11 @@ module _ (P : ℕ → Bool) (behind : List ℕ) (k : Circuit) where
 
   -- the share indices before a frame
   abbrev pub before : List ℕ → Kind → List ℕ
-  before ops kind = taken P behind (size k) (map entryRole (entries ops kind))
+  before ops kind = taken isProbed behind (size k) (map entryRole (entries ops kind))
 
   module _ (T : Two) where
     abbrev G : ℕ → Entry → Type 0
-    G = Good T P behind
+    G = Good T isProbed behind
 
     -- what is known before a frame: wires named with labels in J look the same, and so do shares with labels in J
     abbrev pub Holds : List ℕ → Type 0
@@ -108,27 +108,27 @@ module _ (P : ℕ → Bool) (behind : List ℕ) (k : Circuit) where
     Shares J = (n i : ℕ) → i < k .d → In i J → at (T .sh) (n * k .d + i) ≡ at (T .sh′) (n * k .d + i)
 
     -- a frame of one wire, whose label is l
-    single : (g : Gate) (l t : ℕ) → (In l (taken P behind (size k) (lone l ∷ [])) → Same T (size k)) → AllFrom G (size k) (entry g (named l t) (lone l) ∷ [])
+    single : (g : Gate) (l t : ℕ) → (In l (taken isProbed behind (size k) (lone l ∷ [])) → Same T (size k)) → AllFrom G (size k) (entry g (named l t) (lone l) ∷ [])
     single g l t f = (
-      record { probed = λ h. f (rw h (in-head l behind)); shown = λ j y z i. f (taken-sub P behind (size k) (lone l ∷ []) l (let e : j ≡ l = cc in rw e at i)) },
+      record { probed = λ h. f (rw h (in-head l behind)); shown = λ j y z i. f (taken-sub isProbed behind (size k) (lone l ∷ []) l (let e : j ≡ l = cc in rw e at i)) },
       tt,
     )
 
-    inputs-good : (ops : List ℕ) → Shares (taken P behind (size k) (map entryRole (map (inEntry ops) (labels (k .d)))))
+    inputs-good : (ops : List ℕ) → Shares (taken isProbed behind (size k) (map entryRole (map (inEntry ops) (labels (k .d)))))
         → AllFrom (Known T still) (size k) (map (inEntry ops) (labels (k .d))) → AllFrom G (size k) (map (inEntry ops) (labels (k .d)))
     inputs-good ops sh h =
         let es = map (inEntry ops) (labels (k .d)) in
-        let J = taken P behind (size k) (map entryRole es) in
+        let J = taken isProbed behind (size k) (map entryRole es) in
         let n = size k in
         let is = labels (k .d) in
         let F : ℕ → ℕ → Type 0 = λ x i. Known T still x (inEntry ops i) in
-        let C : ℕ → ℕ → Type 0 = λ x i. P x ≡ true → In i J in
-        let cs : AllFrom C n is = all-unmap (λ x e. P x ≡ true → Chosen behind J (entryRole e)) (inEntry ops) n is (all-unmap (λ x o. P x ≡ true → Chosen behind J o) entryRole n es (chosen P behind n (map entryRole es))) in
+        let C : ℕ → ℕ → Type 0 = λ x i. isProbed x ≡ true → In i J in
+        let cs : AllFrom C n is = all-unmap (λ x e. isProbed x ≡ true → Chosen behind J (entryRole e)) (inEntry ops) n is (all-unmap (λ x o. isProbed x ≡ true → Chosen behind J o) entryRole n es (chosen isProbed behind n (map entryRole es))) in
         let one : (x i : ℕ) → i < k .d → F x i → In i J → Same T x = λ x i l f q. settle f (f .bits .left refl ∙ sh (k .inputs) i l q ∙ sym (f .bits .right refl)) (λ z. tt) in
         let both = all-zip F C (λ x i. F x i × C x i) (λ x i f g. (f, g)) n is (all-unmap (Known T still) (inEntry ops) n is h) cs in
         let lt = all-of (λ x i. i < k .d) (λ i. i < k .d) n is (λ x i l o. o) (every-of (λ i. i < k .d) is (label-lt (k .d))) in
         all-map G (inEntry ops) n is (all-zip (λ x i. i < k .d) (λ x i. F x i × C x i) (λ x i. G x (inEntry ops i))
-        (λ x i l f. record { probed = λ p. one x i l (f .0) (f .1 p); shown = λ j y z q. one x i l (f .0) (taken-sub P behind n (map entryRole es) i (let e : j ≡ i = cc in rw e at q)) }) n is lt both)
+        (λ x i l f. record { probed = λ p. one x i l (f .0) (f .1 p); shown = λ j y z q. one x i l (f .0) (taken-sub isProbed behind n (map entryRole es) i (let e : j ≡ i = cc in rw e at q)) }) n is lt both)
 
     pub frame-good : {kind : Kind} {ops : List ℕ} → Fits k kind ops → Shares (before ops kind) → Holds (before ops kind)
         → AllFrom (Known T (frameFlips ops kind)) (size k) (entries ops kind) → AllFrom G (size k) (entries ops kind)
@@ -143,11 +143,11 @@ module _ (P : ℕ → Bool) (behind : List ℕ) (k : Circuit) where
         (λ z. carry (h .0) refl refl (i x l t p (subst (λ (j : ℕ). In j (before (x ∷ []) REG)) (ap labelOf p) z), tt))
     frame-good (fit-AND ops t n z p q s) sh i h =
         let e = ins-eq (andSite ops) in
-        and-good P (k .d) (size k) (wireA ops) (wireB ops) (stageAt ops (1 + k .d)) (newStage k ops AND) behind T h
+        and-good isProbed (k .d) (size k) (wireA ops) (wireB ops) (stageAt ops (1 + k .d)) (newStage k ops AND) behind T h
         (λ j l z. i (wireA ops j) j (suc t) (p j l) (rw e z)) (λ j l z. i (wireB ops j) j t (q j l) (rw e z))
     frame-good (fit-REF ops t n z p s) sh i h =
         let e = ins-eq (refSite ops) in
-        ref-good P (k .d) (size k) (wireA ops) (stageAt ops 1) (newStage k ops REF) behind T h (λ j l z. i (wireA ops j) j t (p j l) (rw e z))
+        ref-good isProbed (k .d) (size k) (wireA ops) (stageAt ops 1) (newStage k ops REF) behind T h (λ j l z. i (wireA ops j) j t (p j l) (rw e z))
     frame-good (fit-OUT ops t n p) sh i h = tt
 
   -- operands are earlier
@@ -159,7 +159,7 @@ module _ (P : ℕ → Bool) (behind : List ℕ) (k : Circuit) where
   frame-early (fit-XOR x y l t p q) = (record { low = (named-lt (k .wires) x l t p, (named-lt (k .wires) y l t q, tt)); decided = undecided (size k) }, tt)
   frame-early (fit-NOT x l t p) = (record { low = (named-lt (k .wires) x l t p, tt); decided = undecided (size k) }, tt)
   frame-early (fit-REG x l t p e) = (record { low = (named-lt (k .wires) x l t p, tt); decided = undecided (size k) }, tt)
-  frame-early (fit-AND ops t n z p q s) = and-early P (k .d) (size k) (wireA ops) (wireB ops) (stageAt ops (1 + k .d)) (newStage k ops AND) behind
+  frame-early (fit-AND ops t n z p q s) = and-early isProbed (k .d) (size k) (wireA ops) (wireB ops) (stageAt ops (1 + k .d)) (newStage k ops AND) behind
       (λ i l. named-lt (k .wires) (wireA ops i) i (suc t) (p i l)) (λ i l. named-lt (k .wires) (wireB ops i) i t (q i l))
-  frame-early (fit-REF ops t n z p s) = ref-early P (k .d) (size k) (wireA ops) (stageAt ops 1) (newStage k ops REF) behind (λ i l. named-lt (k .wires) (wireA ops i) i t (p i l))
+  frame-early (fit-REF ops t n z p s) = ref-early isProbed (k .d) (size k) (wireA ops) (stageAt ops 1) (newStage k ops REF) behind (λ i l. named-lt (k .wires) (wireA ops i) i t (p i l))
   frame-early (fit-OUT ops t n p) = tt

@@ -28,6 +28,7 @@ sorted-swap p i j e = cases (ltb i j)
 
 -- AND, from the wire `first` on, whose wires meet their equations
 module _ (d first : ℕ) (a b : ℕ → ℕ) (f : Values) (sh : List Bool) where
+  -- the number and the gate of a part, and the bit r(i,j)
   abbrev wire : Part → ℕ
   wire p = first + index p (inAND d)
 
@@ -41,6 +42,7 @@ module _ (d first : ℕ) (a b : ℕ → ℕ) (f : Values) (sh : List Bool) where
   ρ-swap i j e = ap (λ p. f (wire p)) (sorted-swap r i j e)
 
   module _ (inside : AllFrom (λ x p. Meets f sh x (gateOf p)) first (inAND d)) (outs : (i : ℕ) → i < d → Meets f sh (first + length (inAND d) + i) (gateOf (c i))) where
+    -- the value of a part that is no random bit
     is : (p : Part) → InAND d p → isRandom (gateOf p) ≡ false → f (wire p) ≡ value (gateOf p) f sh []
     is p o = index-at (λ x p. Meets f sh x (gateOf p)) first (inAND d) p (and-has d o) inside
 
@@ -57,6 +59,7 @@ module _ (d first : ℕ) (a b : ℕ → ℕ) (f : Values) (sh : List Bool) where
     W-is i j o = is (W i j) (is-W i j o) refl ∙ is (w i j) (is-w i j o) refl
         ∙ ap (λ z. f (a i) && z) (is (V′ i j) (is-V i j o) refl ∙ is (v i j) (is-v i j o) refl ∙ ap (λ z. f (b j) ⊕ z) (no-flip (ρ i j)))
 
+    -- the output i, from the bits a, b and r
     c-is : (i : ℕ) → i < d → f (first + length (inAND d) + i) ≡ output d ρ ρ-swap (λ i. f (a i)) (λ i. f (b i)) i
     c-is i l =
         let us = map (λ j. wire (U i j)) (others d i) in
@@ -71,6 +74,7 @@ module _ (d first : ℕ) (a b : ℕ → ℕ) (f : Values) (sh : List Bool) where
 
 -- REF, from the wire `first` on, whose wires meet their equations
 module _ (d first : ℕ) (a : ℕ → ℕ) (f : Values) (sh : List Bool) where
+  -- the same of REF
   abbrev refWire : Part → ℕ
   refWire p = first + index p (inREF d)
 

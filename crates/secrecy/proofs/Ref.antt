@@ -1,4 +1,4 @@
--- REF: every probed wire, and every output in the share indices behind, looks the same; no bit is flipped.
+-- REF: every probed wire, and every output with a label among the share indices behind, looks the same; no bit is flipped.
 use mathlib.Core.Path.{refl, sym, _∙_}
 use mathlib.Core.Bool.{Bool, false, true≢false}
 use mathlib.Core.List.{List, [], _∷_, map}
@@ -16,16 +16,20 @@ use Rattle.secrecy.proofs.Coupled.{undecided, Shift, Early}
 use Rattle.secrecy.proofs.Same.{Two, Same, settle, carry}
 use Rattle.secrecy.proofs.Sites.{Site, number, gateOf, entry, lift, Known, Good, entriesAt, out, ins, out-ins, Told, PartFact, OutFact, look, good, early-at}
 
+-- no bit is flipped
 abbrev pub still : Role → Shift
 still o f f′ = false
 
-module _ (P : ℕ → Bool) (d first : ℕ) (a : ℕ → ℕ) (start end : ℕ) (behind : List ℕ) where
+-- a REF of d shares, from the wire `first` on
+module _ (isProbed : ℕ → Bool) (d first : ℕ) (a : ℕ → ℕ) (start end : ℕ) (behind : List ℕ) where
   abbrev pub refsite : Site
-  refsite = record { P = P; d = d; first = first; a = a; b = a; inside = inREF d; output = S; start = start; end = end; behind = behind }
+  refsite = record { isProbed = isProbed; d = d; first = first; a = a; b = a; inside = inREF d; output = S; start = start; end = end; behind = behind }
 
+  -- two evaluations in which a(i) looks the same for each i in `ins`
   module _ (T : Two) (known : AllFrom (Known T still) first (entriesAt refsite)) (sa : (i : ℕ) → i < d → In i (ins refsite) → Same T (a i)) where
     open Two T using (f, f′)
 
+    -- what is known of a part's wire
     abbrev Seen : ℕ → Part → Type 0
     Seen = PartFact refsite T still
 
@@ -49,9 +53,10 @@ module _ (P : ℕ → Bool) (d first : ℕ) (a : ℕ → ℕ) (start end : ℕ) 
     S-same : (x i : ℕ) → i < d → OutFact refsite T still x i → In i (out refsite) → Same T x
     S-same x i l h k = carry h refl refl (s-same (number refsite (s i)) i l (fact (added i l)) (out-ins refsite i k), tt)
 
-    pub ref-good : AllFrom (Good T P behind) first (entriesAt refsite)
+    pub ref-good : AllFrom (Good T isProbed behind) first (entriesAt refsite)
     ref-good = good refsite T still (InREF d) (ref-parts d) inner-same S-same known
 
+  -- every part is made behind those it uses
   module _ (la : (i : ℕ) → i < d → a i < first) where
     abbrev Q : List Part → Part → Type 0
     Q = Ready (λ x p. Early x (lift still (entry (gateOf refsite p) (inner (start + delay p)) (role p)))) first (inREF d)

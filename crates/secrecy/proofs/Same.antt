@@ -20,10 +20,12 @@ pub record Two : Type 0 where
   pub f′ : Values
   pub stops : ℕ → List ℕ
 
+-- what is known of the wire x, whose gate is g: its two bits, and what a probe on it reads
 pub record Fact (T : Two) (g : Gate) (δ : Shift) (x : ℕ) : Type 0 where
   pub bits : Bits (T .sh) (T .sh′) g δ (T .f) (T .f′) (T .f x) (T .f′ x)
   pub reading : T .stops x ≡ reads x g (T .stops)
 
+-- the wire x looks the same: it has one value in both evaluations, and so has each stop that a probe on it reads
 pub record Same (T : Two) (x : ℕ) : Type 0 where
   pub valued : T .f x ≡ T .f′ x
   pub stopped : (s : ℕ) → In s (T .stops x) → T .f s ≡ T .f′ s

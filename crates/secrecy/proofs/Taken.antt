@@ -14,6 +14,7 @@ use Rattle.checker.proofs.Base.{cases, or-left, or-right, or-cases, and-left, a
 use Rattle.netlist.specs.Counts.{different}
 use Rattle.secrecy.proofs.Roles.{Role, lone, pair, same-role}
 
+-- the share indices c after a wire with role r, probed or not: a pair adds its second where its first is there
 abbrev pub pick : Bool → Role → List ℕ → List ℕ
 pick false r c = c
 pick true (lone i) c = i ∷ c
@@ -31,14 +32,14 @@ pick-second : (w : Bool) (p q : ℕ) (c : List ℕ) → In p c → In q (pick tr
 pick-second w p q c e = rw e (in-head q c)
 
 -- a test for a role
-abbrev is : Role → Role → Bool
-is o r = elim (same-role ℕ-discrete Bool-discrete o r) [ yes _ ↦ true | no _ ↦ false ]
+abbrev isRole : Role → Role → Bool
+isRole o r = elim (same-role ℕ-discrete Bool-discrete o r) [ yes _ ↦ true | no _ ↦ false ]
 
-is-refl : (o : Role) → is o o ≡ true
-is-refl o = elim (same-role ℕ-discrete Bool-discrete o o) as (λ D. (elim D as (λ x. Bool) [ yes _ ↦ true | no _ ↦ false ]) ≡ true) [ yes e ↦ refl | no e ↦ absurd (e refl) ]
+isRole-refl : (o : Role) → isRole o o ≡ true
+isRole-refl o = elim (same-role ℕ-discrete Bool-discrete o o) as (λ D. (elim D as (λ x. Bool) [ yes _ ↦ true | no _ ↦ false ]) ≡ true) [ yes e ↦ refl | no e ↦ absurd (e refl) ]
 
-is-eq : (o r : Role) → is o r ≡ true → r ≡ o
-is-eq o r h = go (same-role ℕ-discrete Bool-discrete o r) h
+isRole-eq : (o r : Role) → isRole o r ≡ true → r ≡ o
+isRole-eq o r h = go (same-role ℕ-discrete Bool-discrete o r) h
   where
     go : (D : Dec (o ≡ r)) → (elim D as (λ x. Bool) [ yes _ ↦ true | no _ ↦ false ]) ≡ true → r ≡ o
     go (yes e) k = sym e
@@ -58,27 +59,29 @@ chosen-pick out c (lone i) s = in-head i c
 chosen-pick out c (pair w p q) s =
     (pick-first w p q c, cases (mem p out) (λ e. inl (pick-second w p q c (s p e))) (λ e. inr e))
 
-module _ (P : ℕ → Bool) where
+module _ (isProbed : ℕ → Bool) where
   -- the share indices c and those that the probed wires, numbered from n, take
   abbrev pub taken : List ℕ → ℕ → List Role → List ℕ
   taken c n [] = c
-  taken c n (r ∷ rs) = pick (P n) r (taken c (suc n) rs)
+  taken c n (r ∷ rs) = pick (isProbed n) r (taken c (suc n) rs)
 
+  -- whether a wire with the role of this pair is probed, among wires numbered from n
   abbrev pub seen : Bool → ℕ → ℕ → ℕ → List Role → Bool
   seen w p q n [] = false
-  seen w p q n (r ∷ rs) = (P n && is (pair w p q) r) || seen w p q (suc n) rs
+  seen w p q n (r ∷ rs) = (isProbed n && isRole (pair w p q) r) || seen w p q (suc n) rs
 
+  -- how many wires are probed, among wires numbered from n
   abbrev pub count : ℕ → List Role → ℕ
   count n [] = 0
-  count n (r ∷ rs) = cond (P n) (suc (count (suc n) rs)) (count (suc n) rs)
+  count n (r ∷ rs) = cond (isProbed n) (suc (count (suc n) rs)) (count (suc n) rs)
 
   pub taken-sub : (c : List ℕ) (n : ℕ) (rs : List Role) → Sub c (taken c n rs)
   taken-sub c n [] i h = h
-  taken-sub c n (r ∷ rs) i h = pick-sub (P n) r (taken c (suc n) rs) i (taken-sub c (suc n) rs i h)
+  taken-sub c n (r ∷ rs) i h = pick-sub (isProbed n) r (taken c (suc n) rs) i (taken-sub c (suc n) rs i h)
 
   pub taken-append : (c : List ℕ) (n : ℕ) (xs ys : List Role) → taken c n (xs ++ ys) ≡ taken (taken c (n + length xs) ys) n xs
   taken-append c n [] ys = ap (λ m. taken c m ys) (omega arith)
-  taken-append c n (r ∷ xs) ys = ap (pick (P n) r) (taken-append c (suc n) xs ys ∙ ap (λ m. taken (taken c m ys) (suc n) xs) (omega arith))
+  taken-append c n (r ∷ xs) ys = ap (pick (isProbed n) r) (taken-append c (suc n) xs ys ∙ ap (λ m. taken (taken c m ys) (suc n) xs) (omega arith))
 
   pick-length : (b : Bool) (r : Role) (c : List ℕ) (k m : ℕ) → length c ≤ k + m → length (pick b r c) ≤ k + cond b (suc m) m
   pick-length false r c k m h = h
@@ -87,51 +90,51 @@ module _ (P : ℕ → Bool) where
 
   pub taken-length : (c : List ℕ) (n : ℕ) (rs : List Role) → length (taken c n rs) ≤ length c + count n rs
   taken-length c n [] = omega arith
-  taken-length c n (r ∷ rs) = pick-length (P n) r (taken c (suc n) rs) (length c) (count (suc n) rs) (taken-length c (suc n) rs)
+  taken-length c n (r ∷ rs) = pick-length (isProbed n) r (taken c (suc n) rs) (length c) (count (suc n) rs) (taken-length c (suc n) rs)
 
-  pub chosen : (c : List ℕ) (n : ℕ) (rs : List Role) → AllFrom (λ x r. P x ≡ true → Chosen c (taken c n rs) r) n rs
+  pub chosen : (c : List ℕ) (n : ℕ) (rs : List Role) → AllFrom (λ x r. isProbed x ≡ true → Chosen c (taken c n rs) r) n rs
   chosen c n [] = tt
   chosen c n (r ∷ rs) = (
     (λ h. rw h (chosen-pick c (taken c (suc n) rs) r (taken-sub c (suc n) rs))),
-    all-imp (λ x f. P x ≡ true → Chosen c (taken c (suc n) rs) f) (λ x f. P x ≡ true → Chosen c (taken c n (r ∷ rs)) f)
-        (λ x f g h. chosen-sub c (taken c (suc n) rs) (taken c n (r ∷ rs)) f (pick-sub (P n) r (taken c (suc n) rs)) (g h)) (suc n) rs (chosen c (suc n) rs),
+    all-imp (λ x f. isProbed x ≡ true → Chosen c (taken c (suc n) rs) f) (λ x f. isProbed x ≡ true → Chosen c (taken c n (r ∷ rs)) f)
+        (λ x f g h. chosen-sub c (taken c (suc n) rs) (taken c n (r ∷ rs)) f (pick-sub (isProbed n) r (taken c (suc n) rs)) (g h)) (suc n) rs (chosen c (suc n) rs),
   )
 
   -- the pairs of probed wires
-  pub seen-all : (n : ℕ) (rs : List Role) → AllFrom (λ x r. P x ≡ true → (w : Bool) (p q : ℕ) → r ≡ pair w p q → seen w p q n rs ≡ true) n rs
+  pub seen-all : (n : ℕ) (rs : List Role) → AllFrom (λ x r. isProbed x ≡ true → (w : Bool) (p q : ℕ) → r ≡ pair w p q → seen w p q n rs ≡ true) n rs
   seen-all n [] = tt
   seen-all n (r ∷ rs) = (
-    (λ h w p q e. or-left (P n && is (pair w p q) r) (seen w p q (suc n) rs) (and-both (P n) (is (pair w p q) r) h (rw e (is-refl (pair w p q))))),
-    all-imp (λ x f. P x ≡ true → (w : Bool) (p q : ℕ) → f ≡ pair w p q → seen w p q (suc n) rs ≡ true)
-        (λ x f. P x ≡ true → (w : Bool) (p q : ℕ) → f ≡ pair w p q → seen w p q n (r ∷ rs) ≡ true)
-        (λ x f g h w p q e. or-right (P n && is (pair w p q) r) (seen w p q (suc n) rs) (g h w p q e)) (suc n) rs (seen-all (suc n) rs),
+    (λ h w p q e. or-left (isProbed n && isRole (pair w p q) r) (seen w p q (suc n) rs) (and-both (isProbed n) (isRole (pair w p q) r) h (rw e (isRole-refl (pair w p q))))),
+    all-imp (λ x f. isProbed x ≡ true → (w : Bool) (p q : ℕ) → f ≡ pair w p q → seen w p q (suc n) rs ≡ true)
+        (λ x f. isProbed x ≡ true → (w : Bool) (p q : ℕ) → f ≡ pair w p q → seen w p q n (r ∷ rs) ≡ true)
+        (λ x f g h w p q e. or-right (isProbed n && isRole (pair w p q) r) (seen w p q (suc n) rs) (g h w p q e)) (suc n) rs (seen-all (suc n) rs),
   )
 
   seen-in : (w : Bool) (p q : ℕ) (c : List ℕ) (n : ℕ) (rs : List Role) → seen w p q n rs ≡ true → In p (taken c n rs)
   seen-in w p q c n [] h = absurd (false≢true h)
-  seen-in w p q c n (r ∷ rs) h = or-cases (P n && is (pair w p q) r) (seen w p q (suc n) rs) h
-      (λ k. rw (and-left (P n) (is (pair w p q) r) k, is-eq (pair w p q) r (and-right (P n) (is (pair w p q) r) k)) (pick-first w p q (taken c (suc n) rs)))
-      (λ k. pick-sub (P n) r (taken c (suc n) rs) p (seen-in w p q c (suc n) rs k))
+  seen-in w p q c n (r ∷ rs) h = or-cases (isProbed n && isRole (pair w p q) r) (seen w p q (suc n) rs) h
+      (λ k. rw (and-left (isProbed n) (isRole (pair w p q) r) k, isRole-eq (pair w p q) r (and-right (isProbed n) (isRole (pair w p q) r) k)) (pick-first w p q (taken c (suc n) rs)))
+      (λ k. pick-sub (isProbed n) r (taken c (suc n) rs) p (seen-in w p q c (suc n) rs k))
 
-  head-second : (w : Bool) (p q : ℕ) (c : List ℕ) (n : ℕ) (r : Role) → (P n && is (pair w p q) r) ≡ true → In p c → In q (pick (P n) r c)
-  head-second w p q c n r h k = rw (and-left (P n) (is (pair w p q) r) h, is-eq (pair w p q) r (and-right (P n) (is (pair w p q) r) h)) (pick-second w p q c k)
+  head-second : (w : Bool) (p q : ℕ) (c : List ℕ) (n : ℕ) (r : Role) → (isProbed n && isRole (pair w p q) r) ≡ true → In p c → In q (pick (isProbed n) r c)
+  head-second w p q c n r h k = rw (and-left (isProbed n) (isRole (pair w p q) r) h, isRole-eq (pair w p q) r (and-right (isProbed n) (isRole (pair w p q) r) h)) (pick-second w p q c k)
 
   pub seen-both : (p q : ℕ) (c : List ℕ) (n : ℕ) (rs : List Role) → seen false p q n rs ≡ true → seen true p q n rs ≡ true → In q (taken c n rs)
   seen-both p q c n [] h k = absurd (false≢true h)
   seen-both p q c n (r ∷ rs) h k =
-      or-cases (P n && is (pair false p q) r) (seen false p q (suc n) rs) h
-      (λ a. or-cases (P n && is (pair true p q) r) (seen true p q (suc n) rs) k
-      (λ b. let x = is-eq (pair false p q) r (and-right (P n) (is (pair false p q) r) a) in
-      let y = is-eq (pair true p q) r (and-right (P n) (is (pair true p q) r) b) in cc)
+      or-cases (isProbed n && isRole (pair false p q) r) (seen false p q (suc n) rs) h
+      (λ a. or-cases (isProbed n && isRole (pair true p q) r) (seen true p q (suc n) rs) k
+      (λ b. let x = isRole-eq (pair false p q) r (and-right (isProbed n) (isRole (pair false p q) r) a) in
+      let y = isRole-eq (pair true p q) r (and-right (isProbed n) (isRole (pair true p q) r) b) in cc)
       (λ b. head-second false p q (taken c (suc n) rs) n r a (seen-in true p q c (suc n) rs b)))
-      (λ a. or-cases (P n && is (pair true p q) r) (seen true p q (suc n) rs) k
+      (λ a. or-cases (isProbed n && isRole (pair true p q) r) (seen true p q (suc n) rs) k
       (λ b. head-second true p q (taken c (suc n) rs) n r b (seen-in false p q c (suc n) rs a))
-      (λ b. pick-sub (P n) r (taken c (suc n) rs) q (seen-both p q c (suc n) rs a b)))
+      (λ b. pick-sub (isProbed n) r (taken c (suc n) rs) q (seen-both p q c (suc n) rs a b)))
 
 -- as many wires are probed as there are different numbers on the list of probes, or fewer
-count-imp : (P Q : ℕ → Bool) → ((x : ℕ) → P x ≡ true → Q x ≡ true) → (n : ℕ) (rs : List Role) → count P n rs ≤ count Q n rs
-count-imp P Q f n [] = omega arith
-count-imp P Q f n (r ∷ rs) = go (P n) (Q n) (f n) (count P (suc n) rs) (count Q (suc n) rs) (count-imp P Q f (suc n) rs)
+count-imp : (isProbed Q : ℕ → Bool) → ((x : ℕ) → isProbed x ≡ true → Q x ≡ true) → (n : ℕ) (rs : List Role) → count isProbed n rs ≤ count Q n rs
+count-imp isProbed Q f n [] = omega arith
+count-imp isProbed Q f n (r ∷ rs) = go (isProbed n) (Q n) (f n) (count isProbed (suc n) rs) (count Q (suc n) rs) (count-imp isProbed Q f (suc n) rs)
   where
     go : (p q : Bool) → (p ≡ true → q ≡ true) → (x y : ℕ) → x ≤ y → cond p (suc x) x ≤ cond q (suc y) y
     go true true i x y h = omega arith
