@@ -1,0 +1,174 @@
+-- Two evaluations side by side: the second tape is the first with bits flipped, each flip decided by the values so far.
+use mathlib.Core.Path.{_≡_, refl, sym, ap, ap₂, _∙_}
+use mathlib.Core.Bool.{Bool, true, false, cond, not, _&&_, true≢false}
+use mathlib.Core.List.{List, [], _∷_, _++_, map}
+use Prim.Native.Nat.{ℕ, suc, _+_, _<_}
+use native.Mathlib.Omega.{arith}
+use lib.ListN.{length, length-append, List·getD-append}
+use lib.Seq.{getD-append-seam}
+use Rattle.checker.specs.Lists.{_⊕_, each}
+use Rattle.checker.specs.Wires.{Gate, input, constant, random, reg, inverse, sum, product, gated, Wire}
+use Rattle.checker.proofs.Base.{Every, every-imp, AllFrom}
+use Rattle.netlist.specs.Values.{at, total, value, isRandom, valuesFrom}
+use Rattle.netlist.specs.Probes.{isStop, operands, reads, readBy, stopsFrom}
+use Rattle.secrecy.proofs.Sums.{sumBits, sum-swap}
+use Rattle.secrecy.proofs.Randoms.{randomsOf}
+
+-- the values of wires by their numbers
+abbrev pub Values : Type 0
+Values = ℕ → Bool
+
+-- whether a random bit is flipped in the second evaluation, from the values of both so far
+abbrev pub Shift : Type 0
+Shift = Values → Values → Bool
+
+-- a wire, and the shift of its bit if it is random
+pub record Step : Type 0 where
+  pub wire : Wire
+  pub shift : Shift
+
+abbrev pub wireOf : Step → Wire
+wireOf s = s .wire
+
+-- what a wire's two bits are to the values f and f′
+pub record Bits (sh sh′ : List Bool) (g : Gate) (δ : Shift) (f f′ : Values) (b b′ : Bool) : Type 0 where
+  pub left : isRandom g ≡ false → b ≡ value g f sh []
+  pub right : isRandom g ≡ false → b′ ≡ value g f′ sh′ []
+  pub flipped : isRandom g ≡ true → b′ ≡ (b ⊕ δ f f′)
+
+module _ (sh sh′ : List Bool) where
+  -- one walk over the wires, in which the values v and v′ so far grow to the values g and g′ of all
+  abbrev pub Run : List Step → List Bool → List Bool → List Bool → List Bool → Type 0
+  Run [] v v′ g g′ = (g ≡ v) × (g′ ≡ v′)
+  Run (s ∷ ss) v v′ g g′ = (b : Bool) × (b′ : Bool) × Bits sh sh′ (s .wire .gate) (s .shift) (at v) (at v′) b b′
+      × Run ss (v ++ (b ∷ [])) (v′ ++ (b′ ∷ [])) g g′
+
+  module _ (F F′ : List Bool → ℕ) where
+    -- what F makes of the values in the first evaluation, summed over all tapes, is what F′ makes of those in the second
+    abbrev Fair : List Step → Type 0
+    Fair ss = (v v′ : List Bool) → ((g g′ : List Bool) → Run ss v v′ g g′ → F g ≡ F′ g′)
+        → sumBits (randomsOf (map wireOf ss)) (λ t. F (valuesFrom sh t v (map wireOf ss)))
+        ≡ sumBits (randomsOf (map wireOf ss)) (λ t. F′ (valuesFrom sh′ t v′ (map wireOf ss)))
+
+    plain : (g : Gate) (δ : Shift) (f f′ : Values) → isRandom g ≡ false → Bits sh sh′ g δ f f′ (value g f sh []) (value g f′ sh′ [])
+    plain g δ f f′ e = record { left = λ k. refl; right = λ k. refl; flipped = λ k. absurd (true≢false (sym k ∙ e)) }
+
+    one : (g : Gate) (p : _) (δ : Shift) (ss : List Step) → Fair ss → Fair (record { wire = record { gate = g; place = p }; shift = δ } ∷ ss)
+    one (input n) p δ ss ih v v′ h = ih _ _ (λ g g′ r. h g g′ (_, _, plain (input n) δ (at v) (at v′) refl, r))
+    one (constant b) p δ ss ih v v′ h = ih _ _ (λ g g′ r. h g g′ (_, _, plain (constant b) δ (at v) (at v′) refl, r))
+    one random p δ ss ih v v′ h = sum-swap (δ (at v) (at v′)) _ _ (λ b b′ e. ih (v ++ (b ∷ [])) (v′ ++ (b′ ∷ []))
+        (λ g g′ r. h g g′ (b, b′, record { left = λ k. absurd (true≢false k); right = λ k. absurd (true≢false k); flipped = λ k. e }, r)))
+    one (reg x) p δ ss ih v v′ h = ih _ _ (λ g g′ r. h g g′ (_, _, plain (reg x) δ (at v) (at v′) refl, r))
+    one (inverse x) p δ ss ih v v′ h = ih _ _ (λ g g′ r. h g g′ (_, _, plain (inverse x) δ (at v) (at v′) refl, r))
+    one (sum xs) p δ ss ih v v′ h = ih _ _ (λ g g′ r. h g g′ (_, _, plain (sum xs) δ (at v) (at v′) refl, r))
+    one (product x y) p δ ss ih v v′ h = ih _ _ (λ g g′ r. h g g′ (_, _, plain (product x y) δ (at v) (at v′) refl, r))
+    one (gated x y) p δ ss ih v v′ h = ih _ _ (λ g g′ r. h g g′ (_, _, plain (gated x y) δ (at v) (at v′) refl, r))
+
+    -- if F and F′ agree at the end of every walk, their sums are equal
+    pub couple : (ss : List Step) → Fair ss
+    couple [] v v′ h = h v v′ (refl, refl)
+    couple (s ∷ ss) v v′ h = one (s .wire .gate) (s .wire .place) (s .shift) ss (couple ss) v v′ h
+
+-- two functions that agree below x
+abbrev pub Agree : {A : Type 0} → ℕ → (ℕ → A) → (ℕ → A) → Type 0
+Agree x f w = (y : ℕ) → y < x → f y ≡ w y
+
+-- the wires that a gate takes are earlier than x
+abbrev pub Low : ℕ → Gate → Type 0
+Low x g = Every (λ y. y < x) (operands g)
+
+-- a step at the wire x: its operands are earlier wires, and its flip is decided by earlier values
+pub record Early (x : ℕ) (s : Step) : Type 0 where
+  pub low : Low x (s .wire .gate)
+  pub decided : (f w f′ w′ : Values) → Agree x f w → Agree x f′ w′ → s .shift f f′ ≡ s .shift w w′
+
+-- a bit that is never flipped
+pub undecided : (x : ℕ) (f w f′ w′ : Values) → Agree x f w → Agree x f′ w′ → false ≡ false
+undecided x f w f′ w′ h h′ = refl
+
+-- values that agree on the operands; the shares agree too, or are not asked
+abbrev pub isInput : Gate → Bool
+isInput (input n) = true
+isInput (constant b) = false
+isInput random = false
+isInput (reg x) = false
+isInput (inverse x) = false
+isInput (sum xs) = false
+isInput (product x y) = false
+isInput (gated x y) = false
+
+total-same : (f w : Values) (xs : List ℕ) → Every (λ y. f y ≡ w y) xs → total xs f ≡ total xs w
+total-same f w [] h = refl
+total-same f w (x ∷ xs) h = ap₂ (λ p q. p ⊕ q) (h .0) (total-same f w xs (h .1))
+
+pub value-same : (g : Gate) (f w : Values) (sh sh′ : List Bool) → (isInput g ≡ true → sh ≡ sh′) → Every (λ y. f y ≡ w y) (operands g) → value g f sh [] ≡ value g w sh′ []
+value-same (input n) f w sh sh′ e h = ap (λ l. at l n) (e refl)
+value-same (constant b) f w sh sh′ e h = refl
+value-same random f w sh sh′ e h = refl
+value-same (reg x) f w sh sh′ e h = h .0
+value-same (inverse x) f w sh sh′ e h = ap not (h .0)
+value-same (sum xs) f w sh sh′ e h = total-same f w xs h
+value-same (product x y) f w sh sh′ e h = ap₂ (λ p q. p && q) (h .0) (h .1 .0)
+value-same (gated x y) f w sh sh′ e h = ap₂ (λ p q. not p && q) (h .0) (h .1 .0)
+
+-- the values at the end: each wire's bits are to the final values what they were to the values below it
+module _ (sh sh′ : List Bool) where
+  abbrev pub Settled : List Bool → List Bool → ℕ → Step → Type 0
+  Settled g g′ x s = Bits sh sh′ (s .wire .gate) (s .shift) (at g) (at g′) (at g x) (at g′ x)
+
+  run-left : (ss : List Step) (v v′ g g′ : List Bool) → Run sh sh′ ss v v′ g g′ → Agree (length v) (at v) (at g)
+  run-left [] v v′ g g′ r y h = rw (r .0)
+  run-left (s ∷ ss) v v′ g g′ r y h = sym (List·getD-append v (r .0 ∷ []) false y h)
+      ∙ run-left ss (v ++ (r .0 ∷ [])) (v′ ++ (r .1 ∷ [])) g g′ (r .3) y (simp length-append (omega arith))
+
+  run-right : (ss : List Step) (v v′ g g′ : List Bool) → Run sh sh′ ss v v′ g g′ → Agree (length v′) (at v′) (at g′)
+  run-right [] v v′ g g′ r y h = rw (r .1)
+  run-right (s ∷ ss) v v′ g g′ r y h = sym (List·getD-append v′ (r .1 ∷ []) false y h)
+      ∙ run-right ss (v ++ (r .0 ∷ [])) (v′ ++ (r .1 ∷ [])) g g′ (r .3) y (simp length-append (omega arith))
+
+  bits-agree : (x : ℕ) (s : Step) (f w f′ w′ : Values) (b b′ : Bool) → Early x s → Agree x f w → Agree x f′ w′
+      → Bits sh sh′ (s .wire .gate) (s .shift) f f′ b b′ → Bits sh sh′ (s .wire .gate) (s .shift) w w′ b b′
+  bits-agree x s f w f′ w′ b b′ e a a′ h =
+      let g = s .wire .gate in
+      let low : (k k′ : Values) → Agree x k k′ → Every (λ y. k y ≡ k′ y) (operands g) = λ k k′ q. every-imp (λ y. y < x) (λ y. k y ≡ k′ y) (operands g) (λ y l. q y l) (e .low) in
+      record {
+        left = λ k. h .left k ∙ value-same g f w sh sh (λ i. refl) (low f w a);
+        right = λ k. h .right k ∙ value-same g f′ w′ sh′ sh′ (λ i. refl) (low f′ w′ a′);
+        flipped = λ k. h .flipped k ∙ ap (λ z. b ⊕ z) (e .decided f w f′ w′ a a′);
+      }
+
+  pub settled : (ss : List Step) (v v′ g g′ : List Bool) → length v′ ≡ length v → AllFrom Early (length v) ss
+      → Run sh sh′ ss v v′ g g′ → AllFrom (Settled g g′) (length v) ss
+  settled [] v v′ g g′ l e r = tt
+  settled (s ∷ ss) v v′ g g′ l e r =
+      let b : Bool = r .0 in
+      let b′ : Bool = r .1 in
+      let p : at g (length v) ≡ r .0 = sym (run-left ss (v ++ (b ∷ [])) (v′ ++ (b′ ∷ [])) g g′ (r .3) (length v) (simp length-append (omega arith))) ∙ getD-append-seam v b [] false in
+      let q : at g′ (length v) ≡ r .1 = ap (at g′) (sym l) ∙ sym (run-right ss (v ++ (b ∷ [])) (v′ ++ (b′ ∷ [])) g g′ (r .3) (length v′) (simp length-append (omega arith))) ∙ getD-append-seam v′ b′ [] false in
+      let z : length (v ++ (r .0 ∷ [])) ≡ suc (length v) = simp length-append (omega arith) in (
+        bits-agree (length v) s (at v) (at g) (at v′) (at g′) (at g (length v)) (at g′ (length v)) (e .0)
+            (run-left (s ∷ ss) v v′ g g′ r) (rw (← l) (run-right (s ∷ ss) v v′ g g′ r)) (rw (p, q) (r .2)),
+        rw z at (settled ss (v ++ (b ∷ [])) (v′ ++ (b′ ∷ [])) g g′ (simp length-append (omega arith)) (rw z (e .1)) (r .3)),
+      )
+
+-- the same of what probes read
+each-agree : (x : ℕ) (xs : List ℕ) (f w : ℕ → List ℕ) → Every (λ y. y < x) xs → Agree x f w → each xs f ≡ each xs w
+each-agree x [] f w h a = refl
+each-agree x (y ∷ xs) f w h a = ap₂ (λ p q. p ++ q) (a y (h .0)) (each-agree x xs f w (h .1) a)
+
+stops-left : (ws : List Wire) (rs : List (List ℕ)) → Agree (length rs) (readBy rs) (readBy (stopsFrom rs ws))
+stops-left [] rs y h = refl
+stops-left (w ∷ ws) rs y h = let n = reads (length rs) (w .gate) (readBy rs) in
+    sym (List·getD-append rs (n ∷ []) [] y h) ∙ stops-left ws (rs ++ (n ∷ [])) y (simp length-append (omega arith))
+
+pub stops-settled : (ws : List Wire) (rs : List (List ℕ)) → AllFrom (λ x w. Low x (w .gate)) (length rs) ws
+    → AllFrom (λ x w. readBy (stopsFrom rs ws) x ≡ reads x (w .gate) (readBy (stopsFrom rs ws))) (length rs) ws
+stops-settled [] rs h = tt
+stops-settled (w ∷ ws) rs h =
+    let g = w .gate in
+    let n = reads (length rs) g (readBy rs) in
+    let z : length (rs ++ (n ∷ [])) ≡ suc (length rs) = simp length-append (omega arith) in (
+      sym (stops-left ws (rs ++ (n ∷ [])) (length rs) (omega arith)) ∙ getD-append-seam rs n [] []
+          ∙ ap (λ l. cond (isStop g) (length rs ∷ []) l) (each-agree (length rs) (operands g) (readBy rs) (readBy (stopsFrom rs (w ∷ ws))) (h .0) (stops-left (w ∷ ws) rs)),
+      rw z at (stops-settled ws (rs ++ (n ∷ [])) (rw z (h .1))),
+    )

@@ -1,0 +1,165 @@
+-- The frames: every probed wire, and every named wire whose label is among the share indices behind, looks the same.
+use mathlib.Core.Path.{_≡_, refl, sym, ap, subst, _∙_}
+use mathlib.Core.Bool.{Bool, true, false}
+use mathlib.Core.List.{List, [], _∷_, map}
+use Prim.Native.Nat.{ℕ, zero, suc, _+_, _*_, _<_}
+use native.Mathlib.Omega.{arith}
+use lib.ListN.{length, getD}
+use Rattle.checker.specs.Lists.{nth}
+use Rattle.checker.specs.Wires.{Gate, input, constant, reg, inverse, sum, Place, named, inner, Wire, _placed_}
+use Rattle.checker.specs.Gadgets.{labels}
+use Rattle.checker.specs.Kinds.{Kind, HEAD, IN, CON, XOR, NOT, REG, AND, REF, OUT}
+use Rattle.checker.specs.Circuit.{Circuit, size, place, labelOf, stageShown, isSet, newStage, made}
+use Rattle.checker.proofs.Base.{In, in-head, every-of, AllFrom, all-zip, all-map, all-unmap, all-of, map-two}
+use Rattle.checker.proofs.Parts.{label-lt}
+use Rattle.checker.proofs.Composition.{Fits, fit-IN, fit-CON, fit-XOR, fit-NOT, fit-REG, fit-AND, fit-REF, fit-OUT}
+use Rattle.netlist.specs.Values.{at}
+use Rattle.secrecy.proofs.Roles.{Role, lone}
+use Rattle.secrecy.proofs.Taken.{taken, taken-sub, chosen, Chosen}
+use Rattle.secrecy.proofs.Coupled.{undecided, Shift, Early}
+use Rattle.secrecy.proofs.Same.{Two, Same, settle, carry}
+use Rattle.secrecy.proofs.Sites.{Site, Entry, entry, entryWire, entryRole, lift, Known, Good, hidden, entriesAt, wires-at, ins-eq}
+use Rattle.secrecy.proofs.And.{site, flips, and-good, and-early}
+use Rattle.secrecy.proofs.Ref.{still, refsite, ref-good, ref-early}
+
+-- the place of a wire on a list; inner, where there is no such wire
+abbrev pub placeIn : List Wire → ℕ → Place
+placeIn ws x = getD ws x (constant false placed inner 0) .place
+
+-- a named wire is on the list
+named-lt : (ws : List Wire) (x l t : ℕ) → placeIn ws x ≡ named l t → x < length ws
+named-lt [] x l t h = hidden h
+named-lt (v ∷ ws) zero l t h = omega arith
+named-lt (v ∷ ws) (suc x) l t h = omega (arith, named-lt ws x l t h)
+
+-- the wires of a frame with their roles, where P are probed and the share indices `behind` stand behind it
+module _ (isProbed : ℕ → Bool) (behind : List ℕ) (k : Circuit) where
+  -- a frame's words: the wires a, which are REF's wires too, and the wires b
+  abbrev wireA : List ℕ → ℕ → ℕ
+  wireA ops i = nth ops (1 + i)
+
+  abbrev wireB : List ℕ → ℕ → ℕ
+  wireB ops i = nth ops (1 + k .d + i)
+
+  abbrev stageAt : List ℕ → ℕ → ℕ
+  stageAt ops i = stageShown (place k (nth ops i))
+
+  abbrev andSite : List ℕ → Site
+  andSite ops = site isProbed (k .d) (size k) (wireA ops) (wireB ops) (stageAt ops (1 + k .d)) (newStage k ops AND) behind
+
+  abbrev refSite : List ℕ → Site
+  refSite ops = refsite isProbed (k .d) (size k) (wireA ops) (stageAt ops 1) (newStage k ops REF) behind
+
+  -- a wire of IN, and a wire with the label of the first that the frame names
+  abbrev inEntry : List ℕ → ℕ → Entry
+  inEntry ops i = entry (input (k .inputs * k .d + i)) (named i (newStage k ops IN)) (lone i)
+
+  abbrev alike : List ℕ → Kind → Gate → Entry
+  alike ops kind g = let l = labelOf (place k (nth ops 0)) in entry g (named l (newStage k ops kind)) (lone l)
+
+  unfoldable pub entries : List ℕ → Kind → List Entry
+  entries ops HEAD = []
+  entries ops IN = map (inEntry ops) (labels (k .d))
+  entries ops CON = entry (constant (isSet (nth ops 1))) (named (nth ops 0) (newStage k ops CON)) (lone (nth ops 0)) ∷ []
+  entries ops XOR = alike ops XOR (sum (nth ops 0 ∷ nth ops 1 ∷ [])) ∷ []
+  entries ops NOT = alike ops NOT (inverse (nth ops 0)) ∷ []
+  entries ops REG = alike ops REG (reg (nth ops 0)) ∷ []
+  entries ops AND = entriesAt (andSite ops)
+  entries ops REF = entriesAt (refSite ops)
+  entries ops OUT = []
+
+  -- only AND flips random bits
+  unfoldable pub frameFlips : List ℕ → Kind → Role → Shift
+  frameFlips ops HEAD = still
+  frameFlips ops IN = still
+  frameFlips ops CON = still
+  frameFlips ops XOR = still
+  frameFlips ops NOT = still
+  frameFlips ops REG = still
+  frameFlips ops AND = flips isProbed (k .d) (size k) (wireA ops) (wireB ops) (stageAt ops (1 + k .d)) (newStage k ops AND) behind
+  frameFlips ops REF = still
+  frameFlips ops OUT = still
+
+  pub frame-wires : (ops : List ℕ) (kind : Kind) → map entryWire (entries ops kind) ≡ made k ops kind
+  unfolding entries made newStage
+  frame-wires ops HEAD = refl
+  frame-wires ops IN = map-two entryWire (inEntry ops) (inEntry ops) [] (labels (k .d))
+  frame-wires ops CON = refl
+  frame-wires ops XOR = refl
+  frame-wires ops NOT = refl
+  frame-wires ops REG = refl
+  frame-wires ops AND = wires-at (andSite ops)
+  frame-wires ops REF = wires-at (refSite ops)
+  frame-wires ops OUT = refl
+
+  -- the share indices before a frame
+  abbrev pub before : List ℕ → Kind → List ℕ
+  before ops kind = taken isProbed behind (size k) (map entryRole (entries ops kind))
+
+  module _ (T : Two) where
+    abbrev G : ℕ → Entry → Type 0
+    G = Good T isProbed behind
+
+    -- what is known before a frame: wires named with labels in J look the same, and so do shares with labels in J
+    abbrev pub Holds : List ℕ → Type 0
+    Holds J = (x l t : ℕ) → place k x ≡ named l t → In l J → Same T x
+
+    abbrev pub Shares : List ℕ → Type 0
+    Shares J = (n i : ℕ) → i < k .d → In i J → at (T .sh) (n * k .d + i) ≡ at (T .sh′) (n * k .d + i)
+
+    -- a frame of one wire, whose label is l
+    single : (g : Gate) (l t : ℕ) → (In l (taken isProbed behind (size k) (lone l ∷ [])) → Same T (size k)) → AllFrom G (size k) (entry g (named l t) (lone l) ∷ [])
+    single g l t f = (
+      record { probed = λ h. f (rw h (in-head l behind)); shown = λ j y z i. f (taken-sub isProbed behind (size k) (lone l ∷ []) l (let e : j ≡ l = cc in rw e at i)) },
+      tt,
+    )
+
+    inputs-good : (ops : List ℕ) → Shares (taken isProbed behind (size k) (map entryRole (map (inEntry ops) (labels (k .d)))))
+        → AllFrom (Known T still) (size k) (map (inEntry ops) (labels (k .d))) → AllFrom G (size k) (map (inEntry ops) (labels (k .d)))
+    inputs-good ops sh h =
+        let es = map (inEntry ops) (labels (k .d)) in
+        let J = taken isProbed behind (size k) (map entryRole es) in
+        let n = size k in
+        let is = labels (k .d) in
+        let F : ℕ → ℕ → Type 0 = λ x i. Known T still x (inEntry ops i) in
+        let C : ℕ → ℕ → Type 0 = λ x i. isProbed x ≡ true → In i J in
+        let cs : AllFrom C n is = all-unmap (λ x e. isProbed x ≡ true → Chosen behind J (entryRole e)) (inEntry ops) n is (all-unmap (λ x o. isProbed x ≡ true → Chosen behind J o) entryRole n es (chosen isProbed behind n (map entryRole es))) in
+        let one : (x i : ℕ) → i < k .d → F x i → In i J → Same T x = λ x i l f q. settle f (f .bits .left refl ∙ sh (k .inputs) i l q ∙ sym (f .bits .right refl)) (λ z. tt) in
+        let both = all-zip F C (λ x i. F x i × C x i) (λ x i f g. (f, g)) n is (all-unmap (Known T still) (inEntry ops) n is h) cs in
+        let lt = all-of (λ x i. i < k .d) (λ i. i < k .d) n is (λ x i l o. o) (every-of (λ i. i < k .d) is (label-lt (k .d))) in
+        all-map G (inEntry ops) n is (all-zip (λ x i. i < k .d) (λ x i. F x i × C x i) (λ x i. G x (inEntry ops i))
+        (λ x i l f. record { probed = λ p. one x i l (f .0) (f .1 p); shown = λ j y z q. one x i l (f .0) (taken-sub isProbed behind n (map entryRole es) i (let e : j ≡ i = cc in rw e at q)) }) n is lt both)
+
+    pub frame-good : {kind : Kind} {ops : List ℕ} → Fits k kind ops → Shares (before ops kind) → Holds (before ops kind)
+        → AllFrom (Known T (frameFlips ops kind)) (size k) (entries ops kind) → AllFrom G (size k) (entries ops kind)
+    unfolding entries frameFlips
+    frame-good (fit-IN t e) sh i h = inputs-good (t ∷ []) sh h
+    frame-good (fit-CON l b t o e f) sh i h = single (constant (isSet b)) l (newStage k (l ∷ b ∷ t ∷ []) CON) (λ q. carry (h .0) refl refl tt)
+    frame-good (fit-XOR x y l t p q) sh i h = single (sum (x ∷ y ∷ [])) (labelOf (place k x)) (newStage k (x ∷ y ∷ []) XOR)
+        (λ z. let e : In l (before (x ∷ y ∷ []) XOR) = subst (λ (j : ℕ). In j (before (x ∷ y ∷ []) XOR)) (ap labelOf p) z in carry (h .0) refl refl (i x l t p e, (i y l t q e, tt)))
+    frame-good (fit-NOT x l t p) sh i h = single (inverse x) (labelOf (place k x)) (newStage k (x ∷ []) NOT)
+        (λ z. carry (h .0) refl refl (i x l t p (subst (λ (j : ℕ). In j (before (x ∷ []) NOT)) (ap labelOf p) z), tt))
+    frame-good (fit-REG x l t p e) sh i h = single (reg x) (labelOf (place k x)) (newStage k (x ∷ []) REG)
+        (λ z. carry (h .0) refl refl (i x l t p (subst (λ (j : ℕ). In j (before (x ∷ []) REG)) (ap labelOf p) z), tt))
+    frame-good (fit-AND ops t n z p q s) sh i h =
+        let e = ins-eq (andSite ops) in
+        and-good isProbed (k .d) (size k) (wireA ops) (wireB ops) (stageAt ops (1 + k .d)) (newStage k ops AND) behind T h
+        (λ j l z. i (wireA ops j) j (suc t) (p j l) (rw e z)) (λ j l z. i (wireB ops j) j t (q j l) (rw e z))
+    frame-good (fit-REF ops t n z p s) sh i h =
+        let e = ins-eq (refSite ops) in
+        ref-good isProbed (k .d) (size k) (wireA ops) (stageAt ops 1) (newStage k ops REF) behind T h (λ j l z. i (wireA ops j) j t (p j l) (rw e z))
+    frame-good (fit-OUT ops t n p) sh i h = tt
+
+  -- operands are earlier
+  pub frame-early : {kind : Kind} {ops : List ℕ} → Fits k kind ops → AllFrom (λ x e. Early x (lift (frameFlips ops kind) e)) (size k) (entries ops kind)
+  unfolding entries frameFlips
+  frame-early (fit-IN t e) = all-map (λ x e. Early x (lift still e)) (inEntry (t ∷ [])) (size k) (labels (k .d))
+      (all-of (λ x i. Early x (lift still (inEntry (t ∷ []) i))) (λ i. i < k .d) (size k) (labels (k .d)) (λ x i l o. record { low = tt; decided = undecided x }) (every-of (λ i. i < k .d) (labels (k .d)) (label-lt (k .d))))
+  frame-early (fit-CON l b t o e f) = (record { low = tt; decided = undecided (size k) }, tt)
+  frame-early (fit-XOR x y l t p q) = (record { low = (named-lt (k .wires) x l t p, (named-lt (k .wires) y l t q, tt)); decided = undecided (size k) }, tt)
+  frame-early (fit-NOT x l t p) = (record { low = (named-lt (k .wires) x l t p, tt); decided = undecided (size k) }, tt)
+  frame-early (fit-REG x l t p e) = (record { low = (named-lt (k .wires) x l t p, tt); decided = undecided (size k) }, tt)
+  frame-early (fit-AND ops t n z p q s) = and-early isProbed (k .d) (size k) (wireA ops) (wireB ops) (stageAt ops (1 + k .d)) (newStage k ops AND) behind
+      (λ i l. named-lt (k .wires) (wireA ops i) i (suc t) (p i l)) (λ i l. named-lt (k .wires) (wireB ops i) i t (q i l))
+  frame-early (fit-REF ops t n z p s) = ref-early isProbed (k .d) (size k) (wireA ops) (stageAt ops 1) (newStage k ops REF) behind (λ i l. named-lt (k .wires) (wireA ops i) i t (p i l))
+  frame-early (fit-OUT ops t n p) = tt

@@ -1,0 +1,50 @@
+-- Wires that look the same in two evaluations: the wire's value, and the values of the stops that a probe on it reads.
+use mathlib.Core.Path.{_≡_, sym, subst, _∙_}
+use mathlib.Core.Bool.{Bool, false, cond, false≢true}
+use mathlib.Core.List.{List, [], _∷_}
+use Prim.Native.Nat.{ℕ}
+use lib.Dec.{eqb}
+use borrow.Author.Tests.{eqb-true}
+use Rattle.checker.specs.Lists.{each}
+use Rattle.checker.specs.Wires.{Gate}
+use Rattle.checker.proofs.Base.{cases, clash, or-cases, In, in-each, Every, every-imp, every-in}
+use Rattle.netlist.specs.Values.{isRandom}
+use Rattle.netlist.specs.Probes.{isStop, operands, reads}
+use Rattle.secrecy.proofs.Coupled.{Values, Shift, Bits, isInput, value-same}
+
+-- two evaluations, and what probes read
+pub record Two : Type 0 where
+  pub sh : List Bool
+  pub sh′ : List Bool
+  pub f : Values
+  pub f′ : Values
+  pub stops : ℕ → List ℕ
+
+-- what is known of the wire x, whose gate is g: its two bits, and what a probe on it reads
+pub record Fact (T : Two) (g : Gate) (δ : Shift) (x : ℕ) : Type 0 where
+  pub bits : Bits (T .sh) (T .sh′) g δ (T .f) (T .f′) (T .f x) (T .f′ x)
+  pub reading : T .stops x ≡ reads x g (T .stops)
+
+-- the wire x looks the same: it has one value in both evaluations, and so has each stop that a probe on it reads
+pub record Same (T : Two) (x : ℕ) : Type 0 where
+  pub valued : T .f x ≡ T .f′ x
+  pub stopped : (s : ℕ) → In s (T .stops x) → T .f s ≡ T .f′ s
+
+-- a wire with the same value, whose operands look the same unless it is a stop
+pub settle : {T : Two} {g : Gate} {δ : Shift} {x : ℕ} → Fact T g δ x → T .f x ≡ T .f′ x → (isStop g ≡ false → Every (Same T) (operands g)) → Same T x
+settle {T} {g} {δ} {x} h e ops = record {
+  valued = e;
+  stopped = λ s i. cases (isStop g)
+      (λ k. let i′ : In s (cond (isStop g) (x ∷ []) (each (operands g) (T .stops))) = subst (In s) (h .reading) i in
+      let z : s ≡ x = or-cases (eqb s x) false (rw k at i′) (eqb-true s x) (λ q. absurd (false≢true q)) in rw z e)
+      (λ k. let i′ : In s (cond (isStop g) (x ∷ []) (each (operands g) (T .stops))) = subst (In s) (h .reading) i in
+      in-each s (T .stops) (operands g) (rw k at i′) (λ y p q. (every-in (Same T) (operands g) (ops k) y p) .stopped s q));
+}
+
+plain-gate : (g : Gate) → isInput g ≡ false → isRandom g ≡ false → (T : Two) (δ : Shift) (x : ℕ) → Fact T g δ x → Every (Same T) (operands g) → T .f x ≡ T .f′ x
+plain-gate g s k T δ x h ops = h .bits .left k
+    ∙ value-same g (T .f) (T .f′) (T .sh) (T .sh′) (λ e. clash e s) (every-imp (Same T) (λ y. T .f y ≡ T .f′ y) (operands g) (λ y q. q .valued) ops) ∙ sym (h .bits .right k)
+
+-- a gate over wires that look the same
+pub carry : {T : Two} {g : Gate} {δ : Shift} {x : ℕ} → Fact T g δ x → isInput g ≡ false → isRandom g ≡ false → Every (Same T) (operands g) → Same T x
+carry {T} {g} {δ} {x} h s k ops = settle h (plain-gate g s k T δ x h ops) (λ e. ops)

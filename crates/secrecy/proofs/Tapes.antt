@@ -1,0 +1,115 @@
+-- Share lists that agree at the share indices taken give a reading from equally many tapes.
+use mathlib.Core.Path.{_≡_, refl, sym, ap, ap₂, subst, _∙_}
+use mathlib.Core.Bool.{Bool, true, cond, false≢true}
+use mathlib.Core.List.{List, [], _∷_, _++_, map}
+use Prim.Native.Nat.{ℕ, zero, suc, _+_, _≤_, _<_}
+use native.Mathlib.Omega.{arith}
+use native.Mathlib.Decide.{decLt}
+use lib.ListN.{length, length-append, length-map, List·getD-eq-default}
+use lib.Dec.{eqb}
+use Rattle.checker.specs.Limits.{wireLimit}
+use Rattle.checker.specs.Lists.{mem, each, range}
+use Rattle.checker.specs.Wires.{Wire}
+use Rattle.checker.specs.Circuit.{empty}
+use Rattle.checker.proofs.Composition.{Frame, build, AllFit}
+use Rattle.checker.proofs.Base.{cases, In, Sub, in-append, in-each, Every, AllFrom, all-imp, all-zip, all-map, all-unmap}
+use Rattle.netlist.specs.Counts.{alike, different}
+use Rattle.netlist.specs.Values.{at, byte, valuesOf}
+use Rattle.netlist.specs.Probes.{operands, reads, readBy, stopsFrom, stops, sheet}
+use Rattle.secrecy.specs.Deciding.{AgreeAt, NamedIn, tapesFor}
+use Rattle.secrecy.proofs.Sums.{sumBits, over-bits}
+use Rattle.secrecy.proofs.Whole.{front, steps, steps-wires, roles, front-sub, front-length, early, Sure, Seen, static}
+use Rattle.secrecy.proofs.Randoms.{randomsOf, randoms-right}
+use Rattle.secrecy.proofs.Taken.{count-different}
+use Rattle.secrecy.proofs.Coupled.{Step, wireOf, Run, couple, Early, Settled, settled, stops-settled}
+use Rattle.secrecy.proofs.Same.{Two, Same}
+use Rattle.secrecy.proofs.Sites.{hidden}
+
+-- the element at a place, with its number
+all-at : {B : Type 0} (Q : ℕ → B → Type 0) (n x : ℕ) (es : List B) → AllFrom Q n es → x < length es → (e : B) × Q (n + x) e
+all-at Q n x [] h l = absurd (omega arith)
+all-at Q n zero (e ∷ es) h l = (e, subst (λ (y : ℕ). Q y e) (omega arith) (h .0))
+all-at Q n (suc x) (e ∷ es) h l = let (f, q) = all-at Q (suc n) x es (h .1) (omega arith) in (f, subst (λ (y : ℕ). Q y f) (omega arith) q)
+
+-- each wire has its stops
+stops-length : (ws : List Wire) (rs : List (List ℕ)) → length (stopsFrom rs ws) ≡ length rs + length ws
+stops-length [] rs = omega arith
+stops-length (w ∷ ws) rs = let n = reads (length rs) (w .gate) (readBy rs) in omega (arith, stops-length ws (rs ++ (n ∷ [])), length-append rs (n ∷ []))
+
+map-same : {B C : Type 0} (f g : B → C) (besides : List B) → ((x : B) → f x ≡ g x) → map f besides ≡ map g besides
+map-same f g [] h = refl
+map-same f g (x ∷ besides) h = ap₂ (λ p q. p ∷ q) (h x) (map-same f g besides h)
+
+-- a sheet is decided by the values of the wires that are read
+sheet-same : (read : List ℕ) (g g′ : List Bool) → ((x : ℕ) → In x read → at g x ≡ at g′ x) → sheet read g ≡ sheet read g′
+unfolding sheet
+sheet-same read g g′ h = map-same (λ x. cond (mem x read) (byte (at g x)) 2) (λ x. cond (mem x read) (byte (at g′ x)) 2) (range 0 wireLimit)
+    (λ x. cases (mem x read) (λ e. rw e (ap byte (h x e))) (λ e. rw e))
+
+-- frames, probes, and the share indices to start from
+module _ (d : ℕ) (fs : List Frame) (probes start : List ℕ) where
+  abbrev isProbed : ℕ → Bool
+  isProbed x = mem x probes
+
+  -- the share indices that decide
+  unfoldable pub indices : List ℕ
+  indices = front isProbed start (empty d) fs
+
+  pub indices-sub : Sub start indices
+  unfolding indices
+  indices-sub = front-sub isProbed start (empty d) fs
+
+  pub indices-length : length indices ≤ length start + different probes
+  unfolding indices
+  indices-length = omega (arith, front-length isProbed start (empty d) fs, count-different probes 0 (roles isProbed start (empty d) fs))
+
+  -- the steps of all wires, the wires, and what a probe on each reads
+  abbrev ss : List Step
+  ss = steps isProbed start (empty d) fs
+
+  abbrev ws : List Wire
+  ws = map wireOf ss
+
+  abbrev readAt : ℕ → List ℕ
+  readAt = readBy (stopsFrom [] ws)
+
+  module _ (fit : AllFit (empty d) fs) (besides : List ℕ) (shown : (x : ℕ) → In x besides → NamedIn (build (empty d) fs) start x)
+      (sh sh′ : List Bool) (same : AgreeAt d indices sh sh′) where
+    -- the two evaluations, once all values are known
+    abbrev two : List Bool → List Bool → Two
+    two g g′ = record { sh = sh; sh′ = sh′; f = at g; f′ = at g′; stops = readAt }
+
+    -- at the end of a walk, what is known of every wire
+    sure : (g g′ : List Bool) → Run sh sh′ ss [] [] g g′ → AllFrom (Sure isProbed start (two g g′) indices) 0 ss
+    sure g g′ r =
+        let e = early isProbed start fit in
+        all-zip (Settled sh sh′ g g′) (λ x s. readAt x ≡ reads x (s .wire .gate) readAt) (Sure isProbed start (two g g′) indices) (λ x s b q. record { bits = b; reading = q }) 0 ss
+        (settled sh sh′ ss [] [] g g′ refl e r)
+        (all-unmap (λ x w. readAt x ≡ reads x (w .gate) readAt) wireOf 0 ss
+        (stops-settled ws [] (all-map (λ x w. Every (λ y. y < x) (operands (w .gate))) wireOf 0 ss (all-imp Early (λ x s. Every (λ y. y < x) (operands (s .wire .gate))) (λ x s q. q .low) 0 ss e))))
+
+    -- every wire that is read has one value in both evaluations
+    alike-reads : (g g′ : List Bool) → Run sh sh′ ss [] [] g g′ → (x : ℕ) → In x (stops ws probes ++ besides) → at g x ≡ at g′ x
+    unfolding indices stops
+    alike-reads g g′ r x h =
+        let (a, b) = static isProbed start (two g g′) indices fit same (λ i q. q) (λ y l t z q. hidden z) (sure g g′ r) in
+        in-append x (each probes readAt) besides h
+        (λ q. in-each x readAt probes q (λ p i k. elim (decLt p (length ss)) [
+          | yes l ↦ (let (s, z) = all-at (Seen isProbed start (two g g′) indices) 0 p ss a l in (subst (λ (y : ℕ). isProbed y ≡ true → Same (two g g′) y) (omega arith) z i) .stopped x k)
+          | no l ↦ (let e : readAt p ≡ [] = List·getD-eq-default (stopsFrom [] ws) [] (omega (arith, stops-length ws [], length-map ss wireOf)) in absurd (false≢true (rw e at k)))
+        ]))
+        (λ q. let n = shown x q in (b x (n .label) (n .stage) (n .is) (n .listed)) .valued)
+
+    -- so equally many tapes give a reading
+    pub equal-tapes : (reading : List ℕ) → tapesFor (build (empty d) fs) probes besides sh reading ≡ tapesFor (build (empty d) fs) probes besides sh′ reading
+    unfolding tapesFor
+    equal-tapes reading =
+        let k = build (empty d) fs in
+        let F : List Bool → ℕ = λ g. cond (alike eqb (sheet (stops ws probes ++ besides) g) reading) 1 0 in
+        let G : List Bool → List Bool → ℕ = λ shares tape. cond (alike eqb (sheet (stops (k .wires) probes ++ besides) (valuesOf (k .wires) shares tape)) reading) 1 0 in
+        let e : k .wires ≡ ws = steps-wires isProbed start (empty d) fs in
+        let z = couple sh sh′ F F ss [] [] (λ g g′ r. ap (λ l. cond (alike eqb l reading) 1 0) (sheet-same (stops ws probes ++ besides) g g′ (alike-reads g g′ r))) in
+        over-bits (k .randoms) (G sh)
+        ∙ rw (randoms-right d fs) (subst (λ (us : List Wire). sumBits (randomsOf us) (λ t. cond (alike eqb (sheet (stops us probes ++ besides) (valuesOf us sh t)) reading) 1 0)
+        ≡ sumBits (randomsOf us) (λ t. cond (alike eqb (sheet (stops us probes ++ besides) (valuesOf us sh′ t)) reading) 1 0)) (sym e) z)
+        ∙ sym (over-bits (k .randoms) (G sh′))

@@ -1,0 +1,57 @@
+-- The theorems, with d left free, for any frames that fit.
+use mathlib.Core.Path.{_≡_, subst, sym, ap₂, _∙_}
+use mathlib.Core.Bool.{Bool, _&&_}
+use mathlib.Core.List.{List, [], _∷_, _++_}
+use Prim.Native.Nat.{ℕ, _+_}
+use lib.ListN.{length}
+use Rattle.checker.specs.Lists.{nth}
+use Rattle.checker.specs.Gadgets.{labels, inAND, inREF}
+use Rattle.checker.specs.Kinds.{AND, REF}
+use Rattle.checker.specs.Circuit.{size, empty}
+use Rattle.checker.proofs.Composition.{Frame, AllFit, build}
+use Rattle.netlist.specs.Values.{at, total, valuesOf}
+use Rattle.netlist.specs.Counts.{EqualCounts}
+use Rattle.secrecy.specs.Deciding.{AgreeAt, Deciding}
+use Rattle.secrecy.specs.Added.{added}
+use Rattle.secrecy.proofs.Whole.{build-d}
+use Rattle.secrecy.proofs.Tapes.{indices, indices-sub, indices-length, equal-tapes}
+use Rattle.secrecy.proofs.Sharings.{equal-counts}
+use Rattle.secrecy.proofs.Totals.{total-map}
+use Rattle.secrecy.proofs.Products.{frame, and-product, ref-sum}
+
+-- Theorem A: the share indices to start from, and at most one more for each different probed wire, decide
+pub theoremA : (d : ℕ) (fs : List Frame) → AllFit (empty d) fs → (probes start : List ℕ) → Deciding (build (empty d) fs) probes start
+theoremA d fs fit probes start = record {
+  indices = indices d fs probes start;
+  from = indices-sub d fs probes start;
+  few = indices-length d fs probes start;
+  decide = λ besides shown one other same. equal-tapes d fs probes start fit besides shown one other (subst (λ (e : ℕ). AgreeAt e (indices d fs probes start) one other) (build-d (empty d) fs) same);
+}
+
+-- Theorem B: with fewer than d different wires probed, any two sets of secret bits give a reading equally often
+pub theoremB : (d : ℕ) (fs : List Frame) → AllFit (empty d) fs → (probes : List ℕ) → EqualCounts (build (empty d) fs) probes
+theoremB d fs fit probes = equal-counts (build (empty d) fs) probes (theoremA d fs fit probes [])
+
+-- Theorem C: an AND after the frames fs and before gs. Its outputs, the d wires behind its inner ones, add up to the product of
+-- its added wires a and its added wires b
+module _ (d : ℕ) (fs : List Frame) (ops : List ℕ) (gs : List Frame) (shares tape : List Bool) where
+  pub theoremC : AllFit (empty d) (fs ++ (frame AND ops ∷ gs))
+      → let values = valuesOf (build (empty d) (fs ++ (frame AND ops ∷ gs)) .wires) shares tape in
+      added d (λ i. size (build (empty d) fs) + length (inAND d) + i) values ≡ (added d (λ i. nth ops (1 + i)) values && added d (λ i. nth ops (1 + d + i)) values)
+  theoremC fit =
+      let values = valuesOf (build (empty d) (fs ++ (frame AND ops ∷ gs)) .wires) shares tape in
+      let n = size (build (empty d) fs) in
+      let sums = subst (λ (e : ℕ). total (labels e) (λ i. at values (n + length (inAND e) + i)) ≡ (total (labels e) (λ i. at values (nth ops (1 + i))) && total (labels e) (λ i. at values (nth ops (1 + e + i)))))
+      (build-d (empty d) fs) (and-product d fs ops gs shares tape fit) in
+      total-map (at values) (λ i. n + length (inAND d) + i) (labels d) ∙ sums
+      ∙ sym (ap₂ (λ p q. p && q) (total-map (at values) (λ i. nth ops (1 + i)) (labels d)) (total-map (at values) (λ i. nth ops (1 + d + i)) (labels d)))
+
+  -- the same of a REF: its outputs add up to its added wires
+  pub theoremC-REF : AllFit (empty d) (fs ++ (frame REF ops ∷ gs))
+      → let values = valuesOf (build (empty d) (fs ++ (frame REF ops ∷ gs)) .wires) shares tape in
+      added d (λ i. size (build (empty d) fs) + length (inREF d) + i) values ≡ added d (λ i. nth ops (1 + i)) values
+  theoremC-REF fit =
+      let values = valuesOf (build (empty d) (fs ++ (frame REF ops ∷ gs)) .wires) shares tape in
+      let n = size (build (empty d) fs) in
+      let sums = subst (λ (e : ℕ). total (labels e) (λ i. at values (n + length (inREF e) + i)) ≡ total (labels e) (λ i. at values (nth ops (1 + i)))) (build-d (empty d) fs) (ref-sum d fs ops gs shares tape fit) in
+      total-map (at values) (λ i. n + length (inREF d) + i) (labels d) ∙ sums ∙ sym (total-map (at values) (λ i. nth ops (1 + i)) (labels d))
