@@ -1,20 +1,15 @@
+-- `checker::check` meets its contract.
 use mathlib.Core.Path.{ap}
-use Rattle.checker.proofs.Ways.{way-end, way-refused, frame-of, broken-kept, way-broken, turn, less-left, bounded, shares-few, same-length as kept}
-use Rattle.checker.proofs.Checking.{Walking, head-refused, headed, start}
-use denote.Ref.{now}
-use lib.ListN.{length}
-use native.Mathlib.Omega.{arith}
-use Prim.Native.Nat.{_-_}
 use mathlib.Core.Path.{sym, _∙_}
+use Prim.Native.Nat.{_-_}
+use native.Mathlib.Omega.{arith}
+use lib.ListN.{length}
 use borrow.Author.Needs.{needs}
+use denote.Ref.{now}
+use Rattle.checker.proofs.Checking.{Walking, head-refused, headed, start}
+use Rattle.checker.proofs.Ways.{way-end, way-refused, frame-of, broken-kept, way-broken, turn, less-left, bounded, shares-few, same-length as kept}
 use Rattle.checker.proofs.check.Statement.{statement}
 use Rattle.checker.proofs.check.Tie as tie
-use Rattle.checker.proofs.check.Reads as reads
-use Rattle.checker.proofs.check.Lts as lts
-use Rattle.checker.proofs.frame.add.Reads as add-reads
-use Rattle.checker.proofs.head_rule.Reads as head-rule-reads
-use Rattle.checker.proofs.walk.Walk.operands.Reads as operands-reads
-use Rattle.checker.proofs.walk.Walk.step.Reads as step-reads
 
 abbrev Inv-loop : tie.InvT-loop
 Inv-loop table notes₀ broken d walk₀ tally₀ notes walk tally = Walking table notes₀ notes d walk tally
@@ -22,61 +17,47 @@ Inv-loop table notes₀ broken d walk₀ tally₀ notes walk tally = Walking tab
 abbrev μ-loop : tie.MeasureT-loop
 μ-loop table notes₀ broken d walk₀ tally₀ notes walk tally = length table - walk .at
 
--- src/lib.rt:65:9
 head-rule-requires : tie.Need-head-rule-requires Inv-loop μ-loop
 head-rule-requires c κs = search needs
 
--- src/lib.rt:67:9
 returns : tie.Need-returns Inv-loop μ-loop
 returns c = head-refused (now (c .before .before .before .before .args .table)) (now (c .before .before .before .before .args .notes)) (c .before .head-rule .result) (c .before .head-rule .ensures) (c .if1 .taken)
 
--- src/lib.rt:73:13
 shared-slice-read-d : tie.Need-shared-slice-read-d Inv-loop μ-loop
 shared-slice-read-d c =
     let head = headed (now (c .before .before .before .before .before .args .table)) (length (now (c .before .before .before .before .before .args .notes))) (sym (c .before .before .head-rule .ensures) ∙ c .before .if1 .left) in
     omega (arith, head .two)
 
--- src/lib.rt:81:5
 loop-holds : tie.Need-loop-holds Inv-loop μ-loop
 loop-holds c = start (now (c .before .before .before .before .before .args .table)) (now (c .before .before .before .before .before .args .notes)) (sym (c .before .before .head-rule .ensures) ∙ c .before .if1 .left)
 
--- src/lib.rt:82:13
 step-requires : tie.Need-step-requires Inv-loop μ-loop
 step-requires c κs = search needs
 
--- src/lib.rt:85:17
 enum-told : tie.Need-enum-told Inv-loop μ-loop
 enum-told c = search needs
 
--- src/lib.rt:85:17
 same-length : tie.Need-same-length Inv-loop μ-loop
 same-length c = kept (c .before .before .before .loop .inv)
 
--- src/lib.rt:85:17
 returns-2 : tie.Need-returns-2 Inv-loop μ-loop
 returns-2 c = way-end (c .before .before .before .loop .inv) (sym (c .enum-told .given .1) ∙ c .before .before .step .ensures)
 
--- src/lib.rt:91:29
 enum-known-step : tie.Need-enum-known-step Inv-loop μ-loop
 enum-known-step c = search needs
 
--- src/lib.rt:92:17
 same-length-2 : tie.Need-same-length-2 Inv-loop μ-loop
 same-length-2 c = kept (c .before .before .before .before .loop .inv)
 
--- src/lib.rt:92:17
 returns-3 : tie.Need-returns-3 Inv-loop μ-loop
 returns-3 c = way-refused (c .before .before .before .before .loop .inv) _ (sym (c .before .step2 .given .1) ∙ c .before .before .before .step .ensures)
 
--- src/lib.rt:99:17
 enum-known-step-2 : tie.Need-enum-known-step-2 Inv-loop μ-loop
 enum-known-step-2 c = search needs
 
--- src/lib.rt:103:21
 operands-requires : tie.Need-operands-requires Inv-loop μ-loop
 operands-requires c κs = search needs
 
--- src/lib.rt:104:21
 add-requires : tie.Need-add-requires Inv-loop μ-loop
 add-requires c κs =
     let w = c .before .before .before .before .before .before .loop .inv in
@@ -87,11 +68,9 @@ add-requires c κs =
     let u = bounded w in
     ((u .room, u .wires, u .used, u .frames), (shares-few w, frame-of w (found .0) (found .1 .0) (found .1 .1 .0) e ops o))
 
--- src/lib.rt:106:38
 enum-known-added : tie.Need-enum-known-added Inv-loop μ-loop
 enum-known-added c = search needs
 
--- src/lib.rt:107:25
 same-length-3 : tie.Need-same-length-3 Inv-loop μ-loop
 same-length-3 c =
     let w = c .before .before .before .before .before .before .before .before .before .before .before .before .loop .inv in
@@ -101,7 +80,6 @@ same-length-3 c =
     let o = c .before .before .before .before .before .before .before .operands .ensures in
     ap length (broken-kept w (found .0) (found .1 .0) (found .1 .1 .0) e ops o _ (c .before .before .before .before .before .add .result) (c .before .before .before .before .before .add .ensures) _ _ (c .before .added .given .1)) ∙ kept w
 
--- src/lib.rt:107:25
 returns-4 : tie.Need-returns-4 Inv-loop μ-loop
 returns-4 c =
     let w = c .before .before .before .before .before .before .before .before .before .before .before .before .loop .inv in
@@ -111,11 +89,9 @@ returns-4 c =
     let o = c .before .before .before .before .before .before .before .operands .ensures in
     way-broken w (found .0) (found .1 .0) (found .1 .1 .0) e ops o _ (c .before .before .before .before .before .add .result) (c .before .before .before .before .before .add .ensures) _ _ (c .before .added .given .1)
 
--- src/lib.rt:113:33
 enum-known-added-2 : tie.Need-enum-known-added-2 Inv-loop μ-loop
 enum-known-added-2 c = search needs
 
--- src/lib.rt:81:5
 loop-less : tie.Need-loop-less Inv-loop μ-loop
 loop-less c =
     let w = c .before .before .before .before .before .before .before .before .before .before .before .before .loop .inv in
@@ -125,7 +101,6 @@ loop-less c =
     let o = c .before .before .before .before .before .before .before .operands .ensures in
     less-left w (found .0) (found .1 .0) (found .1 .1 .0) e ops o
 
--- src/lib.rt:81:5
 loop-again : tie.Need-loop-again Inv-loop μ-loop
 loop-again c =
     let w = c .before .before .before .before .before .before .before .before .before .before .before .before .loop .inv in

@@ -1,44 +1,31 @@
-use Rattle.checker.proofs.Adding.{frame-count, frame-uses, word-broken, stage-over, wires-over, frame-added}
-use Rattle.checker.specs.Sheet.{noted, madeFrame}
-use denote.Ref.{now}
-use native.Mathlib.Omega.{arith}
+-- `checker::frame::add` meets its contract.
 use mathlib.Core.Path.{ap, _∙_}
+use native.Mathlib.Omega.{arith}
 use borrow.Author.Needs.{needs}
+use denote.Ref.{now}
+use Rattle.checker.specs.Sheet.{noted, madeFrame}
+use Rattle.checker.proofs.Adding.{frame-count, frame-uses, word-broken, stage-over, wires-over, frame-added}
 use Rattle.checker.proofs.frame.add.Statement.{statement}
 use Rattle.checker.proofs.frame.add.Tie as tie
-use Rattle.checker.proofs.frame.add.Reads as reads
-use Rattle.checker.proofs.frame.add.Lts as lts
-use Rattle.checker.proofs.frame.latency_after.Reads as latency-after-reads
-use Rattle.checker.proofs.frame.less.Reads as less-reads
-use Rattle.checker.proofs.frame.made_by.Reads as made-by-reads
-use Rattle.checker.proofs.notes.write.Reads as write-reads
-use Rattle.checker.proofs.words.first_broken.Reads as first-broken-reads
 
--- src/frame.rt:141:9
 first-broken-requires : tie.Need-first-broken-requires
 first-broken-requires c κs = search needs
 
--- src/frame.rt:143:9
 same-length : tie.Need-same-length
 same-length c = search needs
 
--- src/frame.rt:143:9
 returns : tie.Need-returns
 returns c = word-broken (c .before .before .first-broken .result) (c .before .before .first-broken .ensures) (c .if1 .taken)
 
--- src/frame.rt:148:34
 less-requires : tie.Need-less-requires
 less-requires c κs = search needs
 
--- src/frame.rt:148:9
 made-by-requires : tie.Need-made-by-requires
 made-by-requires c κs = search needs
 
--- src/frame.rt:151:9
 same-length-2 : tie.Need-same-length-2
 same-length-2 c = search needs
 
--- src/frame.rt:151:9
 returns-2 : tie.Need-returns-2
 returns-2 c =
     let none = c .before .before .before .before .if1 .left in
@@ -46,15 +33,12 @@ returns-2 c =
     let e = c .before .made-by .ensures .0 ∙ ap (λ n. madeFrame (c .before .before .before .before .before .before .before .before .before .before .args .frame) (c .before .before .before .before .before .before .before .before .before .before .args .d) n (noted (now (c .before .before .before .before .before .before .before .before .before .before .args .notes)) (c .before .before .before .before .before .before .before .before .before .before .args .tally .wires)) (now (c .before .before .before .before .before .before .before .before .before .before .args .ops))) (c .before .before .before .less .ensures) in
     stage-over (c .before .before .before .before .before .before .first-broken .result) (c .before .before .before .before .before .before .first-broken .ensures) none m e (c .if2 .taken)
 
--- src/frame.rt:153:8
 sub-if3 : tie.Need-sub-if3
 sub-if3 c = search needs
 
--- src/frame.rt:154:9
 same-length-3 : tie.Need-same-length-3
 same-length-3 c = search needs
 
--- src/frame.rt:154:9
 returns-3 : tie.Need-returns-3
 returns-3 c =
     let none = c .before .before .before .before .before .if1 .left in
@@ -62,7 +46,6 @@ returns-3 c =
     let e = c .before .before .made-by .ensures .0 ∙ ap (λ n. madeFrame (c .before .before .before .before .before .before .before .before .before .before .before .args .frame) (c .before .before .before .before .before .before .before .before .before .before .before .args .d) n (noted (now (c .before .before .before .before .before .before .before .before .before .before .before .args .notes)) (c .before .before .before .before .before .before .before .before .before .before .before .args .tally .wires)) (now (c .before .before .before .before .before .before .before .before .before .before .before .args .ops))) (c .before .before .before .before .less .ensures) in
     wires-over (c .before .before .before .before .before .before .before .first-broken .result) (c .before .before .before .before .before .before .before .first-broken .ensures) none m e (c .before .if2 .left) (omega arith)
 
--- src/frame.rt:156:5
 write-requires : tie.Need-write-requires
 write-requires c κs =
     let none = c .before .before .before .before .before .before .if1 .left in
@@ -73,27 +56,21 @@ write-requires c κs =
       omega arith,
     )
 
--- src/frame.rt:158:17
 add-t17 : tie.Need-add-t17
 add-t17 c = search needs
 
--- src/frame.rt:159:16
 add-t23 : tie.Need-add-t23
 add-t23 c = search needs
 
--- src/frame.rt:160:18
 add-t24 : tie.Need-add-t24
 add-t24 c = record { fits = omega (arith, frame-uses (c .before .before .before .before .before .before .before .before .before .before .before .before .before .before .before .before .before .before .pre .1 .1), c .before .before .before .before .before .before .before .before .before .before .before .before .before .before .before .before .before .before .pre .0 .1, c .before .before .before .before .before .before .before .before .before .before .before .before .before .before .before .before .before .before .pre .0 .2, c .before .before .before .before .before .before .before .if3 .left) }
 
--- src/frame.rt:161:18
 latency-after-requires : tie.Need-latency-after-requires
 latency-after-requires c κs = search needs
 
--- src/frame.rt:125:1
 same-length-4 : tie.Need-same-length-4
 same-length-4 c = search needs
 
--- src/frame.rt:125:1
 returns-4 : tie.Need-returns-4
 returns-4 c =
     let none = c .before .before .before .before .before .before .before .before .before .before .before .before .before .if1 .left in

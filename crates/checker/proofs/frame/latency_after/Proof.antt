@@ -1,79 +1,60 @@
-use borrow.Author.Tests.{lt-ltb, le-ltb}
+-- `checker::frame::latency_after` meets its contract.
 use borrow.Author.Needs.{needs}
+use borrow.Author.Tests.{lt-ltb, le-ltb}
 use Rattle.checker.proofs.frame.latency_after.Statement.{statement}
 use Rattle.checker.proofs.frame.latency_after.Tie as tie
-use Rattle.checker.proofs.frame.latency_after.Reads as reads
-use Rattle.checker.proofs.frame.latency_after.Lts as lts
 
--- src/frame.rt:97:21
 enum-known-frame : tie.Need-enum-known-frame
 enum-known-frame c = search needs
 
--- src/frame.rt:98:31
 enum-told : tie.Need-enum-told
 enum-told c = search needs
 
--- src/frame.rt:99:38
 enum-told-2 : tie.Need-enum-told-2
 enum-told-2 c = search needs
 
--- src/frame.rt:104:18
 enum-told-3 : tie.Need-enum-told-3
 enum-told-3 c = search needs
 
--- src/frame.rt:108:18
 enum-told-4 : tie.Need-enum-told-4
 enum-told-4 c = search needs
 
--- src/frame.rt:109:38
 enum-told-5 : tie.Need-enum-told-5
 enum-told-5 c = search needs
 
--- src/frame.rt:110:38
 enum-told-6 : tie.Need-enum-told-6
 enum-told-6 c = search needs
 
--- src/frame.rt:112:23
 enum-told-7 : tie.Need-enum-told-7
 enum-told-7 c = search needs
 
--- src/frame.rt:113:23
 enum-told-8 : tie.Need-enum-told-8
 enum-told-8 c = search needs
 
--- src/frame.rt:93:1
 returns : tie.Need-returns
 returns c = rw (c .before .before .before .before .frame .given .1, c .before .enum-told .given .1, lt-ltb _ _ (c .if1 .taken))
 
--- src/frame.rt:93:1
 returns-2 : tie.Need-returns-2
 returns-2 c = rw (c .before .before .before .before .frame .given .1, c .before .enum-told .given .1, le-ltb _ _ (c .if1 .left))
 
--- src/frame.rt:93:1
 returns-3 : tie.Need-returns-3
 returns-3 c = search needs
 
--- src/frame.rt:93:1
 returns-4 : tie.Need-returns-4
 returns-4 c = search needs
 
--- src/frame.rt:93:1
 returns-5 : tie.Need-returns-5
 returns-5 c = search needs
 
--- src/frame.rt:93:1
 returns-6 : tie.Need-returns-6
 returns-6 c = search needs
 
--- src/frame.rt:93:1
 returns-7 : tie.Need-returns-7
 returns-7 c = search needs
 
--- src/frame.rt:93:1
 returns-8 : tie.Need-returns-8
 returns-8 c = search needs
 
--- src/frame.rt:93:1
 returns-9 : tie.Need-returns-9
 returns-9 c = search needs
 

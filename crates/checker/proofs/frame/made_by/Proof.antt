@@ -1,168 +1,127 @@
-use native.Mathlib.Omega.{arith}
+-- `checker::frame::made_by` meets its contract.
 use mathlib.Core.Path.{ap}
+use native.Mathlib.Omega.{arith}
 use borrow.Author.Needs.{needs}
 use Rattle.checker.proofs.frame.made_by.Statement.{statement}
 use Rattle.checker.proofs.frame.made_by.Tie as tie
-use Rattle.checker.proofs.frame.made_by.Reads as reads
-use Rattle.checker.proofs.frame.made_by.Lts as lts
-use Rattle.checker.proofs.frame.like.Reads as like-reads
-use Rattle.checker.proofs.frame.row_after.Reads as row-after-reads
-use Rattle.checker.proofs.notes.look_up.Reads as look-up-reads
-use Rattle.checker.proofs.walk.word_at.Reads as word-at-reads
-use Rattle.checker.proofs.words.stage_shown.Reads as stage-shown-reads
 
--- src/frame.rt:48:21
 enum-known-frame : tie.Need-enum-known-frame
 enum-known-frame c = search needs
 
--- src/frame.rt:49:24
 enum-known-gate : tie.Need-enum-known-gate
 enum-known-gate c = search needs
 
--- src/frame.rt:53:24
 cast-t16 : tie.Need-cast-t16
 cast-t16 c = search needs
 
--- src/frame.rt:56:17
 enum-known-gate-2 : tie.Need-enum-known-gate-2
 enum-known-gate-2 c = search needs
 
--- src/frame.rt:62:24
 cast-t17 : tie.Need-cast-t17
 cast-t17 c = search needs
 
--- src/frame.rt:63:24
 cast-t18 : tie.Need-cast-t18
 cast-t18 c = search needs
 
--- src/frame.rt:65:25
 enum-known-gate-3 : tie.Need-enum-known-gate-3
 enum-known-gate-3 c = search needs
 
--- src/frame.rt:65:52
 look-up-requires : tie.Need-look-up-requires
 look-up-requires c κs = search needs
 
--- src/frame.rt:65:47
 like-requires : tie.Need-like-requires
 like-requires c κs = search needs
 
--- src/frame.rt:66:25
 enum-known-gate-4 : tie.Need-enum-known-gate-4
 enum-known-gate-4 c = search needs
 
--- src/frame.rt:66:40
 look-up-requires-2 : tie.Need-look-up-requires-2
 look-up-requires-2 c κs = search needs
 
--- src/frame.rt:66:35
 like-requires-2 : tie.Need-like-requires-2
 like-requires-2 c κs = search needs
 
--- src/frame.rt:67:25
 enum-known-gate-5 : tie.Need-enum-known-gate-5
 enum-known-gate-5 c = search needs
 
--- src/frame.rt:67:40
 look-up-requires-3 : tie.Need-look-up-requires-3
 look-up-requires-3 c κs = search needs
 
--- src/frame.rt:67:35
 like-requires-3 : tie.Need-like-requires-3
 like-requires-3 c κs = search needs
 
--- src/frame.rt:72:72
 enum-told : tie.Need-enum-told
 enum-told c = search needs
 
--- src/frame.rt:72:72
 word-at-requires : tie.Need-word-at-requires
 word-at-requires c κs = search needs
 
--- src/frame.rt:72:43
 look-up-requires-4 : tie.Need-look-up-requires-4
 look-up-requires-4 c κs = search needs
 
--- src/frame.rt:72:24
 stage-shown-requires : tie.Need-stage-shown-requires
 stage-shown-requires c κs = search needs
 
--- src/frame.rt:75:72
 enum-told-2 : tie.Need-enum-told-2
 enum-told-2 c = search needs
 
--- src/frame.rt:75:72
 word-at-requires-2 : tie.Need-word-at-requires-2
 word-at-requires-2 c κs = search needs
 
--- src/frame.rt:75:43
 look-up-requires-5 : tie.Need-look-up-requires-5
 look-up-requires-5 c κs = search needs
 
--- src/frame.rt:75:23
 row-after-requires : tie.Need-row-after-requires
 row-after-requires c κs = search needs
 
--- src/frame.rt:76:72
 enum-told-3 : tie.Need-enum-told-3
 enum-told-3 c = search needs
 
--- src/frame.rt:76:72
 word-at-requires-3 : tie.Need-word-at-requires-3
 word-at-requires-3 c κs = search needs
 
--- src/frame.rt:76:43
 look-up-requires-6 : tie.Need-look-up-requires-6
 look-up-requires-6 c κs = search needs
 
--- src/frame.rt:76:23
 row-after-requires-2 : tie.Need-row-after-requires-2
 row-after-requires-2 c κs = search needs
 
--- src/frame.rt:43:1
 returns : tie.Need-returns
 returns c = (rw (c .before .before .before .before .frame .given .1, c .before .gate .given .1), search needs)
 
--- src/frame.rt:43:1
 returns-2 : tie.Need-returns-2
 returns-2 c = (rw (c .before .before .before .before .frame .given .1, c .before .gate2 .given .1), search needs)
 
--- src/frame.rt:43:1
 returns-3 : tie.Need-returns-3
 returns-3 c = (
   rw (c .before .before .before .before .before .before .frame .given .1, c .before .before .before .gate3 .given .1, ← c .before .look-up .ensures) (c .like .ensures .0),
   omega (arith, ap (λ m. m .named) (c .like .ensures .0)),
 )
 
--- src/frame.rt:43:1
 returns-4 : tie.Need-returns-4
 returns-4 c = (
   rw (c .before .before .before .before .before .before .frame .given .1, c .before .before .before .gate4 .given .1, ← c .before .look-up2 .ensures) (c .like2 .ensures .0),
   omega (arith, ap (λ m. m .named) (c .like2 .ensures .0)),
 )
 
--- src/frame.rt:43:1
 returns-5 : tie.Need-returns-5
 returns-5 c = (
   rw (c .before .before .before .before .before .before .frame .given .1, c .before .before .before .gate5 .given .1, ← c .before .look-up3 .ensures) (c .like3 .ensures .0),
   omega (arith, ap (λ m. m .named) (c .like3 .ensures .0)),
 )
 
--- src/frame.rt:43:1
 returns-6 : tie.Need-returns-6
 returns-6 c = (
   rw (c .before .before .before .before .before .before .frame .given .1, c .before .before .before .enum-told .given .1, ← c .before .before .word-at .ensures, ← c .before .look-up4 .ensures, c .stage-shown .ensures .0),
   search needs,
 )
 
--- src/frame.rt:43:1
 returns-7 : tie.Need-returns-7
 returns-7 c = (
   rw (c .before .before .before .enum-told2 .given .1, ← c .before .before .word-at2 .ensures, ← c .before .look-up5 .ensures) (c .row-after .ensures),
   omega (arith, ap (λ m. m .named) (c .row-after .ensures), ap (λ m. m .label) (c .row-after .ensures)),
 )
 
--- src/frame.rt:43:1
 returns-8 : tie.Need-returns-8
 returns-8 c = (
   rw (c .before .before .before .enum-told3 .given .1, ← c .before .before .word-at3 .ensures, ← c .before .look-up6 .ensures) (c .row-after2 .ensures),

@@ -1,19 +1,14 @@
+-- `checker::frame::row_after` meets its contract.
 use borrow.Author.Needs.{needs}
 use Rattle.checker.proofs.frame.row_after.Statement.{statement}
 use Rattle.checker.proofs.frame.row_after.Tie as tie
-use Rattle.checker.proofs.frame.row_after.Reads as reads
-use Rattle.checker.proofs.frame.row_after.Lts as lts
-use Rattle.checker.proofs.words.stage_shown.Reads as stage-shown-reads
 
--- src/frame.rt:88:16
 stage-shown-requires : tie.Need-stage-shown-requires
 stage-shown-requires c κs = search needs
 
--- src/frame.rt:88:16
 add-t5 : tie.Need-add-t5
 add-t5 c = search needs
 
--- src/frame.rt:81:1
 returns : tie.Need-returns
 returns c = rw (c .stage-shown .ensures .0)
 

@@ -1,47 +1,36 @@
-use borrow.Author.Tests.{le-ltb, lt-ltb, ne-eqb}
+-- `checker::notes::look_up` meets its contract.
 use borrow.Author.Needs.{needs}
+use borrow.Author.Tests.{le-ltb, lt-ltb, ne-eqb}
 use Rattle.checker.proofs.notes.look_up.Statement.{statement}
 use Rattle.checker.proofs.notes.look_up.Tie as tie
-use Rattle.checker.proofs.notes.look_up.Reads as reads
-use Rattle.checker.proofs.notes.look_up.Lts as lts
 
--- src/notes.rt:30:9
 returns : tie.Need-returns
 returns c = rw (le-ltb _ _ (c .if1 .taken))
 
--- src/notes.rt:32:23
 mul-label : tie.Need-mul-label
 mul-label c = search needs
 
--- src/notes.rt:32:17
 mul-label-2 : tie.Need-mul-label-2
 mul-label-2 c = search needs
 
--- src/notes.rt:32:17
 shared-slice-read-label : tie.Need-shared-slice-read-label
 shared-slice-read-label c = search needs
 
--- src/notes.rt:34:9
 returns-2 : tie.Need-returns-2
 returns-2 c = rw (lt-ltb _ _ (c .before .before .if1 .left), c .if2 .taken)
 
--- src/notes.rt:38:22
 mul-t7 : tie.Need-mul-t7
 mul-t7 c = search needs
 
--- src/notes.rt:38:22
 add-t8 : tie.Need-add-t8
 add-t8 c = search needs
 
--- src/notes.rt:38:16
 mul-t11 : tie.Need-mul-t11
 mul-t11 c = search needs
 
--- src/notes.rt:38:16
 shared-slice-read-t10 : tie.Need-shared-slice-read-t10
 shared-slice-read-t10 c = search needs
 
--- src/notes.rt:24:1
 returns-3 : tie.Need-returns-3
 returns-3 c = rw (lt-ltb _ _ (c .before .before .before .if1 .left), ne-eqb _ _ (c .before .if2 .left))
 

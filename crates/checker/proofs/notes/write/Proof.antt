@@ -1,34 +1,26 @@
-use Rattle.checker.proofs.Stores.{stores-made}
-use Rattle.checker.specs.Sheet.{namedWords}
-use denote.Ref.{now}
-use lib.Seq.{sets}
-use Prim.Native.Nat.{_+_, _*_}
+-- `checker::notes::write` meets its contract.
 use mathlib.Core.Path.{ap, _∙_}
+use Prim.Native.Nat.{_+_, _*_}
+use lib.Seq.{sets}
 use borrow.Author.Needs.{needs}
+use denote.Ref.{now}
+use Rattle.checker.specs.Sheet.{namedWords}
+use Rattle.checker.proofs.Stores.{stores-made}
 use Rattle.checker.proofs.notes.write.Statement.{statement}
 use Rattle.checker.proofs.notes.write.Tie as tie
-use Rattle.checker.proofs.notes.write.Reads as reads
-use Rattle.checker.proofs.notes.write.Lts as lts
-use Rattle.checker.proofs.notes.write_inner.Reads as write-inner-reads
-use Rattle.checker.proofs.notes.write_named.Reads as write-named-reads
 
--- src/notes.rt:75:5
 write-inner-requires : tie.Need-write-inner-requires
 write-inner-requires c κs = search needs
 
--- src/notes.rt:76:24
 add-write-named : tie.Need-add-write-named
 add-write-named c = search needs
 
--- src/notes.rt:76:5
 write-named-requires : tie.Need-write-named-requires
 write-named-requires c κs = search needs
 
--- src/notes.rt:71:1
 same-length : tie.Need-same-length
 same-length c = search needs
 
--- src/notes.rt:71:1
 returns : tie.Need-returns
 returns c =
     let from = c .before .before .before .before .before .before .before .before .before .before .args .from in

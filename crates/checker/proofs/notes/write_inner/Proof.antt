@@ -1,15 +1,14 @@
-use Rattle.checker.proofs.Stores.{store-start, store-turn, inner-turn, inner-end}
-use Rattle.checker.specs.Sheet.{innerWords}
-use lib.Seq.{sets}
-use lib.ListN.{length, length-set}
-use native.Mathlib.Omega.{arith}
-use Prim.Native.Nat.{_+_, _*_, _-_, _≤_}
+-- `checker::notes::write_inner` meets its contract.
 use mathlib.Core.Path.{_≡_, sym, ap, _∙_}
+use Prim.Native.Nat.{_+_, _*_, _-_, _≤_}
+use native.Mathlib.Omega.{arith}
+use lib.ListN.{length, length-set}
+use lib.Seq.{sets}
 use borrow.Author.Needs.{needs}
+use Rattle.checker.specs.Sheet.{innerWords}
+use Rattle.checker.proofs.Stores.{store-start, store-turn, inner-turn, inner-end}
 use Rattle.checker.proofs.notes.write_inner.Statement.{statement}
 use Rattle.checker.proofs.notes.write_inner.Tie as tie
-use Rattle.checker.proofs.notes.write_inner.Reads as reads
-use Rattle.checker.proofs.notes.write_inner.Lts as lts
 
 abbrev Inv-loop : tie.InvT-loop
 Inv-loop notes₀ from count start i₀ notes i =
@@ -19,47 +18,36 @@ Inv-loop notes₀ from count start i₀ notes i =
 abbrev μ-loop : tie.MeasureT-loop
 μ-loop notes₀ from count start i₀ notes i = count - i
 
--- src/notes.rt:47:17
 mul-start : tie.Need-mul-start Inv-loop μ-loop
 mul-start c = search needs
 
--- src/notes.rt:49:5
 loop-holds : tie.Need-loop-holds Inv-loop μ-loop
 loop-holds c = (search needs, search needs, search needs, store-start (c .args .notes .now) (c .args .from) 0 (c .args .count) (λ l k. innerWords k))
 
--- src/notes.rt:50:23
 mul-notes : tie.Need-mul-notes Inv-loop μ-loop
 mul-notes c = search needs
 
--- src/notes.rt:50:15
 add-notes : tie.Need-add-notes Inv-loop μ-loop
 add-notes c = search needs
 
--- src/notes.rt:50:9
 mul-notes-2 : tie.Need-mul-notes-2 Inv-loop μ-loop
 mul-notes-2 c = search needs
 
--- src/notes.rt:50:9
 slice-write-notes : tie.Need-slice-write-notes Inv-loop μ-loop
 slice-write-notes c = search needs
 
--- src/notes.rt:51:23
 mul-notes-3 : tie.Need-mul-notes-3 Inv-loop μ-loop
 mul-notes-3 c = search needs
 
--- src/notes.rt:51:15
 add-notes-2 : tie.Need-add-notes-2 Inv-loop μ-loop
 add-notes-2 c = search needs
 
--- src/notes.rt:51:15
 add-notes-3 : tie.Need-add-notes-3 Inv-loop μ-loop
 add-notes-3 c = search needs
 
--- src/notes.rt:51:9
 mul-notes-4 : tie.Need-mul-notes-4 Inv-loop μ-loop
 mul-notes-4 c = search needs
 
--- src/notes.rt:51:9
 slice-write-notes-2 : tie.Need-slice-write-notes-2 Inv-loop μ-loop
 slice-write-notes-2 c =
     let n = c .before .loop .notes in
@@ -68,15 +56,12 @@ slice-write-notes-2 c =
     let count = c .before .before .args .count in
     omega (arith, length-set n (2 * from + 2 * i) 65535)
 
--- src/notes.rt:52:9
 add-i : tie.Need-add-i Inv-loop μ-loop
 add-i c = search needs
 
--- src/notes.rt:49:5
 loop-less : tie.Need-loop-less Inv-loop μ-loop
 loop-less c = search needs
 
--- src/notes.rt:49:5
 loop-again : tie.Need-loop-again Inv-loop μ-loop
 loop-again c =
     let n = c .before .loop .notes in
@@ -89,11 +74,9 @@ loop-again c =
       c .before .loop .inv .3 ∙ store-turn n from i 65535 65535 (innerWords (count - i)) (innerWords (count - (i + 1))) (inner-turn count i (c .loop-test .taken)),
     )
 
--- src/notes.rt:43:1
 same-length : tie.Need-same-length Inv-loop μ-loop
 same-length c = search needs
 
--- src/notes.rt:43:1
 returns : tie.Need-returns Inv-loop μ-loop
 returns c =
     let n = c .before .loop .notes in

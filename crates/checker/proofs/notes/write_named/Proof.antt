@@ -1,15 +1,14 @@
-use Rattle.checker.proofs.Stores.{store-start, store-turn, named-turn, named-end}
-use Rattle.checker.specs.Sheet.{namedWords}
-use lib.Seq.{sets}
-use lib.ListN.{length, length-set}
-use native.Mathlib.Omega.{arith}
-use Prim.Native.Nat.{_+_, _*_, _-_, _≤_}
+-- `checker::notes::write_named` meets its contract.
 use mathlib.Core.Path.{_≡_, sym, ap, _∙_}
+use Prim.Native.Nat.{_+_, _*_, _-_, _≤_}
+use native.Mathlib.Omega.{arith}
+use lib.ListN.{length, length-set}
+use lib.Seq.{sets}
 use borrow.Author.Needs.{needs}
+use Rattle.checker.specs.Sheet.{namedWords}
+use Rattle.checker.proofs.Stores.{store-start, store-turn, named-turn, named-end}
 use Rattle.checker.proofs.notes.write_named.Statement.{statement}
 use Rattle.checker.proofs.notes.write_named.Tie as tie
-use Rattle.checker.proofs.notes.write_named.Reads as reads
-use Rattle.checker.proofs.notes.write_named.Lts as lts
 
 abbrev Inv-loop : tie.InvT-loop
 Inv-loop notes₀ from count label stage start i₀ notes i =
@@ -19,59 +18,45 @@ Inv-loop notes₀ from count label stage start i₀ notes i =
 abbrev μ-loop : tie.MeasureT-loop
 μ-loop notes₀ from count label stage start i₀ notes i = count - i
 
--- src/notes.rt:61:17
 mul-start : tie.Need-mul-start Inv-loop μ-loop
 mul-start c = search needs
 
--- src/notes.rt:63:5
 loop-holds : tie.Need-loop-holds Inv-loop μ-loop
 loop-holds c = (search needs, search needs, search needs, store-start (c .args .notes .now) (c .args .from) (c .args .label) (c .args .count) (λ l k. namedWords l (c .args .stage) k))
 
--- src/notes.rt:64:33
 add-notes : tie.Need-add-notes Inv-loop μ-loop
 add-notes c = search needs
 
--- src/notes.rt:64:32
 cast-notes : tie.Need-cast-notes Inv-loop μ-loop
 cast-notes c = search needs
 
--- src/notes.rt:64:23
 mul-notes : tie.Need-mul-notes Inv-loop μ-loop
 mul-notes c = search needs
 
--- src/notes.rt:64:15
 add-notes-2 : tie.Need-add-notes-2 Inv-loop μ-loop
 add-notes-2 c = search needs
 
--- src/notes.rt:64:9
 mul-notes-2 : tie.Need-mul-notes-2 Inv-loop μ-loop
 mul-notes-2 c = search needs
 
--- src/notes.rt:64:9
 slice-write-notes : tie.Need-slice-write-notes Inv-loop μ-loop
 slice-write-notes c = search needs
 
--- src/notes.rt:65:36
 cast-notes-2 : tie.Need-cast-notes-2 Inv-loop μ-loop
 cast-notes-2 c = search needs
 
--- src/notes.rt:65:23
 mul-notes-3 : tie.Need-mul-notes-3 Inv-loop μ-loop
 mul-notes-3 c = search needs
 
--- src/notes.rt:65:15
 add-notes-3 : tie.Need-add-notes-3 Inv-loop μ-loop
 add-notes-3 c = search needs
 
--- src/notes.rt:65:15
 add-notes-4 : tie.Need-add-notes-4 Inv-loop μ-loop
 add-notes-4 c = search needs
 
--- src/notes.rt:65:9
 mul-notes-4 : tie.Need-mul-notes-4 Inv-loop μ-loop
 mul-notes-4 c = search needs
 
--- src/notes.rt:65:9
 slice-write-notes-2 : tie.Need-slice-write-notes-2 Inv-loop μ-loop
 slice-write-notes-2 c =
     let n = c .before .loop .notes in
@@ -82,15 +67,12 @@ slice-write-notes-2 c =
     let stage = c .before .before .args .stage in
     omega (arith, length-set n (2 * from + 2 * i) (label + i))
 
--- src/notes.rt:66:9
 add-i : tie.Need-add-i Inv-loop μ-loop
 add-i c = search needs
 
--- src/notes.rt:63:5
 loop-less : tie.Need-loop-less Inv-loop μ-loop
 loop-less c = search needs
 
--- src/notes.rt:63:5
 loop-again : tie.Need-loop-again Inv-loop μ-loop
 loop-again c =
     let n = c .before .loop .notes in
@@ -106,11 +88,9 @@ loop-again c =
           ∙ store-turn n from i (label + i) stage (namedWords (label + i) stage (count - i)) (namedWords (label + (i + 1)) stage (count - (i + 1))) (named-turn label stage count i (c .loop-test .taken)),
     )
 
--- src/notes.rt:57:1
 same-length : tie.Need-same-length Inv-loop μ-loop
 same-length c = search needs
 
--- src/notes.rt:57:1
 returns : tie.Need-returns Inv-loop μ-loop
 returns c =
     let n = c .before .loop .notes in

@@ -1,23 +1,17 @@
-use Rattle.checker.proofs.Numbers.{Reached, reached-start, reached-word, broken-ends, words-end}
-use Rattle.checker.specs.Sheet.{noted, ruleOf, leadPlace, wordNumber, judged}
-use Rattle.checker.specs.Rules.{_then_, wordsRule}
-use Rattle.checker.specs.Kinds.{shape}
-use Rattle.checker.specs.Lists.{nth}
-use denote.Ref.{now}
-use lib.ListN.{length, drop, drop-of-length-le}
-use Prim.Native.Nat.{_+_, _-_, _≤_}
+-- `checker::words::first_broken` meets its contract.
 use mathlib.Core.List.{[]}
 use mathlib.Core.Path.{_≡_, sym, ap, ap₂, _∙_}
+use Prim.Native.Nat.{_+_, _-_, _≤_}
+use lib.ListN.{length, drop, drop-of-length-le}
 use borrow.Author.Needs.{needs}
+use denote.Ref.{now}
+use Rattle.checker.specs.Kinds.{shape}
+use Rattle.checker.specs.Lists.{nth}
+use Rattle.checker.specs.Rules.{_then_, wordsRule}
+use Rattle.checker.specs.Sheet.{noted, ruleOf, leadPlace, wordNumber, judged}
+use Rattle.checker.proofs.Numbers.{Reached, reached-start, reached-word, broken-ends, words-end}
 use Rattle.checker.proofs.words.first_broken.Statement.{statement}
 use Rattle.checker.proofs.words.first_broken.Tie as tie
-use Rattle.checker.proofs.words.first_broken.Reads as reads
-use Rattle.checker.proofs.words.first_broken.Lts as lts
-use Rattle.checker.proofs.notes.look_up.Reads as look-up-reads
-use Rattle.checker.proofs.walk.word_at.Reads as word-at-reads
-use Rattle.checker.proofs.words.lead_place.Reads as lead-place-reads
-use Rattle.checker.proofs.words.rule_at.Reads as rule-at-reads
-use Rattle.checker.proofs.words.word_broken.Reads as word-broken-reads
 
 abbrev Inv-loop : tie.InvT-loop
 Inv-loop form d used wires ops notes i₀ i = (i ≤ length ops) × Reached form d used wires ops notes i
@@ -25,47 +19,36 @@ Inv-loop form d used wires ops notes i₀ i = (i ≤ length ops) × Reached form
 abbrev μ-loop : tie.MeasureT-loop
 μ-loop form d used wires ops notes i₀ i = length ops - i
 
--- src/words.rt:163:5
 loop-holds : tie.Need-loop-holds Inv-loop μ-loop
 loop-holds c = (search needs, reached-start (c .before .before .args .form) (c .before .before .args .d) (c .before .before .args .used) (c .before .before .args .wires) (now (c .before .before .args .ops)) (now (c .before .before .args .notes)))
 
--- src/words.rt:164:13
 rule-at-requires : tie.Need-rule-at-requires Inv-loop μ-loop
 rule-at-requires c κs = search needs
 
--- src/words.rt:165:13
 lead-place-requires : tie.Need-lead-place-requires Inv-loop μ-loop
 lead-place-requires c κs = search needs
 
--- src/words.rt:166:17
 mul-x : tie.Need-mul-x Inv-loop μ-loop
 mul-x c = search needs
 
--- src/words.rt:166:17
 shared-slice-read-x : tie.Need-shared-slice-read-x Inv-loop μ-loop
 shared-slice-read-x c = search needs
 
--- src/words.rt:167:13
 look-up-requires : tie.Need-look-up-requires Inv-loop μ-loop
 look-up-requires c κs = search needs
 
--- src/words.rt:168:49
 word-at-requires : tie.Need-word-at-requires Inv-loop μ-loop
 word-at-requires c κs = search needs
 
--- src/words.rt:168:13
 look-up-requires-2 : tie.Need-look-up-requires-2 Inv-loop μ-loop
 look-up-requires-2 c κs = search needs
 
--- src/words.rt:169:13
 word-broken-requires : tie.Need-word-broken-requires Inv-loop μ-loop
 word-broken-requires c κs = search needs
 
--- src/words.rt:173:23
 add-t18 : tie.Need-add-t18 Inv-loop μ-loop
 add-t18 c = search needs
 
--- src/words.rt:171:13
 returns : tie.Need-returns Inv-loop μ-loop
 returns c =
     let form = c .before .before .before .before .before .before .before .before .before .before .before .before .args .form in
@@ -87,15 +70,12 @@ returns c =
           ∙ broken-ends (c .before .word-broken .result) f (i + 1) (wordsRule k f ops (i + 1 + 1) (drop (i + 1) (shape d kind .rules)) (drop (i + 1) ops)) (c .if1 .taken));
     }
 
--- src/words.rt:176:9
 add-i : tie.Need-add-i Inv-loop μ-loop
 add-i c = search needs
 
--- src/words.rt:163:5
 loop-less : tie.Need-loop-less Inv-loop μ-loop
 loop-less c = search needs
 
--- src/words.rt:163:5
 loop-again : tie.Need-loop-again Inv-loop μ-loop
 loop-again c =
     let form = c .before .before .before .before .before .before .before .before .before .before .before .before .args .form in
@@ -116,7 +96,6 @@ loop-again c =
           ∙ ap (λ n. judged n f (i + 1) then wordsRule k f ops (i + 1 + 1) (drop (i + 1) (shape d kind .rules)) (drop (i + 1) ops)) (sym number ∙ c .if1 .left),
     )
 
--- src/words.rt:151:1
 returns-2 : tie.Need-returns-2 Inv-loop μ-loop
 returns-2 c =
     let ops = now (c .before .before .before .before .args .ops) in
