@@ -1,4 +1,5 @@
 //! The second program for document 01, and what compares it with the proved code.
+pub mod builder;
 pub mod calls;
 pub mod generate;
 pub mod mask;
