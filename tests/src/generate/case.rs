@@ -2,6 +2,7 @@
 use super::circuit::{circuit, Shape};
 use super::damage::{damaged_lines, noise};
 use super::limits::limit;
+use super::near::near_frame;
 use super::random::Random;
 use super::text::random_text;
 use crate::reference::check::{walk, Rules};
@@ -40,7 +41,7 @@ pub fn case(random: &mut Random) -> Case {
     }
 }
 
-/// Frames: valid, damaged, or at a limit.
+/// Frames: valid, damaged, with a last one nearly right, or at a limit.
 fn lines(random: &mut Random) -> Vec<Vec<u16>> {
     if random.once_in(32) {
         return limit(random).lines();
@@ -48,10 +49,15 @@ fn lines(random: &mut Random) -> Vec<Vec<u16>> {
     let most_frames = if random.once_in(16) { 400 } else { 40 };
     let shape = Shape::random(random, most_frames);
     let builder = circuit(random, shape);
-    if random.once_in(2) {
-        return builder.lines();
+    match random.below(4) {
+        0 | 1 => builder.lines(),
+        2 => damaged_lines(random, &builder),
+        _ => {
+            let mut lines = builder.lines();
+            lines.push(near_frame(random, &builder));
+            lines
+        }
     }
-    damaged_lines(random, &builder)
 }
 
 /// A buffer's length: mostly enough, now and then too short.

@@ -7,19 +7,32 @@ const MOST: usize = 8192;
 const LAST_STAGE: usize = 255;
 
 /// The wires that frames may name, by stage, then label.
-struct Pool {
+pub struct Pool {
     wires: BTreeMap<usize, Vec<Vec<u16>>>,
     d: usize,
 }
 
 impl Pool {
+    fn new(d: usize) -> Pool {
+        Pool { wires: BTreeMap::new(), d }
+    }
+
+    /// All that a circuit has made.
+    pub fn of(builder: &Builder) -> Pool {
+        let mut pool = Pool::new(builder.d);
+        for wire in (0..builder.wires()).filter(|&wire| builder.places[wire].is_some()) {
+            pool.add(builder, wire as u16);
+        }
+        pool
+    }
+
     fn add(&mut self, builder: &Builder, wire: u16) {
         let (label, stage) = builder.place(wire);
         self.wires.entry(stage).or_insert_with(|| vec![Vec::new(); self.d])[label].push(wire);
     }
 
     /// Stages where each label has a wire.
-    fn full_stages(&self) -> Vec<usize> {
+    pub fn full_stages(&self) -> Vec<usize> {
         let full = |labels: &Vec<Vec<u16>>| labels.iter().all(|wires| !wires.is_empty());
         self.wires.iter().filter(|(_, labels)| full(labels)).map(|(&stage, _)| stage).collect()
     }
@@ -31,7 +44,7 @@ impl Pool {
         random.pick(&wires[from..])
     }
 
-    fn row(&self, random: &mut Random, stage: usize) -> Vec<u16> {
+    pub fn row(&self, random: &mut Random, stage: usize) -> Vec<u16> {
         (0..self.d).map(|label| self.wire(random, label, stage)).collect()
     }
 }
@@ -63,7 +76,7 @@ impl Shape {
 /// A circuit that the checker accepts.
 pub fn circuit(random: &mut Random, shape: Shape) -> Builder {
     let mut builder = Builder::new(shape.d);
-    let mut pool = Pool { wires: BTreeMap::new(), d: shape.d };
+    let mut pool = Pool::new(shape.d);
     for _ in 0..shape.frames {
         for wire in step(random, shape, &mut builder, &pool) {
             pool.add(&builder, wire);

@@ -55,15 +55,23 @@ fn many_gadgets(random: &mut Random) -> Builder {
     builder
 }
 
-/// INs and CONs only, up to the limit of wires.
+/// INs and CONs only, up to the limit of wires; then at times a frame that passes stage 255 too.
 fn many_inputs(random: &mut Random) -> Builder {
     let mut builder = Builder::new(random.within(2, 8));
     let target = random.within(8189, 8194);
     let d = builder.d;
+    let before = builder.input(254);
+    let row = builder.input(255);
     while builder.wires() + d <= target && builder.table.len() + 2 <= 8192 {
         builder.input(random.below(256));
     }
     fill(random, &mut builder, target);
+    match random.below(5) {
+        0 => drop(builder.register(row[0])),
+        1 => drop(builder.refresh(&row)),
+        2 => drop(builder.and(&row, &before)),
+        _ => (),
+    }
     builder
 }
 

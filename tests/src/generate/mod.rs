@@ -3,6 +3,7 @@ pub mod case;
 pub mod circuit;
 pub mod damage;
 pub mod limits;
+pub mod near;
 pub mod probes;
 pub mod random;
 pub mod text;

@@ -12,25 +12,29 @@ const DIGITS: [u8; 256] = {
     digits
 };
 
+/// Words of the longest frame: AND with 8 shares.
+const LONGEST: usize = 18;
+
 pub fn read(text: &[u8], table: &mut [u16]) -> Result<usize, Refused> {
     if text.is_empty() {
         return Err((3, 0, 0));
     }
     let room = table.len().min(8192);
     let mut sizes = Sizes { words: [0; 9], wires: [0; 9] };
-    let (mut at, mut used, mut line) = (0, 0, 0);
-    while at < text.len() {
-        let (first, second, words) = scan(&text[at..], line)?;
+    let mut line_words = [0; LONGEST];
+    let (mut rest, mut used, mut line) = (text, 0, 0);
+    while !rest.is_empty() {
+        let words = scan(rest, &mut line_words).ok_or((20, line, 0))?;
         if line == 0 {
-            if words != 2 || first != 0 {
+            if words != 2 || line_words[0] != 0 {
                 return Err((3, 0, 0));
             }
-            if !(2..=8).contains(&second) {
+            if !(2..=8).contains(&line_words[1]) {
                 return Err((4, 0, 1));
             }
-            sizes = Sizes::new(usize::from(second));
+            sizes = Sizes::new(usize::from(line_words[1]));
         } else {
-            match sizes.words.get(usize::from(first)) {
+            match sizes.words.get(usize::from(line_words[0])) {
                 None | Some(0) => return Err((5, line, 0)),
                 Some(&length) if usize::from(length) != words => return Err((6, line, 0)),
                 Some(_) => (),
@@ -39,46 +43,30 @@ pub fn read(text: &[u8], table: &mut [u16]) -> Result<usize, Refused> {
         if words > room - used {
             return Err((21, line, 0));
         }
-        let bytes = text[at..at + 5 * words].chunks_exact(5);
-        for (place, digits) in table[used..used + words].iter_mut().zip(bytes) {
-            *place = word(digits);
-        }
+        table[used..used + words].copy_from_slice(&line_words[..words]);
         used += words;
-        at += 5 * words;
+        rest = &rest[5 * words..];
         line += 1;
     }
     Ok(used)
 }
 
-/// The number that four good digits give.
+/// The first line's number of words, its first ones kept; None where it is not of the line's form.
 #[inline(always)]
-fn word(digits: &[u8]) -> u16 {
-    digits[..4].iter().fold(0, |value, &digit| value << 4 | u16::from(DIGITS[usize::from(digit)]))
-}
-
-/// A line's first two words and its number of words; refused where it is not of the line's form.
-#[inline(always)]
-fn scan(text: &[u8], line: usize) -> Result<(u16, u16, usize), Refused> {
-    let mut words = 0;
-    let mut first_two = [0; 2];
-    for chunk in text.chunks_exact(5) {
-        let mut value = 0;
-        let mut wrong = 0;
-        for &digit in &chunk[..4] {
-            let digit = DIGITS[usize::from(digit)];
-            wrong |= digit;
-            value = value << 4 | u16::from(digit & 15);
+fn scan(text: &[u8], line_words: &mut [u16; LONGEST]) -> Option<usize> {
+    for (at, chunk) in text.chunks_exact(5).enumerate() {
+        let [w, x, y, z] = [0, 1, 2, 3].map(|k| DIGITS[usize::from(chunk[k])]);
+        if (w | x | y | z) > 15 {
+            return None;
         }
-        if wrong > 15 || (chunk[4] != b' ' && chunk[4] != b'\n') {
-            break;
+        if let Some(place) = line_words.get_mut(at) {
+            *place = u16::from(w << 4 | x) << 8 | u16::from(y << 4 | z);
         }
-        if let Some(place) = first_two.get_mut(words) {
-            *place = value;
-        }
-        words += 1;
-        if chunk[4] == b'\n' {
-            return Ok((first_two[0], first_two[1], words));
+        match chunk[4] {
+            b'\n' => return Some(at + 1),
+            b' ' => (),
+            _ => return None,
         }
     }
-    Err((20, line, 0))
+    None
 }
