@@ -76,7 +76,7 @@ impl Load {
     fn medians(&mut self, call: usize, subject: &dyn Calls, rounds: usize) -> (f64, f64) {
         let (mut ours, mut theirs) = (Vec::new(), Vec::new());
         let once = self.time(call, subject, 3).max(0.1);
-        let times = (500.0 / once).clamp(1.0, 2000.0) as usize;
+        let times = (2000.0 / once).clamp(1.0, 20_000.0) as usize;
         for _ in 0..rounds {
             ours.push(self.time(call, subject, times));
             theirs.push(self.time(call, &Tuned, times));
@@ -137,7 +137,13 @@ fn main() {
     let (subject, name) = subject();
     println!("benchmark: {name} and the tuned opponent; medians of {rounds} turns, microseconds");
     println!("each call: first program, opponent, ratio");
-    println!("{:<22}{:>6}{:>6} {}", "", "words", "wires", NAMES.map(|n| format!("{n:>23}")).concat());
+    println!(
+        "{:<22}{:>6}{:>6} {}",
+        "",
+        "words",
+        "wires",
+        NAMES.map(|n| format!("{n:>23}")).concat()
+    );
     let largest = [
         ("AES S-box, d 5", mask(&aes().netlist, 5).builder),
         ("gates, d 2", gates(2, 8192)),

@@ -3,6 +3,7 @@ use masked_tests::calls::{Answer, Calls};
 use masked_tests::generate::case::{case, Case};
 use masked_tests::generate::random::Random;
 use masked_tests::options;
+use masked_tests::reference::check::frame_length;
 use masked_tests::reference::Reference;
 use std::process::exit;
 
@@ -117,9 +118,48 @@ fn print_rules(met: &[[u64; 22]; 4]) -> usize {
         };
         let cells: Vec<String> = (0..4).map(cell).collect();
         missing += cells.iter().filter(|cell| *cell == "NEVER").count();
-        println!("{name:<11}{}", cells.iter().map(|cell| format!("{cell:>12}")).collect::<String>());
+        println!(
+            "{name:<11}{}",
+            cells.iter().map(|cell| format!("{cell:>12}")).collect::<String>()
+        );
     }
     missing
+}
+
+/// What the accepted circuits were made of.
+#[derive(Default)]
+struct Shapes {
+    by_shares: [u64; 9],
+    frames: [u64; 9],
+    most_words: usize,
+    most_wires: u64,
+}
+
+impl Shapes {
+    fn note(&mut self, table: &[u16], answer: Answer) {
+        if answer.result != 0 {
+            return;
+        }
+        let d = usize::from(table[1]);
+        self.by_shares[d] += 1;
+        self.most_words = self.most_words.max(table.len());
+        self.most_wires = self.most_wires.max(answer.numbers[0]);
+        let mut at = 2;
+        while at < table.len() {
+            self.frames[usize::from(table[at])] += 1;
+            at += frame_length(table[at], d).expect("an accepted table has no other kind");
+        }
+    }
+
+    fn print(&self) {
+        let shares: Vec<String> = (2..9).map(|d| format!("d {d}: {}", self.by_shares[d])).collect();
+        println!("accepted circuits: {}", shares.join(", "));
+        let names = ["IN", "CON", "XOR", "NOT", "REG", "AND", "REF", "OUT"];
+        let frames =
+            names.iter().zip(&self.frames[1..]).map(|(name, count)| format!("{name} {count}"));
+        println!("their frames: {}", frames.collect::<Vec<_>>().join(", "));
+        println!("the largest: {} words, {} wires", self.most_words, self.most_wires);
+    }
 }
 
 #[cfg(feature = "proved")]
@@ -143,6 +183,7 @@ fn main() {
     let (other, name) = other(options::text("against"));
     println!("compare: the reference with {name}, {count} circuits, seed {seed}");
     let mut met = [[0; 22]; 4];
+    let mut shapes = Shapes::default();
     let mut failed = 0;
     for number in first..first + count {
         let mut random = Random::of_case(seed, number);
@@ -153,6 +194,7 @@ fn main() {
         match answers {
             Ok(answers) => {
                 (0..4).for_each(|call| met[call][answers[call].result as usize] += 1);
+                shapes.note(&case.table, answers[0]);
             }
             Err(what) => {
                 failed += 1;
@@ -162,6 +204,7 @@ fn main() {
             }
         }
     }
+    shapes.print();
     let missing = print_rules(&met);
     if missing > 0 && count > 1000 {
         println!("compare: {missing} rules were never met by a call that has them");

@@ -47,7 +47,8 @@ impl Netlist {
 
     /// Number of AND, XOR and NOT gates.
     pub fn sizes(&self) -> [usize; 3] {
-        let count = |wanted: fn(&Gate) -> bool| self.gates.iter().filter(|gate| wanted(gate)).count();
+        let count =
+            |wanted: fn(&Gate) -> bool| self.gates.iter().filter(|gate| wanted(gate)).count();
         [
             count(|gate| matches!(gate, Gate::And(..))),
             count(|gate| matches!(gate, Gate::Xor(..))),

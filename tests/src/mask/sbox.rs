@@ -48,8 +48,7 @@ y1 = t3 ^ t9
 
 pub fn present() -> Sbox {
     let table = vec![12, 5, 6, 11, 9, 0, 10, 13, 3, 14, 15, 8, 4, 7, 1, 2];
-    let netlist =
-        Netlist::parse(&["x0", "x1", "x2", "x3"], PRESENT, &["y0", "y1", "y2", "y3"]);
+    let netlist = Netlist::parse(&["x0", "x1", "x2", "x3"], PRESENT, &["y0", "y1", "y2", "y3"]);
     Sbox { name: "present", bits: 4, table, netlist }
 }
 

@@ -22,7 +22,13 @@ fn table(text: &str) -> Vec<u16> {
 fn run_a(probes: &[u16]) -> (Vec<u8>, Vec<u8>) {
     let (mut notes, mut values, mut reading) = (vec![7; 16384], vec![9; 8192], vec![9; 8192]);
     let answer = Reference.read_probes(
-        &table(CIRCUIT_A), &mut notes, &[1, 0, 1, 1], &[1], &mut values, probes, &mut reading,
+        &table(CIRCUIT_A),
+        &mut notes,
+        &[1, 0, 1, 1],
+        &[1],
+        &mut values,
+        probes,
+        &mut reading,
     );
     assert_eq!(answer, Answer::new(0, [26, 1, 2]));
     (values, reading)
@@ -41,8 +47,7 @@ fn circuit_a() {
 #[test]
 fn a1_values() {
     let (values, reading) = run_a(&[]);
-    let wanted =
-        [1, 0, 1, 1, 1, 1, 1, 1, 1, 1, 0, 0, 0, 0, 0, 0, 0, 0, 1, 1, 0, 0, 0, 0, 1, 1];
+    let wanted = [1, 0, 1, 1, 1, 1, 1, 1, 1, 1, 0, 0, 0, 0, 0, 0, 0, 0, 1, 1, 0, 0, 0, 0, 1, 1];
     assert_eq!(values[..26], wanted);
     assert!(values[26..].iter().all(|&value| value == 9));
     assert!(reading.iter().all(|&value| value == 2));

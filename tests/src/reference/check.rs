@@ -181,7 +181,12 @@ fn take_xor(circuit: &mut Circuit, words: &[u16], rules: Rules) -> Result<(), Fa
 }
 
 /// Adds the one wire of a gate.
-fn take_gate(circuit: &mut Circuit, label: usize, stage: usize, source: Source) -> Result<(), Fault> {
+fn take_gate(
+    circuit: &mut Circuit,
+    label: usize,
+    stage: usize,
+    source: Source,
+) -> Result<(), Fault> {
     let mut new = NewWires::after(circuit);
     new.open(label, stage, source);
     add(circuit, stage, new)

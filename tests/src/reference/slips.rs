@@ -43,7 +43,8 @@ fn a_pair_shares_one_random_bit() {
         assert_eq!(circuit.randoms, pairs);
         assert_eq!(circuit.wires.len(), usize::from(2 * d + 7 * d * (d - 1) + 4 * d));
         for round in 0..64usize {
-            let bit = |at: usize| ((round * 2_654_435_761 + at * 40_503 * (round + 3)) >> 7) as u8 & 1;
+            let bit =
+                |at: usize| ((round * 2_654_435_761 + at * 40_503 * (round + 3)) >> 7) as u8 & 1;
             let shares: Vec<u8> = (0..2 * usize::from(d)).map(bit).collect();
             let tape: Vec<u8> = (0..pairs).map(|at| bit(at + 99)).collect();
             let values = values(&circuit, &shares, &tape);
@@ -73,7 +74,8 @@ fn a_refresh_keeps_the_secret_and_reads_as_registers() {
         assert_eq!(Vec::from_iter(observed(&circuit, &[output])), [usize::from(output)]);
         assert_eq!(observed(&circuit, &[output - d]).len(), usize::from(d));
         for round in 0..32u32 {
-            let shares: Vec<u8> = (0..u32::from(d)).map(|at| (round >> (at % 5)) as u8 & 1).collect();
+            let shares: Vec<u8> =
+                (0..u32::from(d)).map(|at| (round >> (at % 5)) as u8 & 1).collect();
             let tape: Vec<u8> =
                 (0..u32::from(pairs)).map(|at| ((round * 7 + at * 5) >> 2) as u8 & 1).collect();
             let values = values(&circuit, &shares, &tape);

@@ -86,6 +86,7 @@ fn taken(mark: &mut u8) -> bool {
     reached
 }
 
+/// AND, from its outputs back to its stops.
 fn and(d: usize, words: &[u16], old: &mut [u8], new: &mut [u8], values: &[u8]) {
     if !new.contains(&REACHED) {
         return;
@@ -108,19 +109,8 @@ fn and(d: usize, words: &[u16], old: &mut [u8], new: &mut [u8], values: &[u8]) {
         for k in 0..d - 1 {
             let j = k + usize::from(k >= i);
             let at = first_cross + 6 * (i * (d - 1) + k);
-            let pair = 2 * pair(d, i.min(j), i.max(j));
-            if taken(&mut new[at]) {
-                old[a] = REACHED;
-                new[pair + 1] = REACHED;
-            }
-            if taken(&mut new[at + 2]) {
-                old[usize::from(words[d + j])] = REACHED;
-                new[pair] = REACHED;
-            }
-            if taken(&mut new[at + 4]) {
-                old[a] = REACHED;
-                new[at + 3] = REACHED;
-            }
+            let random = 2 * pair(d, i.min(j), i.max(j));
+            cross(a, usize::from(words[d + j]), random, at, old, new);
         }
         let at = first_own + 3 * i;
         if taken(&mut new[at + 1]) {
@@ -129,6 +119,23 @@ fn and(d: usize, words: &[u16], old: &mut [u8], new: &mut [u8], values: &[u8]) {
         }
     }
     settle(new, values);
+}
+
+/// The gates u, v and w of one pair; its six wires begin at `at`, r and R at `random`.
+#[inline(always)]
+fn cross(a: usize, b: usize, random: usize, at: usize, old: &mut [u8], new: &mut [u8]) {
+    if taken(&mut new[at]) {
+        old[a] = REACHED;
+        new[random + 1] = REACHED;
+    }
+    if taken(&mut new[at + 2]) {
+        old[b] = REACHED;
+        new[random] = REACHED;
+    }
+    if taken(&mut new[at + 4]) {
+        old[a] = REACHED;
+        new[at + 3] = REACHED;
+    }
 }
 
 /// The place of the pair i<j, by i, then j.
