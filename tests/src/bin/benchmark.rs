@@ -98,7 +98,7 @@ fn gates(d: usize, words: usize) -> Builder {
     while builder.table.len() + 7 * d <= words {
         let summed: Vec<u16> = row.iter().map(|&wire| builder.xor(wire, wire)).collect();
         row = summed.iter().map(|&wire| builder.not(wire)).collect();
-        if stage < 200 && builder.table.len() % 5 == 0 {
+        if stage < 200 && builder.table.len().is_multiple_of(5) {
             row = row.iter().map(|&wire| builder.register(wire)).collect();
             stage += 1;
         }

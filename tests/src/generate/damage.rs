@@ -32,7 +32,7 @@ fn set(line: &mut [u16], at: usize, word: u16) {
     }
 }
 
-fn drop_word(random: &mut Random, lines: &mut Vec<Vec<u16>>) {
+fn drop_word(random: &mut Random, lines: &mut [Vec<u16>]) {
     let at = if random.once_in(2) { lines.len() - 1 } else { random.below(lines.len()) };
     let line = &mut lines[at];
     if !line.is_empty() {

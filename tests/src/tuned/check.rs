@@ -41,7 +41,7 @@ pub fn check(table: &[u16], notes: &mut [u16]) -> Result<Found, Refused> {
             return Err((6, frame, 0));
         };
         let made = usize::from(sizes.wires[usize::from(kind)]);
-        match pass.frame(words, made) {
+        match pass.frame(kind, words, made) {
             Ok(stage) if kind == 8 => latency = stage.max(latency),
             Ok(_) => inputs += usize::from(kind == 1),
             Err((rule, word)) => return Err((rule, frame, word)),
@@ -56,21 +56,17 @@ pub fn check(table: &[u16], notes: &mut [u16]) -> Result<Found, Refused> {
 impl Pass<'_> {
     /// One frame; gives the row's stage for OUT.
     #[inline(always)]
-    fn frame(&mut self, words: &[u16], made: usize) -> Result<u16, Fault> {
-        match *words {
-            [1, stage] => self.input(stage),
-            [2, label, value, stage] => self.constant(label, value, stage),
-            [3, x, y] => self.xor(x, y),
-            [4, x] => {
-                let (label, stage) = self.named(x, 1)?;
-                self.one(label, stage)
+    fn frame(&mut self, kind: u16, words: &[u16], made: usize) -> Result<u16, Fault> {
+        match kind {
+            1 => self.input(words[1]),
+            2 => self.constant(words[1], words[2], words[3]),
+            3 => self.xor(words[1], words[2]),
+            4 | 5 => {
+                let (label, stage) = self.named(words[1], 1)?;
+                self.one(label, stage + (kind & 1))
             }
-            [5, x] => {
-                let (label, stage) = self.named(x, 1)?;
-                self.one(label, stage + 1)
-            }
-            [6, first, ..] => self.gadget(first, &words[2..], made, true),
-            [7, first, ..] => self.gadget(first, &words[2..], made, false),
+            6 => self.gadget(words[1], &words[2..], made, true),
+            7 => self.gadget(words[1], &words[2..], made, false),
             _ => self.row(&words[1..], 1),
         }
     }

@@ -48,17 +48,18 @@ pub fn write(table: &[u16], found: &Found, shares: &[u8], tape: &[u8], values: &
         let (words, after) = rest.split_at(usize::from(sizes.words[kind]));
         let made = usize::from(sizes.wires[kind]);
         let (old, new) = values.split_at_mut(wire);
-        match *words {
-            [1, _] => {
+        let value = |word: usize| old[usize::from(words[word])];
+        match kind {
+            1 => {
                 let (row, later) = shares.split_at(d);
                 new[..d].copy_from_slice(row);
                 shares = later;
             }
-            [2, _, value, _] => new[0] = value as u8,
-            [3, x, y] => new[0] = old[usize::from(x)] ^ old[usize::from(y)],
-            [4, x] => new[0] = 1 ^ old[usize::from(x)],
-            [5, x] => new[0] = old[usize::from(x)],
-            [6, _, ..] | [7, _, ..] => {
+            2 => new[0] = words[2] as u8,
+            3 => new[0] = value(1) ^ value(2),
+            4 => new[0] = 1 ^ value(1),
+            5 => new[0] = value(1),
+            6 | 7 => {
                 let (random, later) = tape.split_at(pairs);
                 if kind == 6 {
                     and(d, &words[2..], random, old, &mut new[..made]);
