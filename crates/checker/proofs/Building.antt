@@ -16,7 +16,7 @@ use Rattle.checker.proofs.Base.{every-of, AllFrom, Has, all-append, all
 use Rattle.checker.proofs.Numbered.{get-all, all-below, all-at}
 use Rattle.checker.proofs.Parts.{index-at, label-lt, InAND, and-parts, InREF, fresh, added, ref-parts}
 use Rattle.checker.proofs.Sizes.{made-size}
-use Rattle.checker.proofs.Composition.{Frame, Row, Fits, fit-IN, fit-CON, fit-XOR, fit-NOT, fit-REG, fit-AND, fit-REF, fit-OUT, AllFit, done, next, build}
+use Rattle.checker.specs.Composition.{Frame, Row, Fits, fit-IN, fit-CON, fit-XOR, fit-NOT, fit-REG, fit-AND, fit-REF, fit-OUT, AllFit, done, next, build}
 
 -- the wire of a number; a constant, where there is no such wire
 abbrev pub wireAt : Circuit → ℕ → Wire

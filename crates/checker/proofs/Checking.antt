@@ -26,7 +26,7 @@ use Rattle.checker.specs.Answer.{said, answer, verdictOf, notesAfter}
 use Rattle.checker.specs.Walk.{kindCode, shapeCode, frameCode, operandsAt, behind, stepAt}
 use Rattle.checker.specs.Sheet.{judged, tallyOf, judgementIn, laterRule, notesAdded, FrameOf, Placed, Adds, headNumber}
 use Rattle.checker.proofs.Base.{cases}
-use Rattle.checker.proofs.Composition.{kindWord}
+use Rattle.checker.specs.Composition.{kindWord}
 use Rattle.checker.proofs.Building.{Lawful, size-extend}
 use Rattle.checker.proofs.Steps.{frames-pass, frames-refuse}
 use Rattle.checker.proofs.Fitting.{known, frame-pass}

@@ -17,7 +17,7 @@ use Rattle.checker.specs.Rules.{pass, wordsRule, frameRule}
 use Rattle.checker.proofs.Base.{and-left, and-right, and-both, all-append, all-left, all-right}
 use Rattle.checker.proofs.Numbered.{range-at, all-at, at-all}
 use Rattle.checker.proofs.Sizes.{labels-map}
-use Rattle.checker.proofs.Composition.{Fits, fit-IN, fit-CON, fit-XOR, fit-NOT, fit-REG, fit-AND, fit-REF, fit-OUT, kindWord}
+use Rattle.checker.specs.Composition.{Fits, fit-IN, fit-CON, fit-XOR, fit-NOT, fit-REG, fit-AND, fit-REF, fit-OUT, kindWord}
 use Rattle.checker.proofs.Building.{row-first, Lawful, InTime, shown-limit}
 use Rattle.checker.proofs.Judging.{then-pass, pass-then, need-then, then-need, need-pass, pass-need, Meets, AllMeet, words-pass, pass-words}
 

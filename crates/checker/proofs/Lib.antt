@@ -9,7 +9,6 @@ pub mod Stores
 pub mod WordRules
 pub mod Numbers
 pub mod MadeNotes
-pub mod Composition
 pub mod Building
 pub mod Telling
 pub mod Adding

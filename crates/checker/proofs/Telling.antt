@@ -21,7 +21,7 @@ use Rattle.checker.specs.Answer.{note, notesAfter}
 use Rattle.checker.specs.Sheet.{foundIn, noted, shown, foundOf, Tells}
 use Rattle.checker.proofs.Base.{cases, AllFrom, all-map, all-of, every-of}
 use Rattle.checker.proofs.Parts.{label-lt, InAND, InREF, and-parts, ref-parts}
-use Rattle.checker.proofs.Composition.{Fits, fit-IN, fit-CON, fit-XOR, fit-NOT, fit-REG, fit-AND, fit-REF, fit-OUT}
+use Rattle.checker.specs.Composition.{Fits, fit-IN, fit-CON, fit-XOR, fit-NOT, fit-REG, fit-AND, fit-REF, fit-OUT}
 use Rattle.checker.proofs.Building.{Lawful, step-all, gadget-all}
 use Rattle.checker.proofs.MadeNotes.{notes-append}
 

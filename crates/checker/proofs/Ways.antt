@@ -25,7 +25,7 @@ use Rattle.checker.specs.Rules.{Judgement, pass, refuse, frameRule, Chec
 use Rattle.checker.specs.Answer.{Answer, said, answer, verdictOf, note, notesAfter}
 use Rattle.checker.specs.Walk.{shapeCode, operandsAt, behind, stepAt}
 use Rattle.checker.specs.Sheet.{Tells, tallyOf, judgementIn, laterRule, notesAdded, FrameOf, Placed, Adds}
-use Rattle.checker.proofs.Composition.{kindWord, Fits}
+use Rattle.checker.specs.Composition.{kindWord, Fits}
 use Rattle.checker.proofs.Building.{size-extend}
 use Rattle.checker.proofs.Steps.{frames-pass, frames-refuse}
 use Rattle.checker.proofs.Fitting.{known, frame-pass}

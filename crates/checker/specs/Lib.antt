@@ -7,5 +7,9 @@ pub mod Kinds
 pub mod Circuit
 pub mod Rules
 pub mod Answer
+-- The same said a second way, for the theorem of exactness and for statements about frames.
+pub mod Composition
+-- What the walk over frames answers, for the crates above.
 pub mod Walk
+-- For the contracts of the crate's own functions. No promise to others names any of it.
 pub mod Sheet

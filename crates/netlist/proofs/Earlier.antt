@@ -15,7 +15,7 @@ use Rattle.checker.specs.Rules.{checked}
 use Rattle.checker.proofs.Base.{In, in-head, in-tail, Has, has-left, Every, every-append, every-map, every-of, AllFrom, all-map, all-of}
 use Rattle.checker.proofs.Numbered.{all-get}
 use Rattle.checker.proofs.Parts.{index-lt, Before, before-append, before-each, More, Ready, ordered, label-lt, others-pair, InAND, is-M, is-U, is-W, and-has, cell1, cell2, cell3, sec1, sec2, sec3, has1, added, fresh1, fresh-has, ref-has, sorted-at}
-use Rattle.checker.proofs.Composition.{Frame, Fits, fit-IN, fit-CON, fit-XOR, fit-NOT, fit-REG, fit-AND, fit-REF, fit-OUT, AllFit, build}
+use Rattle.checker.specs.Composition.{Frame, Fits, fit-IN, fit-CON, fit-XOR, fit-NOT, fit-REG, fit-AND, fit-REF, fit-OUT, AllFit, build}
 use Rattle.checker.proofs.Building.{wireAt, gadget-all, Lawful, build-all}
 use Rattle.checker.proofs.Judging.{named-made}
 use Rattle.checker.proofs.Exact.{Accepted}

@@ -11,7 +11,7 @@ use Rattle.checker.specs.Circuit.{Circuit, size, empty, made, extend}
 use Rattle.checker.specs.Rules.{checked}
 use Rattle.checker.proofs.Base.{cases}
 use Rattle.checker.proofs.Sizes.{of-and, of-ref}
-use Rattle.checker.proofs.Composition.{Frame, build}
+use Rattle.checker.specs.Composition.{Frame, build}
 use Rattle.checker.proofs.Exact.{Accepted}
 use Rattle.netlist.specs.Values.{isRandom}
 

@@ -17,7 +17,7 @@ use Rattle.checker.specs.Circuit.{Circuit, size, empty, made, extend}
 use Rattle.checker.proofs.Base.{cases, or-cases, or-left, In, in-tail, in-append, in-each, Sub, Every, every-append, every-map, every-imp, AllFrom, all-append}
 use Rattle.checker.proofs.Parts.{index-lt, others-pair, InAND, is-M, is-U, is-W, and-has}
 use Rattle.checker.proofs.Sizes.{gadget-size}
-use Rattle.checker.proofs.Composition.{Frame, Fits, AllFit, next, build}
+use Rattle.checker.specs.Composition.{Frame, Fits, AllFit, next, build}
 use Rattle.checker.proofs.Building.{Lawful, build-more, build-append, build-shares, fit-split, part-at, output-at}
 use Rattle.netlist.specs.Values.{at, byte, valuesOf}
 use Rattle.netlist.specs.Probes.{isStop, operands, reads, readBy, stopsFrom, stops, sheet, readingOf}

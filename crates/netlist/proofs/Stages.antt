@@ -14,7 +14,7 @@ use Rattle.checker.specs.Rules.{checked}
 use Rattle.checker.proofs.Base.{Every, every-append, every-map, every-imp, every-of, AllFrom, all-map, all-of, all-imp, all-zip}
 use Rattle.checker.proofs.Numbered.{all-get}
 use Rattle.checker.proofs.Parts.{label-lt, others-pair, InAND, is-r, is-R, is-B, is-m, is-M, is-u, is-U, is-v, is-V, is-w, is-W, and-parts, and-has, InREF, fresh, added, ref-parts, ref-has, sorted-at}
-use Rattle.checker.proofs.Composition.{Frame, Fits, fit-IN, fit-CON, fit-XOR, fit-NOT, fit-REG, fit-AND, fit-REF, fit-OUT, AllFit, build}
+use Rattle.checker.specs.Composition.{Frame, Fits, fit-IN, fit-CON, fit-XOR, fit-NOT, fit-REG, fit-AND, fit-REF, fit-OUT, AllFit, build}
 use Rattle.checker.proofs.Building.{wireAt, gadget-all, part-at, place-old, row-first, Lawful, build-all}
 use Rattle.checker.proofs.Judging.{named-made}
 use Rattle.checker.proofs.Exact.{Accepted}

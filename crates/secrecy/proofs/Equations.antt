@@ -10,7 +10,7 @@ use Rattle.checker.specs.Wires.{Gate, input, constant, random, reg, inverse, su
 use Rattle.checker.specs.Gadgets.{Part, labels, gate, delay, index, gadget}
 use Rattle.checker.specs.Circuit.{Circuit, size, empty, made}
 use Rattle.checker.proofs.Base.{no-flip, AllFrom, all-left, all-right, all-imp, all-map, all-unmap}
-use Rattle.checker.proofs.Composition.{Frame, AllFit, build}
+use Rattle.checker.specs.Composition.{Frame, AllFit, build}
 use Rattle.netlist.specs.Values.{at, value, isRandom, valuesFrom, valuesOf}
 use Rattle.secrecy.proofs.Coupled.{Values, Step, wireOf, Run, Early, Low, Settled, settled}
 use Rattle.secrecy.proofs.Whole.{step, steps, steps-wires, early}

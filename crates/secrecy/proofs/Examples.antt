@@ -13,10 +13,9 @@ use Rattle.checker.specs.Gadgets.{inAND, index, gadget}
 use Rattle.checker.specs.Kinds.{IN, XOR, AND, OUT, kindOf, shape}
 use Rattle.checker.specs.Circuit.{Circuit, place, empty, newStage, made, extend}
 use Rattle.checker.specs.Rules.{pass, wordsRule, frameRule, frames, headRule, checked}
-use Rattle.checker.proofs.Composition.{Frame, Row, fit-IN, fit-AND, fit-OUT, AllFit, done, next, build}
+use Rattle.checker.specs.Composition.{Frame, Row, fit-IN, fit-AND, fit-OUT, AllFit, done, next, build, frame}
 use Rattle.netlist.specs.Probes.{stops, sheet}
 use Rattle.netlist.specs.Counts.{pairsFor, EqualCounts}
-use Rattle.secrecy.proofs.Products.{frame}
 use Rattle.secrecy.proofs.Theorems.{theoremB}
 
 -- circuit A: its table and its frames

@@ -12,7 +12,7 @@ use Rattle.checker.specs.Kinds.{Kind, HEAD, IN, CON, XOR, NOT, REG, AND, REF, O
 use Rattle.checker.specs.Circuit.{Circuit, size, place, labelOf, stageShown, isSet, newStage, made}
 use Rattle.checker.proofs.Base.{In, in-head, every-of, AllFrom, all-zip, all-map, all-unmap, all-of, map-two}
 use Rattle.checker.proofs.Parts.{label-lt}
-use Rattle.checker.proofs.Composition.{Fits, fit-IN, fit-CON, fit-XOR, fit-NOT, fit-REG, fit-AND, fit-REF, fit-OUT}
+use Rattle.checker.specs.Composition.{Fits, fit-IN, fit-CON, fit-XOR, fit-NOT, fit-REG, fit-AND, fit-REF, fit-OUT}
 use Rattle.netlist.specs.Values.{at}
 use Rattle.secrecy.proofs.Roles.{Role, lone}
 use Rattle.secrecy.proofs.Taken.{taken, taken-sub, chosen, Chosen}

@@ -15,7 +15,7 @@ use Rattle.checker.specs.Kinds.{Kind, HEAD, IN, CON, XOR, NOT, REG, AND, REF, O
 use Rattle.checker.specs.Circuit.{Circuit, size, empty, newStage, made, extend}
 use Rattle.checker.proofs.Base.{cases, ltb-other}
 use Rattle.checker.proofs.Parts.{cell1, cell2, cell3, sec1, sec2, sec3, fresh1}
-use Rattle.checker.proofs.Composition.{Frame, build}
+use Rattle.checker.specs.Composition.{Frame, build}
 use Rattle.netlist.specs.Values.{isRandom}
 
 -- how many random gates wires have

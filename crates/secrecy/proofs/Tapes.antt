@@ -11,7 +11,7 @@ use Rattle.checker.specs.Limits.{wireLimit}
 use Rattle.checker.specs.Lists.{mem, each, range}
 use Rattle.checker.specs.Wires.{Wire}
 use Rattle.checker.specs.Circuit.{empty}
-use Rattle.checker.proofs.Composition.{Frame, build, AllFit}
+use Rattle.checker.specs.Composition.{Frame, build, AllFit}
 use Rattle.checker.proofs.Base.{cases, In, Sub, in-append, in-each, Every, AllFrom, all-imp, all-zip, all-map, all-unmap}
 use Rattle.netlist.specs.Counts.{alike, different}
 use Rattle.netlist.specs.Values.{at, byte, valuesOf}

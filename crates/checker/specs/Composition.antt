@@ -15,6 +15,9 @@ pub record Frame : Type 0 where
   pub kind : Kind
   pub ops : List ℕ
 
+abbrev pub frame : Kind → List ℕ → Frame
+frame kind ops = record { kind = kind; ops = ops }
+
 -- d wires in a row, from a place of the frame on: the i-th has label i, and all have one stage
 abbrev pub Row : Circuit → (ops : List ℕ) (from stage : ℕ) → Type 0
 Row k ops from t = (i : ℕ) → i < k .d → place k (nth ops (from + i)) ≡ named i t
