@@ -15,15 +15,15 @@ use Rattle.checker.specs.declared.notes.Made.{Made}
 use Rattle.checker.specs.declared.words.Spot.{Spot}
 use Rattle.checker.specs.declared.frame.Tally.{Tally}
 use Rattle.checker.specs.declared.frame.Added.the-variants.{Next, Refused}
-use Rattle.checker.specs.Limits.{stageLimit, wireLimit}
-use Rattle.checker.specs.Kinds.{Kind, shape}
-use Rattle.checker.specs.Circuit.{Circuit, size, newStage, made, extend}
-use Rattle.checker.specs.Rules.{Judgement, pass, refuse, need, _then_, wordsRule}
+use Rattle.circuit.specs.Limits.{stageLimit, wireLimit}
+use Rattle.circuit.specs.Kinds.{Kind, shape}
+use Rattle.circuit.specs.Circuit.{Circuit, size, newStage, made, extend}
+use Rattle.circuit.specs.Rules.{Judgement, pass, refuse, need, _then_, wordsRule}
 use Rattle.checker.specs.Walk.{kindCode, shapeCode, frameCode}
 use Rattle.checker.specs.Sheet.{noted, foundOf, madeWords, madeFrame, latencyFrame, judged, Told, FirstBroken, tallyOf, judgementIn, laterRule, notesAdded, FrameOf, Placed, Adds}
 use Rattle.checker.proofs.Numbers.{broken-ends}
 use Rattle.checker.proofs.MadeNotes.{madeBy, made-count, uses-few, made-stage, made-words, made-latency}
-use Rattle.checker.proofs.Building.{size-extend}
+use Rattle.circuit.proofs.Building.{size-extend}
 
 module _ {fr : Frame} {sh : ShapeCode} {d : ℕ} {ops : List ℕ} where
   -- a frame of one kind makes as many wires as the kind says, and uses no more random bits

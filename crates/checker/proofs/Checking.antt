@@ -17,19 +17,20 @@ use Rattle.checker.specs.declared.walk.Step.the-variants as step
 use Rattle.checker.specs.declared.frame.Tally.{Tally}
 use Rattle.checker.specs.declared.frame.Added.{Added}
 use Rattle.checker.specs.declared.frame.Added.the-variants as added
-use Rattle.checker.specs.Limits.{tableLimit, notesRoom, fewestShares, mostShares, wireLimit}
-use Rattle.checker.specs.Lists.{nth}
-use Rattle.checker.specs.Kinds.{Kind, HEAD, kindOf, shape, words}
-use Rattle.checker.specs.Circuit.{Circuit, size, empty, made, extend}
-use Rattle.checker.specs.Rules.{Judgement, pass, refuse, need, _then_, frameRule, Checked, onward, frames, headRule, checked}
-use Rattle.checker.specs.Answer.{said, answer, verdictOf, notesAfter}
+use Rattle.circuit.specs.Limits.{tableLimit, notesRoom, fewestShares, mostShares, wireLimit}
+use Rattle.circuit.specs.Lists.{nth}
+use Rattle.circuit.specs.Kinds.{Kind, HEAD, kindOf, shape, words}
+use Rattle.circuit.specs.Circuit.{Circuit, size, empty, made, extend}
+use Rattle.circuit.specs.Rules.{Judgement, pass, refuse, need, _then_, frameRule, Checked, onward, frames, headRule, checked}
+use Rattle.checker.specs.Said.{said}
+use Rattle.circuit.specs.Answer.{answer, verdictOf, notesAfter}
 use Rattle.checker.specs.Walk.{kindCode, shapeCode, frameCode, operandsAt, behind, stepAt}
 use Rattle.checker.specs.Sheet.{judged, tallyOf, judgementIn, laterRule, notesAdded, FrameOf, Placed, Adds, headNumber}
-use Rattle.checker.proofs.Base.{cases}
-use Rattle.checker.specs.Composition.{kindWord}
-use Rattle.checker.proofs.Building.{Lawful, size-extend}
-use Rattle.checker.proofs.Steps.{frames-pass, frames-refuse}
-use Rattle.checker.proofs.Fitting.{known, frame-pass}
+use Rattle.circuit.proofs.Base.{cases}
+use Rattle.circuit.specs.Composition.{kindWord}
+use Rattle.circuit.proofs.Building.{Lawful, size-extend}
+use Rattle.circuit.proofs.Steps.{frames-pass, frames-refuse}
+use Rattle.circuit.proofs.Fitting.{known, frame-pass}
 use Rattle.checker.proofs.MadeNotes.{uses-few}
 use Rattle.checker.proofs.Telling.{Labelled, tells, notes-more, label-step}
 

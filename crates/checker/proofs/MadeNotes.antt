@@ -9,17 +9,17 @@ use lib.Dec.{ltb}
 use lib.ListN.{length}
 use borrow.Author.Tests.{ltb-true, ltb-false}
 use Rattle.checker.specs.declared.notes.Made.{Made}
-use Rattle.checker.specs.Lists.{range, nth, each}
-use Rattle.checker.specs.Wires.{Gate, input, Wire, named, inner, _placed_}
-use Rattle.checker.specs.Gadgets.{labels, Part, c, S, gate, delay, inAND, inREF, index, gadget}
-use Rattle.checker.specs.Kinds.{Kind, HEAD, IN, CON, XOR, NOT, REG, AND, REF, OUT, pairs, shape}
-use Rattle.checker.specs.Circuit.{Circuit, size, place, stageShown, newStage, made, latencyAfter}
-use Rattle.checker.specs.Answer.{note}
+use Rattle.circuit.specs.Lists.{range, nth, each}
+use Rattle.circuit.specs.Wires.{Gate, input, Wire, named, inner, _placed_}
+use Rattle.circuit.specs.Gadgets.{labels, Part, c, S, gate, delay, inAND, inREF, index, gadget}
+use Rattle.circuit.specs.Kinds.{Kind, HEAD, IN, CON, XOR, NOT, REG, AND, REF, OUT, pairs, shape}
+use Rattle.circuit.specs.Circuit.{Circuit, size, place, stageShown, newStage, made, latencyAfter}
+use Rattle.circuit.specs.Answer.{note}
 use Rattle.checker.specs.Walk.{kindCode, frameCode}
 use Rattle.checker.specs.Sheet.{foundOf, innerWords, namedWords, madeWords, madeFrame, latencyFrame}
-use Rattle.checker.proofs.Base.{cases}
+use Rattle.circuit.proofs.Base.{cases}
 use Rattle.checker.proofs.WordRules.{label-found, stage-found}
-use Rattle.checker.proofs.Sizes.{and-size, ref-size}
+use Rattle.circuit.proofs.Sizes.{and-size, ref-size}
 
 -- the wires that a frame makes, by what a circuit says of those it names
 abbrev pub madeBy : Circuit → List ℕ → Kind → Made

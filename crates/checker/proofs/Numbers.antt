@@ -9,11 +9,11 @@ use lib.ListN.{length, getD, drop, drop-of-length-le}
 use lib.Seq.{drop-cons}
 use Rattle.checker.specs.declared.kinds.Form.{Form}
 use Rattle.checker.specs.declared.notes.Found.{Found}
-use Rattle.checker.specs.Lists.{nth}
-use Rattle.checker.specs.Wires.{Place, named, inner}
-use Rattle.checker.specs.Kinds.{Kind, WordRule, order, label, value, stage, random, like, share, before, shape, words}
-use Rattle.checker.specs.Circuit.{Circuit, size, place, labelOf, stageShown}
-use Rattle.checker.specs.Rules.{Judgement, pass, refuse, need, _then_, isNamed, wireRule, wordRule, wordsRule}
+use Rattle.circuit.specs.Lists.{nth}
+use Rattle.circuit.specs.Wires.{Place, named, inner}
+use Rattle.circuit.specs.Kinds.{Kind, WordRule, order, label, value, stage, random, like, share, before, shape, words}
+use Rattle.circuit.specs.Circuit.{Circuit, size, place, labelOf, stageShown}
+use Rattle.circuit.specs.Rules.{Judgement, pass, refuse, need, _then_, isNamed, wireRule, wordRule, wordsRule}
 use Rattle.checker.specs.Walk.{formOf}
 use Rattle.checker.specs.Sheet.{noted, shown, foundOf, labelFound, stageFound, ruleIn, leadPlace, wireNumber, wordNumber, judged, Told}
 use Rattle.checker.proofs.WordRules.{rule-at, label-found, stage-found}

@@ -5,7 +5,7 @@ use Prim.Native.Nat.{ℕ, zero, suc, _+_, _*_, _-_, _≤_, _<_}
 use native.Mathlib.Omega.{arith}
 use lib.ListN.{length, set, length-set}
 use lib.Seq.{sets}
-use Rattle.checker.specs.Limits.{innerNote}
+use Rattle.circuit.specs.Limits.{innerNote}
 use Rattle.checker.specs.Sheet.{innerWords, namedWords}
 
 -- before the first turn

@@ -11,18 +11,18 @@ use lib.Seq.{sets, sets-eq, take-append-seam, drop-append-add, drop-drop}
 use borrow.Author.Tests.{ne-eqb, eq-eqb, ltb-true}
 use Rattle.checker.specs.declared.notes.Found.{Found}
 use Rattle.checker.specs.declared.notes.Found.the-variants.{Missing, Inner, Named}
-use Rattle.checker.specs.Limits.{innerNote, fewestShares, mostShares}
-use Rattle.checker.specs.Lists.{nth, each, over}
-use Rattle.checker.specs.Wires.{Wire, Place, named, inner, constant, _placed_}
-use Rattle.checker.specs.Gadgets.{labels, c, S, inAND, inREF}
-use Rattle.checker.specs.Kinds.{Kind}
-use Rattle.checker.specs.Circuit.{Circuit, size, place, labelOf, newStage, made, extend}
-use Rattle.checker.specs.Answer.{note, notesAfter}
+use Rattle.circuit.specs.Limits.{innerNote, fewestShares, mostShares}
+use Rattle.circuit.specs.Lists.{nth, each, over}
+use Rattle.circuit.specs.Wires.{Wire, Place, named, inner, constant, _placed_}
+use Rattle.circuit.specs.Gadgets.{labels, c, S, inAND, inREF}
+use Rattle.circuit.specs.Kinds.{Kind}
+use Rattle.circuit.specs.Circuit.{Circuit, size, place, labelOf, newStage, made, extend}
+use Rattle.circuit.specs.Answer.{note, notesAfter}
 use Rattle.checker.specs.Sheet.{foundIn, noted, shown, foundOf, Tells}
-use Rattle.checker.proofs.Base.{cases, AllFrom, all-map, all-of, every-of}
-use Rattle.checker.proofs.Parts.{label-lt, InAND, InREF, and-parts, ref-parts}
-use Rattle.checker.specs.Composition.{Fits, fit-IN, fit-CON, fit-XOR, fit-NOT, fit-REG, fit-AND, fit-REF, fit-OUT}
-use Rattle.checker.proofs.Building.{Lawful, step-all, gadget-all}
+use Rattle.circuit.proofs.Base.{cases, AllFrom, all-map, all-of, every-of}
+use Rattle.circuit.proofs.Parts.{label-lt, InAND, InREF, and-parts, ref-parts}
+use Rattle.circuit.specs.Composition.{Fits, fit-IN, fit-CON, fit-XOR, fit-NOT, fit-REG, fit-AND, fit-REF, fit-OUT}
+use Rattle.circuit.proofs.Building.{Lawful, step-all, gadget-all}
 use Rattle.checker.proofs.MadeNotes.{notes-append}
 
 abbrev notesOf : List Wire → List ℕ

@@ -17,18 +17,19 @@ use Rattle.checker.specs.declared.walk.Step.the-variants as step
 use Rattle.checker.specs.declared.frame.Tally.{Tally}
 use Rattle.checker.specs.declared.frame.Added.{Added}
 use Rattle.checker.specs.declared.frame.Added.the-variants as added
-use Rattle.checker.specs.Limits.{notesRoom, fewestShares, mostShares, wireLimit}
-use Rattle.checker.specs.Lists.{nth, each}
-use Rattle.checker.specs.Kinds.{Kind, HEAD, kindOf, shape, words}
-use Rattle.checker.specs.Circuit.{Circuit, size, made, extend}
-use Rattle.checker.specs.Rules.{Judgement, pass, refuse, frameRule, Checked, frames, checked}
-use Rattle.checker.specs.Answer.{Answer, said, answer, verdictOf, note, notesAfter}
+use Rattle.circuit.specs.Limits.{notesRoom, fewestShares, mostShares, wireLimit}
+use Rattle.circuit.specs.Lists.{nth, each}
+use Rattle.circuit.specs.Kinds.{Kind, HEAD, kindOf, shape, words}
+use Rattle.circuit.specs.Circuit.{Circuit, size, made, extend}
+use Rattle.circuit.specs.Rules.{Judgement, pass, refuse, frameRule, Checked, frames, checked}
+use Rattle.checker.specs.Said.{said}
+use Rattle.circuit.specs.Answer.{Answer, answer, verdictOf, note, notesAfter}
 use Rattle.checker.specs.Walk.{shapeCode, operandsAt, behind, stepAt}
 use Rattle.checker.specs.Sheet.{Tells, tallyOf, judgementIn, laterRule, notesAdded, FrameOf, Placed, Adds}
-use Rattle.checker.specs.Composition.{kindWord, Fits}
-use Rattle.checker.proofs.Building.{size-extend}
-use Rattle.checker.proofs.Steps.{frames-pass, frames-refuse}
-use Rattle.checker.proofs.Fitting.{known, frame-pass}
+use Rattle.circuit.specs.Composition.{kindWord, Fits}
+use Rattle.circuit.proofs.Building.{size-extend}
+use Rattle.circuit.proofs.Steps.{frames-pass, frames-refuse}
+use Rattle.circuit.proofs.Fitting.{known, frame-pass}
 use Rattle.checker.proofs.MadeNotes.{uses-few}
 use Rattle.checker.proofs.Telling.{tells, notes-more, notes-same, label-step}
 use Rattle.checker.proofs.Checking.{Walking, here, step-end, step-refused, AtFrame, step-next}

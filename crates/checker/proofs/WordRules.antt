@@ -13,15 +13,15 @@ use Rattle.checker.specs.declared.kinds.Form.{Form}
 use Rattle.checker.specs.declared.kinds.Form.the-variants.{Gadget}
 use Rattle.checker.specs.declared.notes.Found.{Found}
 use Rattle.checker.specs.declared.notes.Found.the-variants.{Missing, Inner, Named}
-use Rattle.checker.specs.Limits.{fewestShares, mostShares, stageLimit}
-use Rattle.checker.specs.Lists.{range, nth}
-use Rattle.checker.specs.Wires.{Place, named, inner}
-use Rattle.checker.specs.Kinds.{Kind, HEAD, IN, CON, XOR, NOT, REG, AND, REF, OUT, WordRule, order, label, value, stage, random, like, share, before, row, shape, words}
-use Rattle.checker.specs.Circuit.{Circuit, size, place, labelOf, stageShown}
-use Rattle.checker.specs.Rules.{Judgement, pass, refuse, need, _then_, isNamed, wireRule, wordRule, wordsRule}
+use Rattle.circuit.specs.Limits.{fewestShares, mostShares, stageLimit}
+use Rattle.circuit.specs.Lists.{range, nth}
+use Rattle.circuit.specs.Wires.{Place, named, inner}
+use Rattle.circuit.specs.Kinds.{Kind, HEAD, IN, CON, XOR, NOT, REG, AND, REF, OUT, WordRule, order, label, value, stage, random, like, share, before, row, shape, words}
+use Rattle.circuit.specs.Circuit.{Circuit, size, place, labelOf, stageShown}
+use Rattle.circuit.specs.Rules.{Judgement, pass, refuse, need, _then_, isNamed, wireRule, wordRule, wordsRule}
 use Rattle.checker.specs.Walk.{formOf}
 use Rattle.checker.specs.Sheet.{noted, shown, foundOf, Tells, labelFound, stageFound, gadgetRule, ruleIn, leadPlace, wireNumber, wordNumber, judged}
-use Rattle.checker.proofs.Base.{cases}
+use Rattle.circuit.proofs.Base.{cases}
 use Rattle.checker.proofs.KindTable.{row-length, words-AND, words-REF, words-OUT}
 
 -- the rule at a place of a row

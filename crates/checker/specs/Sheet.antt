@@ -23,13 +23,13 @@ use Rattle.checker.specs.declared.walk.Frame.the-variants as frame
 use Rattle.checker.specs.declared.frame.Tally.{Tally}
 use Rattle.checker.specs.declared.frame.Added.{Added}
 use Rattle.checker.specs.declared.frame.Added.the-variants.{Next, Refused}
-use Rattle.checker.specs.Limits.{tableLimit, notesRoom, innerNote, fewestShares, mostShares, stageLimit, wireLimit}
-use Rattle.checker.specs.Lists.{nth, each}
-use Rattle.checker.specs.Wires.{Place, named, inner, Wire}
-use Rattle.checker.specs.Kinds.{Kind, HEAD, WordRule, order, label, value, stage, random, like, share, before, shape, words}
-use Rattle.checker.specs.Circuit.{Circuit, size, place, newStage, made, latencyAfter, extend}
-use Rattle.checker.specs.Rules.{Judgement, pass, refuse, _then_, need, wordsRule}
-use Rattle.checker.specs.Answer.{note}
+use Rattle.circuit.specs.Limits.{tableLimit, notesRoom, innerNote, fewestShares, mostShares, stageLimit, wireLimit}
+use Rattle.circuit.specs.Lists.{nth, each}
+use Rattle.circuit.specs.Wires.{Place, named, inner, Wire}
+use Rattle.circuit.specs.Kinds.{Kind, HEAD, WordRule, order, label, value, stage, random, like, share, before, shape, words}
+use Rattle.circuit.specs.Circuit.{Circuit, size, place, newStage, made, latencyAfter, extend}
+use Rattle.circuit.specs.Rules.{Judgement, pass, refuse, _then_, need, wordsRule}
+use Rattle.circuit.specs.Answer.{note}
 use Rattle.checker.specs.Walk.{formOf, kindCode, shapeCode, frameCode}
 
 -- what two words of the notes say, and what the notes say of a wire, of so many that are in them

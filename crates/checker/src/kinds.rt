@@ -1,6 +1,6 @@
 // What the kind word decides, once d is known: the one decision over kinds 0 to 8.
 ghost use mathlib.Core.Path.{_≡_};
-ghost use Rattle.checker.specs.Kinds.{kindOf};
+ghost use Rattle.circuit.specs.Kinds.{kindOf};
 ghost use Rattle.checker.specs.Walk.{shapeCode};
 
 pub enum Kind {

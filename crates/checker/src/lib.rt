@@ -2,8 +2,9 @@
 // the notes.
 ghost use mathlib.Core.Path.{_≡_};
 ghost use lib.ListN.{length};
-ghost use Rattle.checker.specs.Rules.{checked};
-ghost use Rattle.checker.specs.Answer.{said, verdictOf, notesAfter};
+ghost use Rattle.circuit.specs.Rules.{checked};
+ghost use Rattle.checker.specs.Said.{said};
+ghost use Rattle.circuit.specs.Answer.{verdictOf, notesAfter};
 ghost use Rattle.checker.specs.Sheet.{headNumber};
 
 mod frame;

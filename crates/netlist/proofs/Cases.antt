@@ -6,12 +6,12 @@ use Prim.Native.Nat.{ℕ, suc}
 use lib.Dec.{eqb}
 use lib.ListN.{replicate}
 use borrow.Author.Tests.{eqb-true}
-use Rattle.checker.specs.Limits.{wireLimit, notesRoom}
-use Rattle.checker.specs.Gadgets.{inAND, index, gadget}
-use Rattle.checker.specs.Kinds.{kindOf, shape}
-use Rattle.checker.specs.Circuit.{newStage, made}
-use Rattle.checker.specs.Rules.{Judgement, pass, refuse, wordsRule, frameRule, frames, headRule, checked}
-use Rattle.checker.specs.Answer.{Answer, accepted, refused, answer}
+use Rattle.circuit.specs.Limits.{wireLimit, notesRoom}
+use Rattle.circuit.specs.Gadgets.{inAND, index, gadget}
+use Rattle.circuit.specs.Kinds.{kindOf, shape}
+use Rattle.circuit.specs.Circuit.{newStage, made}
+use Rattle.circuit.specs.Rules.{Judgement, pass, refuse, wordsRule, frameRule, frames, headRule, checked}
+use Rattle.circuit.specs.Answer.{Answer, accepted, refused, answer}
 use Rattle.netlist.specs.Probes.{stops, sheet}
 use Rattle.netlist.specs.Calls.{bytesRule, probesRule, sheetsRule, callRule, valueBytes, readingBytes}
 use Rattle.netlist.specs.Counts.{alike}

@@ -3,13 +3,13 @@ use mathlib.Core.Path.{_≡_, subst, sym, ap, _∙_}
 use mathlib.Core.Bool.{Bool, _&&_}
 use mathlib.Core.List.{List, _∷_, _++_}
 use Prim.Native.Nat.{ℕ, _+_}
-use Rattle.checker.specs.Lists.{nth}
-use Rattle.checker.specs.Gadgets.{inAND, inREF}
-use Rattle.checker.specs.Kinds.{AND, REF}
-use Rattle.checker.specs.Circuit.{Circuit, empty}
-use Rattle.checker.specs.Rules.{pass, checked}
-use Rattle.checker.specs.Composition.{Frame, frame, AllFit, build}
-use Rattle.checker.proofs.Exact.{sound}
+use Rattle.circuit.specs.Lists.{nth}
+use Rattle.circuit.specs.Gadgets.{inAND, inREF}
+use Rattle.circuit.specs.Kinds.{AND, REF}
+use Rattle.circuit.specs.Circuit.{Circuit, empty}
+use Rattle.circuit.specs.Rules.{pass, checked}
+use Rattle.circuit.specs.Composition.{Frame, frame, AllFit, build}
+use Rattle.circuit.proofs.Exact.{sound}
 use Rattle.netlist.specs.Values.{valuesOf}
 use Rattle.netlist.specs.Counts.{EqualCounts}
 use Rattle.secrecy.specs.Deciding.{Deciding}

@@ -4,11 +4,11 @@ use mathlib.Core.Bool.{Bool, _&&_}
 use mathlib.Core.List.{List, [], _∷_, _++_}
 use Prim.Native.Nat.{ℕ, _+_}
 use lib.ListN.{length}
-use Rattle.checker.specs.Lists.{nth}
-use Rattle.checker.specs.Gadgets.{labels, inAND, inREF}
-use Rattle.checker.specs.Kinds.{AND, REF}
-use Rattle.checker.specs.Circuit.{size, empty}
-use Rattle.checker.specs.Composition.{Frame, frame, AllFit, build}
+use Rattle.circuit.specs.Lists.{nth}
+use Rattle.circuit.specs.Gadgets.{labels, inAND, inREF}
+use Rattle.circuit.specs.Kinds.{AND, REF}
+use Rattle.circuit.specs.Circuit.{size, empty}
+use Rattle.circuit.specs.Composition.{Frame, frame, AllFit, build}
 use Rattle.netlist.specs.Values.{at, total, valuesOf}
 use Rattle.netlist.specs.Counts.{EqualCounts}
 use Rattle.secrecy.specs.Deciding.{AgreeAt, Deciding}

@@ -3,7 +3,7 @@ use mathlib.Core.Path.{refl, sym, ap}
 use Prim.Native.Nat.{_+_, _*_, _/_}
 use native.Mathlib.Omega.{arith}
 use borrow.Author.Needs.{needs}
-use Rattle.checker.specs.Kinds.{kindOf, shape}
+use Rattle.circuit.specs.Kinds.{kindOf, shape}
 use Rattle.checker.specs.declared.kinds.Form.the-variants.{Gadget, Row}
 use Rattle.checker.specs.declared.kinds.Kind.the-variants.{And, Ref, Out}
 use Rattle.checker.proofs.KindTable.{words-AND, words-REF, words-OUT, ordered, square-least, square-most, no-kind, same-shape}

@@ -5,9 +5,9 @@ use Prim.Native.Nat.{_+_, _-_, _≤_}
 use lib.ListN.{length, drop, drop-of-length-le}
 use borrow.Author.Needs.{needs}
 use denote.Ref.{now}
-use Rattle.checker.specs.Kinds.{shape}
-use Rattle.checker.specs.Lists.{nth}
-use Rattle.checker.specs.Rules.{_then_, wordsRule}
+use Rattle.circuit.specs.Kinds.{shape}
+use Rattle.circuit.specs.Lists.{nth}
+use Rattle.circuit.specs.Rules.{_then_, wordsRule}
 use Rattle.checker.specs.Sheet.{noted, ruleOf, leadPlace, wordNumber, judged}
 use Rattle.checker.proofs.Numbers.{Reached, reached-start, reached-word, broken-ends, words-end}
 use Rattle.checker.proofs.words.first_broken.Statement.{statement}

@@ -7,8 +7,8 @@ use lib.ListN.{length, take, drop, length-drop, drop-of-length-le}
 use lib.Seq.{take-all, take-nil}
 use borrow.Author.Needs.{needs}
 use denote.Ref.{now}
-use Rattle.checker.specs.Kinds.{kindOf, words}
-use Rattle.checker.specs.Lists.{nth}
+use Rattle.circuit.specs.Kinds.{kindOf, words}
+use Rattle.circuit.specs.Lists.{nth}
 use Rattle.checker.proofs.walk.Walk.operands.Statement.{statement}
 use Rattle.checker.proofs.walk.Walk.operands.Tie as tie
 

@@ -8,8 +8,8 @@ use lib.ListN.{length, take, drop, length-drop}
 use borrow.Author.Needs.{needs}
 use borrow.Author.Tests.{le-ltb, lt-ltb, le-leb, lt-leb}
 use denote.Ref.{now}
-use Rattle.checker.specs.Kinds.{kindOf, words}
-use Rattle.checker.specs.Lists.{nth}
+use Rattle.circuit.specs.Kinds.{kindOf, words}
+use Rattle.circuit.specs.Lists.{nth}
 use Rattle.checker.specs.Walk.{kindCode, shapeCode, frameCode, operandsAt, behind}
 use Rattle.checker.specs.declared.walk.Step.the-variants.{Next}
 use Rattle.checker.proofs.walk.Walk.step.Statement.{statement}

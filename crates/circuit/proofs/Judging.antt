@@ -8,13 +8,13 @@ use lib.Dec.{leb, ltb, eqb}
 use lib.ListN.{length, drop, List·getD-eq-default}
 use lib.Seq.{drop-cons}
 use borrow.Author.Tests.{ltb-true, ltb-false, leb-true, eqb-true, lt-ltb, le-leb, eq-eqb}
-use Rattle.checker.specs.Limits.{stageLimit, fewestShares, mostShares}
-use Rattle.checker.specs.Lists.{nth}
-use Rattle.checker.specs.Wires.{Place, named, inner, constant, _placed_}
-use Rattle.checker.specs.Kinds.{WordRule, order, label, value, stage, random, like, share, before}
-use Rattle.checker.specs.Circuit.{Circuit, size, place, labelOf, stageShown}
-use Rattle.checker.specs.Rules.{Judgement, pass, refuse, need, _then_, isNamed, wireRule, wordRule, wordsRule}
-use Rattle.checker.proofs.Base.{cases, and-left, and-right, and-both, AllFrom}
+use Rattle.circuit.specs.Limits.{stageLimit, fewestShares, mostShares}
+use Rattle.circuit.specs.Lists.{nth}
+use Rattle.circuit.specs.Wires.{Place, named, inner, constant, _placed_}
+use Rattle.circuit.specs.Kinds.{WordRule, order, label, value, stage, random, like, share, before}
+use Rattle.circuit.specs.Circuit.{Circuit, size, place, labelOf, stageShown}
+use Rattle.circuit.specs.Rules.{Judgement, pass, refuse, need, _then_, isNamed, wireRule, wordRule, wordsRule}
+use Rattle.circuit.proofs.Base.{cases, and-left, and-right, and-both, AllFrom}
 
 pub never : {A : Type 0} (rule frame word : ℕ) → refuse rule frame word ≡ pass → A
 never rule frame word h = absurd (let z : _≡_ {A = ℕ} 0 1 = cc in omega arith)

@@ -4,11 +4,11 @@ use mathlib.Core.List.{List, [], _∷_}
 use Prim.Native.Nat.{ℕ, zero, suc, _+_}
 use lib.Dec.{leb, ltb, eqb}
 use lib.ListN.{length, take, drop}
-use Rattle.checker.specs.Limits.{tableLimit, wireLimit, notesRoom, stageLimit, fewestShares, mostShares}
-use Rattle.checker.specs.Lists.{nth}
-use Rattle.checker.specs.Wires.{Place, named, inner}
-use Rattle.checker.specs.Kinds.{Kind, kindOf, WordRule, order, label, value, stage, random, like, share, before, shape, words}
-use Rattle.checker.specs.Circuit.{Circuit, size, empty, place, labelOf, stageShown, newStage, extend}
+use Rattle.circuit.specs.Limits.{tableLimit, wireLimit, notesRoom, stageLimit, fewestShares, mostShares}
+use Rattle.circuit.specs.Lists.{nth}
+use Rattle.circuit.specs.Wires.{Place, named, inner}
+use Rattle.circuit.specs.Kinds.{Kind, kindOf, WordRule, order, label, value, stage, random, like, share, before, shape, words}
+use Rattle.circuit.specs.Circuit.{Circuit, size, empty, place, labelOf, stageShown, newStage, extend}
 
 -- nothing is broken; or the number of the first rule broken, the frame and the word
 pub data Judgement : Type 0 where

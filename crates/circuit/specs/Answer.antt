@@ -1,23 +1,16 @@
 -- Document 01, "Calls and their sheets": the answers' numbers, and the notes after a call.
 use mathlib.Core.List.{List, [], _∷_}
 use Prim.Native.Nat.{ℕ}
-use Rattle.checker.specs.declared.Verdict.{Verdict}
-use Rattle.checker.specs.declared.Verdict.the-variants.{Accepted, Refused}
-use Rattle.checker.specs.Limits.{innerNote}
-use Rattle.checker.specs.Lists.{each, over}
-use Rattle.checker.specs.Wires.{Place, named, inner, Wire}
-use Rattle.checker.specs.Circuit.{Circuit, size}
-use Rattle.checker.specs.Rules.{Judgement, pass, refuse, Checked, checked}
+use Rattle.circuit.specs.Limits.{innerNote}
+use Rattle.circuit.specs.Lists.{each, over}
+use Rattle.circuit.specs.Wires.{Place, named, inner, Wire}
+use Rattle.circuit.specs.Circuit.{Circuit, size}
+use Rattle.circuit.specs.Rules.{Judgement, pass, refuse, Checked, checked}
 
 -- accepted: the numbers of wires and random bits, and the latency; refused: the rule's number, the frame and the word
 pub data Answer : Type 0 where
   accepted : (wires randoms latency : ℕ) → Answer
   refused : (rule frame word : ℕ) → Answer
-
--- what the code's answer says
-abbrev pub said : Verdict → Answer
-said (Accepted wires randoms latency) = accepted wires randoms latency
-said (Refused rule frame word) = refused rule frame word
 
 -- the answer to a judgement on a circuit
 abbrev pub answer : Circuit → Judgement → Answer

@@ -8,17 +8,17 @@ use lib.Dec.{leb, eqb}
 use lib.ListN.{length, take, drop, take-append-drop}
 use lib.Seq.{drop-nil, take-at, drop-at}
 use borrow.Author.Tests.{leb-true, le-leb, eqb-true}
-use Rattle.checker.specs.Limits.{tableLimit, wireLimit, notesRoom, stageLimit, fewestShares, mostShares}
-use Rattle.checker.specs.Lists.{nth}
-use Rattle.checker.specs.Kinds.{kindOf, order, words}
-use Rattle.checker.specs.Circuit.{Circuit, size, empty, place, stageOf, extend}
-use Rattle.checker.specs.Rules.{Judgement, pass, refuse, frameRule, Checked, onward, frames, headRule, checked}
-use Rattle.checker.proofs.Base.{and-left, and-right, and-both}
-use Rattle.checker.proofs.Steps.{frames-pass}
-use Rattle.checker.specs.Composition.{Frame, AllFit, done, next, build, kindWord, wordsOf}
-use Rattle.checker.proofs.Building.{Lawful, InTime, build-size, stage-le, intime-step, build-intime}
-use Rattle.checker.proofs.Judging.{never, need-then, then-need, word-pass, pass-word}
-use Rattle.checker.proofs.Fitting.{kind-known, frame-pass, fit-meets, fit-pass}
+use Rattle.circuit.specs.Limits.{tableLimit, wireLimit, notesRoom, stageLimit, fewestShares, mostShares}
+use Rattle.circuit.specs.Lists.{nth}
+use Rattle.circuit.specs.Kinds.{kindOf, order, words}
+use Rattle.circuit.specs.Circuit.{Circuit, size, empty, place, stageOf, extend}
+use Rattle.circuit.specs.Rules.{Judgement, pass, refuse, frameRule, Checked, onward, frames, headRule, checked}
+use Rattle.circuit.proofs.Base.{and-left, and-right, and-both}
+use Rattle.circuit.proofs.Steps.{frames-pass}
+use Rattle.circuit.specs.Composition.{Frame, AllFit, done, next, build, kindWord, wordsOf}
+use Rattle.circuit.proofs.Building.{Lawful, InTime, build-size, stage-le, intime-step, build-intime}
+use Rattle.circuit.proofs.Judging.{never, need-then, then-need, word-pass, pass-word}
+use Rattle.circuit.proofs.Fitting.{kind-known, frame-pass, fit-meets, fit-pass}
 
 -- what the acceptance of a table shows
 pub record Accepted (table : List ℕ) (room : ℕ) : Type 0 where

@@ -4,8 +4,8 @@ use mathlib.Core.List.{List, [], _∷_, _++_, map}
 use Prim.Native.Nat.{ℕ, zero, suc, _+_}
 use native.Mathlib.Decide.{ℕ-discrete}
 use lib.Dec.{ltb, eqb}
-use Rattle.checker.specs.Lists.{range, keep, each}
-use Rattle.checker.specs.Wires.{Gate, random, reg, sum, product, gated, Place, named, inner, Wire, _placed_}
+use Rattle.circuit.specs.Lists.{range, keep, each}
+use Rattle.circuit.specs.Wires.{Gate, random, reg, sum, product, gated, Place, named, inner, Wire, _placed_}
 
 -- the labels 0 to d−1; those above i; those other than i
 abbrev pub labels : ℕ → List ℕ

@@ -3,9 +3,9 @@ use mathlib.Core.Path.{_≡_, refl}
 use mathlib.Core.List.{List, [], _∷_}
 use Prim.Native.Nat.{ℕ, zero, suc}
 use lib.ListN.{take, drop}
-use Rattle.checker.specs.Kinds.{kindOf, words}
-use Rattle.checker.specs.Circuit.{Circuit, extend}
-use Rattle.checker.specs.Rules.{pass, refuse, frameRule, frames}
+use Rattle.circuit.specs.Kinds.{kindOf, words}
+use Rattle.circuit.specs.Circuit.{Circuit, extend}
+use Rattle.circuit.specs.Rules.{pass, refuse, frameRule, frames}
 
 -- the words still to be passed over are passed over, whatever they are
 pub frames-drop : (k : Circuit) (f n : ℕ) (xs : List ℕ) → frames k f n xs ≡ frames k f 0 (drop n xs)

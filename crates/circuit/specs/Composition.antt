@@ -4,11 +4,11 @@ use mathlib.Core.Path.{_≡_}
 use mathlib.Core.List.{List, [], _∷_, _++_}
 use Prim.Native.Nat.{ℕ, suc, _+_, _≤_, _<_}
 use lib.ListN.{length}
-use Rattle.checker.specs.Limits.{wireLimit, stageLimit}
-use Rattle.checker.specs.Lists.{nth}
-use Rattle.checker.specs.Wires.{named}
-use Rattle.checker.specs.Kinds.{Kind, HEAD, IN, CON, XOR, NOT, REG, AND, REF, OUT, shape}
-use Rattle.checker.specs.Circuit.{Circuit, size, empty, place, extend}
+use Rattle.circuit.specs.Limits.{wireLimit, stageLimit}
+use Rattle.circuit.specs.Lists.{nth}
+use Rattle.circuit.specs.Wires.{named}
+use Rattle.circuit.specs.Kinds.{Kind, HEAD, IN, CON, XOR, NOT, REG, AND, REF, OUT, shape}
+use Rattle.circuit.specs.Circuit.{Circuit, size, empty, place, extend}
 
 -- a frame: its kind and the words after the kind
 pub record Frame : Type 0 where

@@ -3,10 +3,10 @@ use mathlib.Core.Bool.{Bool, true, false}
 use mathlib.Core.List.{List, [], _∷_, _++_, map}
 use Prim.Native.Nat.{ℕ, zero, suc, _+_, _*_, max}
 use lib.ListN.{length, getD}
-use Rattle.checker.specs.Lists.{nth}
-use Rattle.checker.specs.Wires.{Place, named, inner, Wire, input, constant, reg, inverse, sum, _placed_}
-use Rattle.checker.specs.Gadgets.{labels, Part, inAND, inREF, gadget}
-use Rattle.checker.specs.Kinds.{Kind, HEAD, IN, CON, XOR, NOT, REG, AND, REF, OUT, shape}
+use Rattle.circuit.specs.Lists.{nth}
+use Rattle.circuit.specs.Wires.{Place, named, inner, Wire, input, constant, reg, inverse, sum, _placed_}
+use Rattle.circuit.specs.Gadgets.{labels, Part, inAND, inREF, gadget}
+use Rattle.circuit.specs.Kinds.{Kind, HEAD, IN, CON, XOR, NOT, REG, AND, REF, OUT, shape}
 
 -- the number of shares; the wires in the order made; how many INs and random bits there are; the highest stage of an OUT
 pub record Circuit : Type 0 where

@@ -8,9 +8,9 @@ use native.Mathlib.Omega.{arith}
 use native.Mathlib.Decide.{ℕ-discrete}
 use lib.Dec.{eqb, ltb}
 use lib.ListN.{length}
-use Rattle.checker.specs.Lists.{each}
-use Rattle.checker.specs.Gadgets.{Part, r, R, B, m, M, u, U, v, V′, w, W, c, s, S, same, labels, above, others, sorted, inAND, inREF, index}
-use Rattle.checker.proofs.Base.{cases, not-true, eqb-sym, ltb-ne, ltb-other, In, in-head, in-tail, in-range, range-in, in-keep, keep-in, Has, has-left, has-right, has-each, has-map, Every, every-append, every-map, every-each, AllFrom, all-imp}
+use Rattle.circuit.specs.Lists.{each}
+use Rattle.circuit.specs.Gadgets.{Part, r, R, B, m, M, u, U, v, V′, w, W, c, s, S, same, labels, above, others, sorted, inAND, inREF, index}
+use Rattle.circuit.proofs.Base.{cases, not-true, eqb-sym, ltb-ne, ltb-other, In, in-head, in-tail, in-range, range-in, in-keep, keep-in, Has, has-left, has-right, has-each, has-map, Every, every-append, every-map, every-each, AllFrom, all-imp}
 
 -- the wire at the index of a part is that part's
 pub index-at : (Q : ℕ → Part → Type 0) (n : ℕ) (ps : List Part) (p : Part) → Has p ps → AllFrom Q n ps → Q (n + index p ps) p

@@ -7,13 +7,13 @@ use native.Mathlib.Omega.{arith}
 use lib.Dec.{eqb, ltb}
 use lib.ListN.{length, length-append, length-map}
 use borrow.Author.Tests.{eqb-true, lt-ltb, ltb-true}
-use Rattle.checker.specs.Lists.{range, keep, each}
-use Rattle.checker.specs.Wires.{Gate, named, inner, _placed_}
-use Rattle.checker.specs.Gadgets.{Part, r, s, labels, above, others, gate, delay, inAND, inREF, index, gadget}
-use Rattle.checker.specs.Kinds.{Kind, HEAD, IN, CON, XOR, NOT, REG, AND, REF, OUT, pairs, shape}
-use Rattle.checker.specs.Circuit.{Circuit, made}
-use Rattle.checker.proofs.Base.{cases, ne-lt, lt-ne, ltb-other}
-use Rattle.checker.proofs.Parts.{cell1, cell2, cell3, sec1, sec2, sec3, fresh1}
+use Rattle.circuit.specs.Lists.{range, keep, each}
+use Rattle.circuit.specs.Wires.{Gate, named, inner, _placed_}
+use Rattle.circuit.specs.Gadgets.{Part, r, s, labels, above, others, gate, delay, inAND, inREF, index, gadget}
+use Rattle.circuit.specs.Kinds.{Kind, HEAD, IN, CON, XOR, NOT, REG, AND, REF, OUT, pairs, shape}
+use Rattle.circuit.specs.Circuit.{Circuit, made}
+use Rattle.circuit.proofs.Base.{cases, ne-lt, lt-ne, ltb-other}
+use Rattle.circuit.proofs.Parts.{cell1, cell2, cell3, sec1, sec2, sec3, fresh1}
 
 -- numbers that are kept
 pub range-length : (n k : ℕ) → length (range n k) ≡ k

@@ -4,8 +4,8 @@ use mathlib.Core.List.{List, [], _∷_, map}
 use Prim.Native.Nat.{ℕ, zero, suc, _+_, _<_}
 use native.Mathlib.Omega.{arith}
 use lib.ListN.{length, getD}
-use Rattle.checker.specs.Lists.{nth, range}
-use Rattle.checker.proofs.Base.{AllFrom}
+use Rattle.circuit.specs.Lists.{nth, range}
+use Rattle.circuit.proofs.Base.{AllFrom}
 
 pub range-at : (n c i : ℕ) → i < c → nth (range n c) i ≡ n + i
 range-at n zero i l = absurd (omega arith)

@@ -6,17 +6,17 @@ use Prim.Native.Nat.{ℕ, zero, suc, _+_, _≤_, _<_}
 use native.Mathlib.Omega.{arith}
 use lib.ListN.{length, getD, length-append, length-map, List·getD-append}
 use lib.Seq.{getD-append-add}
-use Rattle.checker.specs.Limits.{wireLimit, stageLimit, fewestShares}
-use Rattle.checker.specs.Lists.{nth}
-use Rattle.checker.specs.Wires.{Gate, constant, Place, named, inner, Wire, _placed_}
-use Rattle.checker.specs.Gadgets.{Part, r, R, B, m, M, u, U, v, V′, w, W, c, s, S, labels, gate, delay, inAND, inREF, index, gadget}
-use Rattle.checker.specs.Kinds.{Kind, shape}
-use Rattle.checker.specs.Circuit.{Circuit, size, empty, place, stageShown, stageOf, newStage, made, extend}
-use Rattle.checker.proofs.Base.{every-of, AllFrom, Has, all-append, all-left, all-right, all-map, all-unmap, all-of}
-use Rattle.checker.proofs.Numbered.{get-all, all-below, all-at}
-use Rattle.checker.proofs.Parts.{index-at, label-lt, InAND, and-parts, InREF, fresh, added, ref-parts}
-use Rattle.checker.proofs.Sizes.{made-size}
-use Rattle.checker.specs.Composition.{Frame, Row, Fits, fit-IN, fit-CON, fit-XOR, fit-NOT, fit-REG, fit-AND, fit-REF, fit-OUT, AllFit, done, next, build}
+use Rattle.circuit.specs.Limits.{wireLimit, stageLimit, fewestShares}
+use Rattle.circuit.specs.Lists.{nth}
+use Rattle.circuit.specs.Wires.{Gate, constant, Place, named, inner, Wire, _placed_}
+use Rattle.circuit.specs.Gadgets.{Part, r, R, B, m, M, u, U, v, V′, w, W, c, s, S, labels, gate, delay, inAND, inREF, index, gadget}
+use Rattle.circuit.specs.Kinds.{Kind, shape}
+use Rattle.circuit.specs.Circuit.{Circuit, size, empty, place, stageShown, stageOf, newStage, made, extend}
+use Rattle.circuit.proofs.Base.{every-of, AllFrom, Has, all-append, all-left, all-right, all-map, all-unmap, all-of}
+use Rattle.circuit.proofs.Numbered.{get-all, all-below, all-at}
+use Rattle.circuit.proofs.Parts.{index-at, label-lt, InAND, and-parts, InREF, fresh, added, ref-parts}
+use Rattle.circuit.proofs.Sizes.{made-size}
+use Rattle.circuit.specs.Composition.{Frame, Row, Fits, fit-IN, fit-CON, fit-XOR, fit-NOT, fit-REG, fit-AND, fit-REF, fit-OUT, AllFit, done, next, build}
 
 -- the wire of a number; a constant, where there is no such wire
 abbrev pub wireAt : Circuit → ℕ → Wire

@@ -8,18 +8,18 @@ use lib.Dec.{leb}
 use lib.ListN.{length, take, length-append, List·getD-map}
 use lib.Seq.{length-take-le, take-at}
 use borrow.Author.Tests.{leb-true, le-leb}
-use Rattle.checker.specs.Limits.{wireLimit, stageLimit, fewestShares}
-use Rattle.checker.specs.Lists.{nth}
-use Rattle.checker.specs.Wires.{named}
-use Rattle.checker.specs.Kinds.{Kind, HEAD, IN, CON, XOR, NOT, REG, AND, REF, OUT, kindOf, WordRule, share, before, row, shape, words}
-use Rattle.checker.specs.Circuit.{Circuit, size, place, stageShown, newStage}
-use Rattle.checker.specs.Rules.{pass, wordsRule, frameRule}
-use Rattle.checker.proofs.Base.{and-left, and-right, and-both, all-append, all-left, all-right}
-use Rattle.checker.proofs.Numbered.{range-at, all-at, at-all}
-use Rattle.checker.proofs.Sizes.{labels-map}
-use Rattle.checker.specs.Composition.{Fits, fit-IN, fit-CON, fit-XOR, fit-NOT, fit-REG, fit-AND, fit-REF, fit-OUT, kindWord}
-use Rattle.checker.proofs.Building.{row-first, Lawful, InTime, shown-limit}
-use Rattle.checker.proofs.Judging.{then-pass, pass-then, need-then, then-need, need-pass, pass-need, Meets, AllMeet, words-pass, pass-words}
+use Rattle.circuit.specs.Limits.{wireLimit, stageLimit, fewestShares}
+use Rattle.circuit.specs.Lists.{nth}
+use Rattle.circuit.specs.Wires.{named}
+use Rattle.circuit.specs.Kinds.{Kind, HEAD, IN, CON, XOR, NOT, REG, AND, REF, OUT, kindOf, WordRule, share, before, row, shape, words}
+use Rattle.circuit.specs.Circuit.{Circuit, size, place, stageShown, newStage}
+use Rattle.circuit.specs.Rules.{pass, wordsRule, frameRule}
+use Rattle.circuit.proofs.Base.{and-left, and-right, and-both, all-append, all-left, all-right}
+use Rattle.circuit.proofs.Numbered.{range-at, all-at, at-all}
+use Rattle.circuit.proofs.Sizes.{labels-map}
+use Rattle.circuit.specs.Composition.{Fits, fit-IN, fit-CON, fit-XOR, fit-NOT, fit-REG, fit-AND, fit-REF, fit-OUT, kindWord}
+use Rattle.circuit.proofs.Building.{row-first, Lawful, InTime, shown-limit}
+use Rattle.circuit.proofs.Judging.{then-pass, pass-then, need-then, then-need, need-pass, pass-need, Meets, AllMeet, words-pass, pass-words}
 
 -- the kind words
 pub known : (w : ℕ) → w ≤ 8 → kindWord (kindOf w) ≡ w

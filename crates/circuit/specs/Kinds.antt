@@ -2,7 +2,7 @@
 use mathlib.Core.List.{List, [], _∷_, _++_, map}
 use Prim.Native.Nat.{ℕ, _+_, _*_, _-_, _/_}
 use lib.ListN.{length, getD}
-use Rattle.checker.specs.Gadgets.{labels}
+use Rattle.circuit.specs.Gadgets.{labels}
 
 pub data Kind : Type 0 where
   HEAD IN CON XOR NOT REG AND REF OUT : Kind
