@@ -16,29 +16,29 @@ mul-ordered c = record { fits = omega (arith, square-most (c .args .d) (omega ar
 sub-ordered : tie.Need-sub-ordered
 sub-ordered c = square-least (c .args .d)
 
-add-t19 : tie.Need-add-t19
-add-t19 c = search needs
-
 add-t20 : tie.Need-add-t20
 add-t20 c = search needs
 
-mul-t21 : tie.Need-mul-t21
-mul-t21 c = record { fits = omega (arith, square-most (c .before .args .d) (omega arith)) }
+add-t21 : tie.Need-add-t21
+add-t21 c = search needs
 
 mul-t22 : tie.Need-mul-t22
-mul-t22 c = search needs
+mul-t22 c = record { fits = omega (arith, square-most (c .before .args .d) (omega arith)) }
 
-add-t23 : tie.Need-add-t23
-add-t23 c = record { fits = omega (arith, square-most (c .before .args .d) (omega arith)) }
+mul-t23 : tie.Need-mul-t23
+mul-t23 c = search needs
+
+add-t24 : tie.Need-add-t24
+add-t24 c = record { fits = omega (arith, square-most (c .before .args .d) (omega arith)) }
 
 add-t27 : tie.Need-add-t27
 add-t27 c = search needs
 
-mul-t29 : tie.Need-mul-t29
-mul-t29 c = search needs
+mul-t28 : tie.Need-mul-t28
+mul-t28 c = search needs
 
-add-t30 : tie.Need-add-t30
-add-t30 c = record { fits = omega (arith, square-most (c .before .args .d) (omega arith)) }
+add-t29 : tie.Need-add-t29
+add-t29 c = record { fits = omega (arith, square-most (c .before .args .d) (omega arith)) }
 
 returns : tie.Need-returns
 unfolding kindOf shape
@@ -89,14 +89,14 @@ decide-spec =
     (tie.spec
     mul-ordered
     sub-ordered
-    add-t19
     add-t20
-    mul-t21
+    add-t21
     mul-t22
-    add-t23
+    mul-t23
+    add-t24
     add-t27
-    mul-t29
-    add-t30
+    mul-t28
+    add-t29
     returns
     returns-2
     returns-3
