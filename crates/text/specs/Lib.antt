@@ -2,3 +2,4 @@
 pub mod Lines
 pub mod Reader
 pub mod Answer
+pub mod Scan

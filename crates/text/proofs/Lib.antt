@@ -1,0 +1,3 @@
+-- What is proved of the definitions, for the code and of the texts that are accepted.
+pub mod Hex
+pub mod Scanning

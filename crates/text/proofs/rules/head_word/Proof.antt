@@ -1,0 +1,16 @@
+use borrow.Author.Tests.{eq-eqb, ne-eqb}
+use Rattle.text.proofs.rules.head_word.Statement.{statement}
+use Rattle.text.proofs.rules.head_word.Tie as tie
+use Rattle.text.proofs.rules.head_word.Reads as reads
+use Rattle.text.proofs.rules.head_word.Lts as lts
+
+-- src/rules.rt:48:1
+returns : tie.Need-returns
+returns c = rw (eq-eqb _ _ (c .if1 .taken))
+
+-- src/rules.rt:48:1
+returns-2 : tie.Need-returns-2
+returns-2 c = rw (ne-eqb _ _ (c .if1 .left))
+
+pub head-word-spec : {M : Type 1} → statement M
+head-word-spec = tie.close (tie.spec returns returns-2)
