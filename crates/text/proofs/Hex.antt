@@ -18,7 +18,7 @@ digit-small : (b : ℕ) → isDigit b ≡ true → digit b ≤ 15
 digit-small b h = cases (isDecimal b)
     (λ e. let l = leb-true b 57 (and-right (leb 48 b) (leb b 57) e) in rw e (omega arith))
     (λ e. let k : isLetter b ≡ true = rw e at h in
-      let l = leb-true b 70 (and-right (leb 65 b) (leb b 70) k) in rw e (omega arith))
+    let l = leb-true b 70 (and-right (leb 65 b) (leb b 70) k) in rw e (omega arith))
 
 -- a byte whose code is at most 15 is a digit of that value; another is none
 pub is-digit : (b : ℕ) → digitCode b ≤ 15 → isDigit b ≡ true
@@ -51,7 +51,7 @@ five l i h =
     let e : suc (i + 4) ≡ i + 5 = omega arith in
     four l i (omega arith)
     ∙ ap (λ (r : List ℕ). getD l i 0 ∷ getD l (i + 1) 0 ∷ getD l (i + 2) 0 ∷ getD l (i + 3) 0 ∷ r)
-      (drop-cons l (i + 4) 0 (omega arith) ∙ ap (λ (n : ℕ). getD l (i + 4) 0 ∷ drop n l) e)
+    (drop-cons l (i + 4) 0 (omega arith) ∙ ap (λ (n : ℕ). getD l (i + 4) 0 ∷ drop n l) e)
 
 -- the word at a place: four bytes, each judged by its code
 abbrev pub noWord : Word

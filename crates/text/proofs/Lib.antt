@@ -1,3 +1,6 @@
 -- What is proved of the definitions, for the code and of the texts that are accepted.
 pub mod Hex
 pub mod Scanning
+pub mod Splitting
+pub mod Reading
+pub mod Progress

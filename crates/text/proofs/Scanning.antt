@@ -32,8 +32,8 @@ count-end n l i h = short-count n (drop i l) (simp length-drop (omega arith))
 module _ (n : ℕ) (l : List ℕ) (i : ℕ) (h : i + 5 ≤ length l) where
   pub count-turn : countFrom n (drop i l)
       ≡ cond (wordIn (drop i l) .good)
-        (cond (eqb (getD l (i + 4) 0) lineFeed) (n + 1) (cond (eqb (getD l (i + 4) 0) space) (countFrom (n + 1) (drop (i + 5) l)) 0))
-        0
+      (cond (eqb (getD l (i + 4) 0) lineFeed) (n + 1) (cond (eqb (getD l (i + 4) 0) space) (countFrom (n + 1) (drop (i + 5) l)) 0))
+      0
   unfolding countFrom wordIn
   count-turn = let u : n + 1 ≡ suc n = omega arith in rw (u, five l i h) (cases (areDigits (getD l i 0) (getD l (i + 1) 0) (getD l (i + 2) 0) (getD l (i + 3) 0)) (λ e. rw e) (λ e. rw e))
 
@@ -51,7 +51,7 @@ store-turn t bytes to (suc left) i h =
 pub room-word : (r room m : ℕ) → ruled r 0 0 ≡ roomRule room 0 m → headWord r ≡ 0
 room-word r room m h = cases (eqb r 4)
     (λ e. let k : refuse 4 0 0 ≡ roomRule room 0 m = rw (eqb-true r 4 e) at h in
-      cases (leb m room && leb m 8192)
-      (λ f. let g : refuse 4 0 0 ≡ pass = rw f at k in let z : _≡_ {A = ℕ} 0 1 = cc in absurd (omega arith))
-      (λ f. let g : refuse 4 0 0 ≡ refuse 21 0 0 = rw f at k in let z : _≡_ {A = ℕ} 4 21 = cc in absurd (omega arith)))
+    cases (leb m room && leb m 8192)
+    (λ f. let g : refuse 4 0 0 ≡ pass = rw f at k in let z : _≡_ {A = ℕ} 0 1 = cc in absurd (omega arith))
+    (λ f. let g : refuse 4 0 0 ≡ refuse 21 0 0 = rw f at k in let z : _≡_ {A = ℕ} 4 21 = cc in absurd (omega arith)))
     (λ e. rw e)

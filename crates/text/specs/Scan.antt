@@ -55,14 +55,14 @@ headWord rule = cond (eqb rule 4) 1 0
 -- the rules of the first line in numbers: the text's length, the count of words, the first two
 abbrev pub headByCount : (room size count kind d : ℕ) → Judgement
 headByCount room size count kind d = need (ltb 0 size) 3 0 0
-    then need (ltb 0 count) 20 0 0
+    then (need (ltb 0 count) 20 0 0
     then need (eqb count 2 && eqb kind 0) 3 0 0
-    then wordRule (empty 0) 0 [] order 1 d
+    then wordRule (empty 0) 0 [] order 1 d)
     then roomRule room 0 count
 
 -- the rules of line n in numbers, behind so many words
 abbrev pub frameByCount : (room d n stored kind count : ℕ) → Judgement
-frameByCount room d n stored kind count = need (ltb 0 count) 20 n 0
+frameByCount room d n stored kind count = (need (ltb 0 count) 20 n 0
     then need (leb 1 kind && leb kind 8) 5 n 0
-    then need (eqb count (suc (words d (kindOf kind)))) 6 n 0
+    then need (eqb count (suc (words d (kindOf kind)))) 6 n 0)
     then roomRule room n (stored + count)

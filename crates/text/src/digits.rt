@@ -31,7 +31,10 @@ fn digit(b: u8) -> u16
 pub(crate) fn word_at(text: &[u8], at: usize) -> Word
     ensures { λ r. ⌜ r ≡ wordIn (drop at (now (text .entry))) ⌝ }
 {
-    let none = Word { good: false, value: 0 };
+    let none = Word {
+        good: false,
+        value: 0,
+    };
     if text.len() < 4 {
         return none;
     }

@@ -72,9 +72,13 @@ loop-less c = search needs
 
 -- src/line.rt:16:5
 loop-again : tie.Need-loop-again Inv-loop μ-loop
-loop-again c = (omega arith, omega arith, let t = now (c .before .before .before .before .before .before .before .before .before .args .text) in let i = c .before .before .before .before .before .before .before .loop .i in let n = c .before .before .before .before .before .before .before .loop .n in
-    let good = ap (λ (w : Word). w .good) (c .before .before .before .before .before .word-at .ensures) in
-    c .before .before .before .before .before .before .before .loop .inv .2 ∙ count-turn n t i (omega arith) ∙ rw (sym good ∙ not-false _ (c .before .before .before .if1 .left), ne-eqb _ _ (c .before .if2 .left), eq-eqb _ _ (c .if3 .left)))
+loop-again c = (
+  omega arith,
+  omega arith,
+  let t = now (c .before .before .before .before .before .before .before .before .before .args .text) in let i = c .before .before .before .before .before .before .before .loop .i in let n = c .before .before .before .before .before .before .before .loop .n in
+      let good = ap (λ (w : Word). w .good) (c .before .before .before .before .before .word-at .ensures) in
+      c .before .before .before .before .before .before .before .loop .inv .2 ∙ count-turn n t i (omega arith) ∙ rw (sym good ∙ not-false _ (c .before .before .before .if1 .left), ne-eqb _ _ (c .before .if2 .left), eq-eqb _ _ (c .if3 .left)),
+)
 
 -- src/line.rt:10:1
 returns-4 : tie.Need-returns-4 Inv-loop μ-loop

@@ -57,10 +57,13 @@ loop-less c = search needs
 
 -- src/line.rt:42:5
 loop-again : tie.Need-loop-again Inv-loop μ-loop
-loop-again c = let k = c .before .before .loop in let t = now (c .before .before .before .before .before .args .text) in let v = c .word-at .result .value in
-    (omega arith, omega (arith, length-set (k .table) (k .to) v), omega (arith, length-set (k .table) (k .to) v),
-    k .inv .3 ∙ store-turn (k .table) t (k .to) (k .left) (k .i) (omega arith)
-    ∙ ap (λ (x : ℕ). sets (set (k .table) (k .to) x) (k .to + 1) (wordsAt (k .left - 1) (drop (k .i + 5) t))) (sym (ap (λ (w : Word). w .value) (c .word-at .ensures))))
+loop-again c = let k = c .before .before .loop in let t = now (c .before .before .before .before .before .args .text) in let v = c .word-at .result .value in (
+  omega arith,
+  omega (arith, length-set (k .table) (k .to) v),
+  omega (arith, length-set (k .table) (k .to) v),
+  k .inv .3 ∙ store-turn (k .table) t (k .to) (k .left) (k .i) (omega arith)
+      ∙ ap (λ (x : ℕ). sets (set (k .table) (k .to) x) (k .to + 1) (wordsAt (k .left - 1) (drop (k .i + 5) t))) (sym (ap (λ (w : Word). w .value) (c .word-at .ensures))),
+)
 
 -- src/line.rt:35:1
 same-length : tie.Need-same-length Inv-loop μ-loop
