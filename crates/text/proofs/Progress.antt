@@ -29,6 +29,13 @@ pub record Progress (text table₀ : List ℕ) (room d : ℕ) (table : List ℕ)
   pub fits : stored ≤ room
   pub limit : stored ≤ tableLimit
 
+-- the numbers of a line that passes
+pub record Fitting (size at stored room count : ℕ) : Type 0 where
+  pub inside : at + 5 * count ≤ size
+  pub some : 0 < count
+  pub room-left : stored + count ≤ room
+  pub limit : stored + count ≤ tableLimit
+
 -- words stored behind others
 module _ (t : List ℕ) (stored : ℕ) (ws : List ℕ) (h : stored + length ws ≤ length t) where
   front-length : length (take stored t ++ ws) ≡ stored + length ws
@@ -92,11 +99,15 @@ module _ (text table₀ : List ℕ) (room d : ℕ) (table : List ℕ) (at line s
   ended h = p .reads ∙ rw (drop-of-length-le text h)
 
   -- a line that passes: its numbers, and the loop's turn
-  pub passing : at < length text → pass ≡ judgement
-      → (at + 5 * countFrom 0 bytes ≤ length text) × (0 < countFrom 0 bytes) × (stored + countFrom 0 bytes ≤ room) × (stored + countFrom 0 bytes ≤ tableLimit)
+  pub passing : at < length text → pass ≡ judgement → Fitting (length text) at stored room (countFrom 0 bytes)
   passing h e =
       let fit = frame-room room d line stored (wordIn bytes .value) (countFrom 0 bytes) (sym e) in
-      (omega (arith, line-fits bytes, length-drop at text), frame-count room d line stored (wordIn bytes .value) (countFrom 0 bytes) (sym e), fit .0, fit .1)
+      record {
+        inside = omega (arith, line-fits bytes, length-drop at text);
+        some = frame-count room d line stored (wordIn bytes .value) (countFrom 0 bytes) (sym e);
+        room-left = fit .0;
+        limit = fit .1;
+      }
 
   pub turn : at < length text → pass ≡ judgement
       → Progress text table₀ room d (sets table stored (wordsAt (countFrom 0 bytes) bytes)) (at + 5 * countFrom 0 bytes) (line + 1) (stored + countFrom 0 bytes)
@@ -105,7 +116,7 @@ module _ (text table₀ : List ℕ) (room d : ℕ) (table : List ℕ) (at line s
       let ws = wordsAt k bytes in
       let wk : length ws ≡ k = words-length k bytes in
       let fit = passing h e in
-      let inside : stored + length ws ≤ length table = omega (arith, p .size, fit .2) in
+      let inside : stored + length ws ≤ length table = omega (arith, p .size, fit .room-left) in
       let more : suc line ≡ line + 1 = omega arith in
       let next : take (stored + k) (sets table stored ws) ≡ take stored table ++ ws = rw wk at (take-stored table stored ws inside) in
       let left : drop (stored + k) (sets table stored ws) ≡ drop (stored + k) table = rw wk at (drop-stored table stored ws inside) in
@@ -113,11 +124,11 @@ module _ (text table₀ : List ℕ) (room d : ℕ) (table : List ℕ) (at line s
         reads = here h ∙ rw (sym e, sym next, drop-drop (5 * k) at text, more);
         rest = left ∙ sym (drop-drop k stored table) ∙ ap (drop k) (p .rest) ∙ drop-drop k stored table₀;
         size = length-sets table stored ws ∙ p .size;
-        within = fit .0;
-        lines = omega arith;
+        within = fit .inside;
+        lines = omega (arith, p .lines, fit .some);
         head = omega (arith, p .head);
-        fits = fit .2;
-        limit = fit .3;
+        fits = fit .room-left;
+        limit = fit .limit;
       }
 
 -- the first line: it breaks a rule, or the loop starts behind it
