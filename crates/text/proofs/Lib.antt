@@ -4,3 +4,5 @@ pub mod Scanning
 pub mod Splitting
 pub mod Reading
 pub mod Progress
+pub mod Accepted
+pub mod Spared
