@@ -1,8 +1,8 @@
 -- What an accepted text is: every line is a frame with all its words, and the words found are those on the lines.
 use mathlib.Core.Path.{_≡_, refl, sym, ap, subst, _∙_}
-use mathlib.Core.Bool.{Bool, true, false, _&&_}
+use mathlib.Core.Bool.{true, _&&_}
 use mathlib.Core.List.{List, [], _∷_, _++_, append-assoc, append-nil}
-use Prim.Native.Nat.{ℕ, zero, suc, _+_, _≤_, _<_}
+use Prim.Native.Nat.{ℕ, suc, _+_, _≤_}
 use native.Mathlib.Omega.{arith}
 use lib.Dec.{leb, eqb}
 use lib.ListN.{length, length-append}
@@ -14,7 +14,7 @@ use Rattle.checker.specs.Rules.{Judgement, pass, refuse, need, _then_}
 use Rattle.checker.proofs.Base.{and-left, and-right, Every}
 use Rattle.text.specs.Lines.{Line, linesOf, areWords}
 use Rattle.text.specs.Reader.{Read, onward, wordsOf, formRule, headLineRule, frameLineRule, roomRule, frameLines, allLines, readText}
-use Rattle.text.proofs.Reading.{then-pass, need-pass, stop}
+use Rattle.text.proofs.Reading.{then-pass, need-pass}
 use Rattle.text.proofs.Progress.{both-pass, room-passes}
 
 -- a line that its line feed ends, of words with one space between

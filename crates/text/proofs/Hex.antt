@@ -1,15 +1,14 @@
 -- Hexadecimal digits and words, as the code reads them.
-use mathlib.Core.Path.{_≡_, refl, sym, ap, subst, _∙_}
-use mathlib.Core.Bool.{Bool, true, false, cond, _&&_, _||_, false≢true}
+use mathlib.Core.Path.{_≡_, refl, sym, ap, _∙_}
+use mathlib.Core.Bool.{true, false}
 use mathlib.Core.List.{List, [], _∷_}
-use Prim.Native.Nat.{ℕ, zero, suc, _+_, _*_, _-_, _≤_, _<_}
-use native.Mathlib.Numerals.{add-one}
+use Prim.Native.Nat.{ℕ, suc, _+_, _*_, _≤_, _<_}
 use native.Mathlib.Omega.{arith}
-use lib.Dec.{leb, eqb}
+use lib.Dec.{leb}
 use lib.ListN.{length, getD, drop, length-drop}
 use lib.Seq.{drop-cons}
-use borrow.Author.Tests.{leb-true, leb-false}
-use Rattle.checker.proofs.Base.{cases, and-left, and-right, and-both}
+use borrow.Author.Tests.{leb-true}
+use Rattle.checker.proofs.Base.{cases, and-right}
 use Rattle.text.specs.declared.digits.Word.{Word}
 use Rattle.text.specs.Lines.{isDecimal, isLetter, isDigit, digit, areDigits, word}
 use Rattle.text.specs.Scan.{digitCode, wordCode, wordIn}

@@ -1,7 +1,7 @@
 -- The loop over the lines: what holds at its head, its turn, and its ends.
-use mathlib.Core.Path.{_≡_, refl, sym, ap, subst, _∙_}
-use mathlib.Core.Bool.{Bool, true, false, _&&_}
-use mathlib.Core.List.{List, [], _∷_, _++_}
+use mathlib.Core.Path.{_≡_, refl, sym, ap, _∙_}
+use mathlib.Core.Bool.{_&&_}
+use mathlib.Core.List.{List, [], _++_}
 use Prim.Native.Nat.{ℕ, zero, suc, _+_, _*_, _-_, _≤_, _<_}
 use native.Mathlib.Omega.{arith}
 use lib.Dec.{leb, ltb, eqb}
@@ -13,7 +13,7 @@ use Rattle.checker.specs.Limits.{tableLimit}
 use Rattle.checker.specs.Rules.{Judgement, pass, refuse, need, _then_}
 use Rattle.checker.proofs.Base.{and-left, and-right}
 use Rattle.text.specs.Lines.{linesOf}
-use Rattle.text.specs.Reader.{Read, onward, frameLines, readText, roomRule}
+use Rattle.text.specs.Reader.{onward, frameLines, readText, roomRule}
 use Rattle.text.specs.Answer.{tableAfter}
 use Rattle.text.specs.Scan.{wordIn, countFrom, wordsAt, ruled, headByCount, frameByCount}
 use Rattle.text.proofs.Reading.{then-pass, need-pass, words-length, stop, frame-line, head-line, line-fits}
@@ -79,11 +79,11 @@ module _ (text table₀ : List ℕ) (room d : ℕ) (table : List ℕ) (at line s
   bytes = drop at text
 
   abbrev judgement : Judgement
-  judgement = frameByCount room d line stored (wordIn bytes .value) (countFrom 0 bytes)
+  judgement = frameByCount room d line stored (wordIn bytes .value) (countFrom 1 bytes)
 
   -- the answer by the line here
   here : at < length text → readText text room ≡ onward judgement (take stored table)
-      (frameLines room d (suc line) (take stored table ++ wordsAt (countFrom 0 bytes) bytes) (linesOf (drop (5 * countFrom 0 bytes) bytes)))
+      (frameLines room d (suc line) (take stored table ++ wordsAt (countFrom 1 bytes) bytes) (linesOf (drop (5 * countFrom 1 bytes) bytes)))
   here h =
       let e : length (take stored table) ≡ stored = length-take-le stored table (omega arith) in
       let f = frame-line room d line (take stored table) bytes (simp length-drop (omega arith)) in
@@ -99,20 +99,20 @@ module _ (text table₀ : List ℕ) (room d : ℕ) (table : List ℕ) (at line s
   ended h = p .reads ∙ rw (drop-of-length-le text h)
 
   -- a line that passes: its numbers, and the loop's turn
-  pub passing : at < length text → pass ≡ judgement → Fitting (length text) at stored room (countFrom 0 bytes)
+  pub passing : at < length text → pass ≡ judgement → Fitting (length text) at stored room (countFrom 1 bytes)
   passing h e =
-      let fit = frame-room room d line stored (wordIn bytes .value) (countFrom 0 bytes) (sym e) in
+      let fit = frame-room room d line stored (wordIn bytes .value) (countFrom 1 bytes) (sym e) in
       record {
         inside = omega (arith, line-fits bytes, length-drop at text);
-        some = frame-count room d line stored (wordIn bytes .value) (countFrom 0 bytes) (sym e);
+        some = frame-count room d line stored (wordIn bytes .value) (countFrom 1 bytes) (sym e);
         room-left = fit .0;
         limit = fit .1;
       }
 
   pub turn : at < length text → pass ≡ judgement
-      → Progress text table₀ room d (sets table stored (wordsAt (countFrom 0 bytes) bytes)) (at + 5 * countFrom 0 bytes) (line + 1) (stored + countFrom 0 bytes)
+      → Progress text table₀ room d (sets table stored (wordsAt (countFrom 1 bytes) bytes)) (at + 5 * countFrom 1 bytes) (line + 1) (stored + countFrom 1 bytes)
   turn h e =
-      let k = countFrom 0 bytes in
+      let k = countFrom 1 bytes in
       let ws = wordsAt k bytes in
       let wk : length ws ≡ k = words-length k bytes in
       let fit = passing h e in
@@ -133,14 +133,14 @@ module _ (text table₀ : List ℕ) (room d : ℕ) (table : List ℕ) (at line s
 
 -- the first line: it breaks a rule, or the loop starts behind it
 abbrev pub headHere : List ℕ → ℕ → Judgement
-headHere text room = headByCount room (length text) (countFrom 0 text) (wordIn text .value) (wordIn (drop 5 text) .value)
+headHere text room = headByCount room (length text) (countFrom 1 text) (wordIn text .value) (wordIn (drop 5 text) .value)
 
 pub head-refused : (text : List ℕ) (room r w : ℕ) → refuse r 0 w ≡ headHere text room → readText text room ≡ stop [] (refuse r 0 w)
 head-refused text room r w e = head-line room text ∙ rw (sym e)
 
 module _ (text table : List ℕ) (room : ℕ) (e : pass ≡ headHere text room) where
   abbrev count : ℕ
-  count = countFrom 0 text
+  count = countFrom 1 text
 
   abbrev lineRules : Judgement
   lineRules = need (eqb count 2 && eqb (wordIn text .value) 0) 3 0 0

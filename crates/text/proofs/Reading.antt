@@ -1,17 +1,16 @@
 -- The answer from a line on, by the line's count of words.
-use mathlib.Core.Path.{_≡_, refl, sym, ap, subst, _∙_}
+use mathlib.Core.Path.{_≡_, refl, sym, ap, _∙_}
 use mathlib.Core.Bool.{Bool, true, false, _&&_}
 use mathlib.Core.List.{List, [], _∷_, _++_}
-use Prim.Native.Nat.{ℕ, zero, suc, _+_, _*_, _-_, _≤_, _<_}
+use Prim.Native.Nat.{ℕ, zero, suc, _*_, _≤_, _<_}
 use native.Mathlib.Omega.{arith}
-use lib.Dec.{leb, ltb, eqb}
 use lib.ListN.{length, drop}
 use borrow.Author.Tests.{lt-ltb}
-use Rattle.checker.specs.Rules.{Judgement, pass, refuse, need, _then_}
+use Rattle.checker.specs.Rules.{Judgement, pass, need, _then_}
 use Rattle.text.specs.Lines.{Line, linesOf, areWords}
 use Rattle.text.specs.Reader.{Read, onward, wordsOf, frameLines, allLines, readText}
 use Rattle.text.specs.Scan.{wordIn, countFrom, wordsAt, headByCount, frameByCount}
-use Rattle.text.proofs.Splitting.{firstLine, afterLine, lines-split, good, Told, unformed, formed, told}
+use Rattle.text.proofs.Splitting.{firstLine, afterLine, lines-split, Told, unformed, formed, told}
 
 -- judgements that pass
 pub then-pass : (b : Bool) (rule f w : ℕ) (j : Judgement) → (need b rule f w then j) ≡ pass → (b ≡ true) × (j ≡ pass)
@@ -45,7 +44,7 @@ module _ (room d n : ℕ) (found : List ℕ) (l : Line) (ls : List Line) where
   good-line g m bytes w = rw (g, w, words-length m (drop 5 bytes), lt-ltb 0 (suc m) (omega arith))
 
 -- a line at the start of some bytes, by its count of words
-frame-told : (room d n : ℕ) (found : List ℕ) (b : ℕ) (bs : List ℕ) (k : ℕ) → Told 0 (b ∷ bs) k
+frame-told : (room d n : ℕ) (found : List ℕ) (b : ℕ) (bs : List ℕ) (k : ℕ) → Told 1 (b ∷ bs) k
     → frameLines room d n found (linesOf (b ∷ bs))
     ≡ onward (frameByCount room d n (length found) (wordIn (b ∷ bs) .value) k) found
     (frameLines room d (suc n) (found ++ wordsAt k (b ∷ bs)) (linesOf (drop (5 * k) (b ∷ bs))))
@@ -64,10 +63,10 @@ frame-told room d n found b bs k (formed m z g w t l) =
 
 pub frame-line : (room d n : ℕ) (found bs : List ℕ) → 0 < length bs
     → frameLines room d n found (linesOf bs)
-    ≡ onward (frameByCount room d n (length found) (wordIn bs .value) (countFrom 0 bs)) found
-    (frameLines room d (suc n) (found ++ wordsAt (countFrom 0 bs) bs) (linesOf (drop (5 * countFrom 0 bs) bs)))
+    ≡ onward (frameByCount room d n (length found) (wordIn bs .value) (countFrom 1 bs)) found
+    (frameLines room d (suc n) (found ++ wordsAt (countFrom 1 bs) bs) (linesOf (drop (5 * countFrom 1 bs) bs)))
 frame-line room d n found [] h = absurd (omega arith)
-frame-line room d n found (b ∷ bs) h = frame-told room d n found b bs (countFrom 0 (b ∷ bs)) (told 0 (b ∷ bs))
+frame-line room d n found (b ∷ bs) h = frame-told room d n found b bs (countFrom 1 (b ∷ bs)) (told 1 (b ∷ bs))
 
 -- the first line
 module _ (room : ℕ) (l : Line) (ls : List Line) where
@@ -80,7 +79,7 @@ module _ (room : ℕ) (l : Line) (ls : List Line) where
   good-head g (suc m) size bytes h w =
       rw (g, w, words-length m (drop 5 (drop 5 bytes)), lt-ltb 0 size h, lt-ltb 0 (suc (suc m)) (omega arith))
 
-head-told : (room b : ℕ) (bs : List ℕ) (k : ℕ) → Told 0 (b ∷ bs) k
+head-told : (room b : ℕ) (bs : List ℕ) (k : ℕ) → Told 1 (b ∷ bs) k
     → readText (b ∷ bs) room
     ≡ onward (headByCount room (length (b ∷ bs)) k (wordIn (b ∷ bs) .value) (wordIn (drop 5 (b ∷ bs)) .value)) []
     (frameLines room (wordIn (drop 5 (b ∷ bs)) .value) 1 (wordsAt k (b ∷ bs)) (linesOf (drop (5 * k) (b ∷ bs))))
@@ -95,15 +94,15 @@ head-told room b bs k (formed m z g w t l) =
 
 pub head-line : (room : ℕ) (text : List ℕ)
     → readText text room
-    ≡ onward (headByCount room (length text) (countFrom 0 text) (wordIn text .value) (wordIn (drop 5 text) .value)) []
-    (frameLines room (wordIn (drop 5 text) .value) 1 (wordsAt (countFrom 0 text) text) (linesOf (drop (5 * countFrom 0 text) text)))
+    ≡ onward (headByCount room (length text) (countFrom 1 text) (wordIn text .value) (wordIn (drop 5 text) .value)) []
+    (frameLines room (wordIn (drop 5 text) .value) 1 (wordsAt (countFrom 1 text) text) (linesOf (drop (5 * countFrom 1 text) text)))
 unfolding readText linesOf
 head-line room [] = refl
-head-line room (b ∷ bs) = head-told room b bs (countFrom 0 (b ∷ bs)) (told 0 (b ∷ bs))
+head-line room (b ∷ bs) = head-told room b bs (countFrom 1 (b ∷ bs)) (told 1 (b ∷ bs))
 
 -- a line of the form lies in the text
-pub line-fits : (bs : List ℕ) → 5 * countFrom 0 bs ≤ length bs
-line-fits bs = fits (countFrom 0 bs) (told 0 bs) where
-  fits : (k : ℕ) → Told 0 bs k → 5 * k ≤ length bs
+pub line-fits : (bs : List ℕ) → 5 * countFrom 1 bs ≤ length bs
+line-fits bs = fits (countFrom 1 bs) (told 1 bs) where
+  fits : (k : ℕ) → Told 1 bs k → 5 * k ≤ length bs
   fits k (unformed z g) = omega arith
   fits k (formed m z g w t l) = omega arith

@@ -1,16 +1,16 @@
 -- The loops over a line: counting its words, and storing them.
-use mathlib.Core.Path.{_≡_, refl, sym, ap, subst, _∙_}
-use mathlib.Core.Bool.{Bool, true, false, cond, _&&_}
+use mathlib.Core.Path.{_≡_, refl}
+use mathlib.Core.Bool.{cond, _&&_}
 use mathlib.Core.List.{List, [], _∷_}
-use Prim.Native.Nat.{ℕ, zero, suc, _+_, _*_, _-_, _≤_, _<_}
+use Prim.Native.Nat.{ℕ, zero, suc, _+_, _-_, _≤_, _<_}
 use native.Mathlib.Omega.{arith}
 use lib.Dec.{leb, eqb}
 use lib.ListN.{length, getD, drop, set, length-drop}
 use lib.Seq.{sets, drop-drop}
-use Rattle.checker.proofs.Base.{cases}
-use Rattle.text.specs.Lines.{lineFeed, space, areDigits}
 use borrow.Author.Tests.{eqb-true}
-use Rattle.checker.specs.Rules.{Judgement, pass, refuse}
+use Rattle.checker.proofs.Base.{cases}
+use Rattle.checker.specs.Rules.{pass, refuse}
+use Rattle.text.specs.Lines.{lineFeed, space, areDigits}
 use Rattle.text.specs.Reader.{roomRule}
 use Rattle.text.specs.Scan.{wordIn, countFrom, wordsAt, ruled, headWord}
 use Rattle.text.proofs.Hex.{five}
@@ -32,7 +32,7 @@ count-end n l i h = short-count n (drop i l) (simp length-drop (omega arith))
 module _ (n : ℕ) (l : List ℕ) (i : ℕ) (h : i + 5 ≤ length l) where
   pub count-turn : countFrom n (drop i l)
       ≡ cond (wordIn (drop i l) .good)
-      (cond (eqb (getD l (i + 4) 0) lineFeed) (n + 1) (cond (eqb (getD l (i + 4) 0) space) (countFrom (n + 1) (drop (i + 5) l)) 0))
+      (cond (eqb (getD l (i + 4) 0) lineFeed) n (cond (eqb (getD l (i + 4) 0) space) (countFrom (n + 1) (drop (i + 5) l)) 0))
       0
   unfolding countFrom wordIn
   count-turn = let u : n + 1 ≡ suc n = omega arith in rw (u, five l i h) (cases (areDigits (getD l i 0) (getD l (i + 1) 0) (getD l (i + 2) 0) (getD l (i + 3) 0)) (λ e. rw e) (λ e. rw e))

@@ -1,12 +1,12 @@
 -- A text that the reader accepts gives a table that breaks none of the checker's rules 1 and 3 to 6: where the notes have
 -- room, the checker accepts it or refuses it by one of 7 to 14.
 use mathlib.Core.Path.{_≡_, refl, sym, ap, subst, _∙_}
-use mathlib.Core.Bool.{Bool, true, false, _&&_}
-use mathlib.Core.List.{List, [], _∷_, _++_, map}
-use Prim.Native.Nat.{ℕ, zero, suc, _+_, _≤_, _<_}
+use mathlib.Core.Bool.{Bool, true, false}
+use mathlib.Core.List.{List, [], _∷_, _++_}
+use Prim.Native.Nat.{ℕ, zero, suc, _+_, _≤_}
 use native.Mathlib.Omega.{arith}
 use lib.Dec.{leb, ltb, eqb}
-use lib.ListN.{length, take, drop, length-append}
+use lib.ListN.{length, take, length-append}
 use borrow.Author.Tests.{le-leb}
 use Rattle.checker.specs.Limits.{tableLimit, notesRoom, stageLimit, wireLimit}
 use Rattle.checker.specs.Lists.{nth, each}
@@ -15,9 +15,9 @@ use Rattle.checker.specs.Kinds.{Kind, HEAD, IN, CON, XOR, NOT, REG, AND, REF, O
 use Rattle.checker.specs.Circuit.{Circuit, size, empty, place, labelOf, stageShown, newStage, extend}
 use Rattle.checker.specs.Rules.{Judgement, pass, refuse, need, _then_, isNamed, wireRule, wordRule, wordsRule, frameRule, Checked, onward, frames, headRule, checked}
 use Rattle.checker.proofs.Base.{Every, every-map, every-append}
-use Rattle.text.specs.Lines.{Line, linesOf}
+use Rattle.text.specs.Lines.{Line}
 use Rattle.text.specs.Reader.{wordsOf, readText}
-use Rattle.text.proofs.Accepted.{Formed, FrameLine, AcceptedText, text-accepted}
+use Rattle.text.proofs.Accepted.{FrameLine, text-accepted}
 
 -- nothing is broken, or a rule past 6
 abbrev pub PastSix : Judgement → Type 0

@@ -1,12 +1,11 @@
 -- The first line of some bytes: what it holds, what comes after it, and what counting its words tells of it.
-use mathlib.Core.Path.{_≡_, refl, sym, ap, subst, _∙_}
-use mathlib.Core.Bool.{Bool, true, false, cond, _&&_, _||_, true≢false, false≢true}
+use mathlib.Core.Path.{_≡_, refl, ap, _∙_}
+use mathlib.Core.Bool.{Bool, true, false, cond, _&&_, false≢true}
 use mathlib.Core.List.{List, [], _∷_}
-use Prim.Native.Nat.{ℕ, zero, suc, _+_, _*_, _-_, _≤_, _<_}
+use Prim.Native.Nat.{ℕ, suc, _+_, _*_, _≤_, _<_}
 use native.Mathlib.Omega.{arith}
-use lib.Dec.{leb, eqb}
+use lib.Dec.{eqb}
 use lib.ListN.{length, drop}
-use lib.Seq.{drop-drop}
 use borrow.Author.Tests.{eqb-true, ne-eqb}
 use Rattle.checker.proofs.Base.{cases, and-left, and-right}
 use Rattle.text.specs.Lines.{lineFeed, space, isDigit, areDigits, word, Line, line, grow, linesOf, areWords, wordsOn}
@@ -87,14 +86,14 @@ module _ (a b c e : ℕ) (bs : List ℕ) (h : areDigits a b c e ≡ true) where
   unfolding afterLine
   word-after = rw (plain .0, plain .1, plain .2, plain .3)
 
--- what the count k of the words of the first line, n counted before, tells
+-- what the count k of the words of the first line, its first being the n-th, tells
 pub data Told (n : ℕ) (bs : List ℕ) (k : ℕ) : Type 0 where
   unformed : k ≡ 0 → good bs ≡ false → Told n bs k
-  formed : (m : ℕ) → k ≡ n + suc m → good bs ≡ true → wordsOn (firstLine bs .content) ≡ wordsAt (suc m) bs
+  formed : (m : ℕ) → k ≡ n + m → good bs ≡ true → wordsOn (firstLine bs .content) ≡ wordsAt (suc m) bs
       → afterLine bs ≡ drop (5 * suc m) bs → 5 * suc m ≤ length bs → Told n bs k
 
 -- a line of one word
-last-word : (n a b c e : ℕ) (rest : List ℕ) → areDigits a b c e ≡ true → Told n (a ∷ b ∷ c ∷ e ∷ lineFeed ∷ rest) (suc n)
+last-word : (n a b c e : ℕ) (rest : List ℕ) → areDigits a b c e ≡ true → Told n (a ∷ b ∷ c ∷ e ∷ lineFeed ∷ rest) n
 unfolding firstLine afterLine areWords wordsOn wordsAt wordIn
 last-word n a b c e rest h =
     let f = word-first a b c e (lineFeed ∷ rest) h in

@@ -26,7 +26,7 @@ wordIn (a ∷ b ∷ []) = wordCode false 0
 wordIn (a ∷ b ∷ c ∷ []) = wordCode false 0
 wordIn (a ∷ b ∷ c ∷ e ∷ rest) = cond (areDigits a b c e) (wordCode true (word a b c e)) (wordCode false 0)
 
--- how many words the first line of some bytes has, n counted before; 0 where the line is not of the form
+-- how many words the first line of some bytes has, its first being the n-th; 0 where the line is not of the form
 unfoldable pub countFrom : ℕ → List ℕ → ℕ
 countFrom n [] = 0
 countFrom n (a ∷ []) = 0
@@ -35,7 +35,7 @@ countFrom n (a ∷ b ∷ c ∷ []) = 0
 countFrom n (a ∷ b ∷ c ∷ e ∷ []) = 0
 countFrom n (a ∷ b ∷ c ∷ e ∷ s ∷ rest) =
     cond (areDigits a b c e)
-    (cond (eqb s lineFeed) (suc n) (cond (eqb s space) (countFrom (suc n) rest) 0))
+    (cond (eqb s lineFeed) n (cond (eqb s space) (countFrom (suc n) rest) 0))
     0
 
 -- so many words in a row, five bytes apart

@@ -9,7 +9,7 @@ pub struct Word {
     pub value: u16,
 }
 
-// The value of a digit 0-9A-F; 16 for another byte.
+// The value of a digit 0-9A-F; 16 for another byte. (A is 65, which is 1 past a multiple of 16.)
 fn digit(b: u8) -> u16
     ensures { λ r. ⌜ r ≡ digitCode b ⌝ }
 {
@@ -21,7 +21,7 @@ fn digit(b: u8) -> u16
     } else if n < 65 {
         16
     } else if n <= 70 {
-        n - 55
+        n % 16 + 9
     } else {
         16
     }

@@ -6,20 +6,20 @@ ghost use lib.Seq.{sets};
 ghost use Rattle.text.specs.Scan.{countFrom, wordsAt};
 use super::digits;
 
-// How many words the line at a place has; 0 where the line is not of the form. The line feed is the fifth byte of its last word.
+// How many words the line at a place has; 0 where the line is not of the form. Each word is four digits and a byte behind
+// them, the line feed behind the last.
 pub(crate) fn count(text: &[u8], at: usize) -> usize
     requires { ⌜ at ≤ length (now text) ⌝ }
-    ensures { λ r. ⌜ r ≡ countFrom 0 (drop at (now (text .entry))) ⌝ }
+    ensures { λ r. ⌜ r ≡ countFrom 1 (drop at (now (text .entry))) ⌝ }
 {
     let mut i = at;
-    let mut n: usize = 0;
+    let mut n: usize = 1;
     while 5 <= text.len() - i {
         let word = digits::word_at(text, i);
         if !word.good {
             return 0;
         }
         let mark = text[i + 4];
-        n += 1;
         if mark == 10 {
             return n;
         }
@@ -27,6 +27,7 @@ pub(crate) fn count(text: &[u8], at: usize) -> usize
             return 0;
         }
         i += 5;
+        n += 1;
     }
     0
 }

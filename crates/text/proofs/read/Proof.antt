@@ -1,7 +1,7 @@
 -- `text::read` keeps its promise. At the head of the loop `Progress` holds; the measure is what is left of the text.
 use mathlib.Core.Path.{_≡_, refl, sym, ap, _∙_}
 use mathlib.Core.List.{List}
-use Prim.Native.Nat.{ℕ, _+_, _*_, _-_, _≤_, _<_}
+use Prim.Native.Nat.{ℕ, _-_, _≤_}
 use native.Mathlib.Omega.{arith}
 use lib.ListN.{length, drop}
 use lib.Seq.{length-take-le}
@@ -10,9 +10,9 @@ use borrow.Author.Needs.{needs}
 use Rattle.checker.specs.Rules.{Judgement, pass, refuse}
 use Rattle.text.specs.declared.digits.Word.{Word}
 use Rattle.text.specs.Scan.{wordIn, countFrom, ruled, headWord, frameByCount}
+use Rattle.text.proofs.read.Tie as tie
 use Rattle.text.proofs.Progress.{Progress, Fitting, headHere, head-refused, head-fits, start, rest-behind, rule-broken, passing, refused, ended, turn, table-after}
 use Rattle.text.proofs.read.Statement.{statement}
-use Rattle.text.proofs.read.Tie as tie
 
 abbrev Inv-loop : tie.InvT-loop
 Inv-loop text table₀ room d broken at₀ line₀ stored₀ table at line stored = Progress text table₀ room d table at line stored
@@ -40,7 +40,7 @@ lent c = now (c .before .before .before .before .before .before .before .before 
 
 abbrev here : tie.At-loop Inv-loop μ-loop → Judgement
 here c = frameByCount (length (lent c)) (c .before .before .before .before .before .before .before .before .word-at2 .result .value) (c .loop .line) (c .loop .stored)
-    (wordIn (drop (c .loop .at) (text c)) .value) (countFrom 0 (drop (c .loop .at) (text c)))
+    (wordIn (drop (c .loop .at) (text c)) .value) (countFrom 1 (drop (c .loop .at) (text c)))
 
 judged : (c : tie.After-frame-rule Inv-loop μ-loop) → ruled (c .frame-rule .result) (c .before .before .before .before .loop .line) 0 ≡ here (c .before .before .before .before)
 judged c = rw (c .before .before .count2 .ensures, value (c .before .word-at3 .ensures)) at (c .frame-rule .ensures (c .before .before .before .before .loop .line))

@@ -1,20 +1,16 @@
-use lib.ListN.{set}
-use Prim.Native.Nat.{ℕ}
-use Rattle.text.specs.declared.digits.Word.{Word}
+-- `text::line::store` meets its contract. The loop's invariant: what is stored in all is what is still to be stored from here on.
 use mathlib.Core.Path.{_≡_, refl, sym, ap, _∙_}
-use Rattle.text.proofs.Scanning.{store-turn}
-use Rattle.text.specs.Scan.{wordsAt}
-use borrow.Author.Needs.{needs}
-use lib.Seq.{sets}
-use lib.ListN.{length, drop, length-set}
-use Prim.Native.Nat.{_+_, _*_, _-_, _≤_}
+use Prim.Native.Nat.{ℕ, _+_, _*_, _-_, _≤_}
 use native.Mathlib.Omega.{arith}
+use lib.ListN.{set, length, drop, length-set}
+use lib.Seq.{sets}
 use denote.Ref.{now}
-use Rattle.text.proofs.line.store.Statement.{statement}
+use borrow.Author.Needs.{needs}
+use Rattle.text.specs.declared.digits.Word.{Word}
+use Rattle.text.specs.Scan.{wordsAt}
 use Rattle.text.proofs.line.store.Tie as tie
-use Rattle.text.proofs.line.store.Reads as reads
-use Rattle.text.proofs.line.store.Lts as lts
-use Rattle.text.proofs.digits.word_at.Reads as word-at-reads
+use Rattle.text.proofs.Scanning.{store-turn}
+use Rattle.text.proofs.line.store.Statement.{statement}
 
 abbrev Inv-loop : tie.InvT-loop
 Inv-loop text at count table₀ from i₀ to₀ left₀ table i to left = (i + 5 * left ≤ length text) × (to + left ≤ length table) × (length table ≡ length table₀)
@@ -23,39 +19,30 @@ Inv-loop text at count table₀ from i₀ to₀ left₀ table i to left = (i + 5
 abbrev μ-loop : tie.MeasureT-loop
 μ-loop text at count table₀ from i₀ to₀ left₀ table i to left = left
 
--- src/line.rt:42:5
 loop-holds : tie.Need-loop-holds Inv-loop μ-loop
 loop-holds c = (omega arith, omega arith, refl, refl)
 
--- src/line.rt:43:13
 word-at-requires : tie.Need-word-at-requires Inv-loop μ-loop
 word-at-requires c κs = search needs
 
--- src/line.rt:44:9
 mul-table : tie.Need-mul-table Inv-loop μ-loop
 mul-table c = search needs
 
--- src/line.rt:44:9
 slice-write-table : tie.Need-slice-write-table Inv-loop μ-loop
 slice-write-table c = search needs
 
--- src/line.rt:45:9
 add-i : tie.Need-add-i Inv-loop μ-loop
 add-i c = search needs
 
--- src/line.rt:46:9
 add-to : tie.Need-add-to Inv-loop μ-loop
 add-to c = search needs
 
--- src/line.rt:47:9
 sub-left : tie.Need-sub-left Inv-loop μ-loop
 sub-left c = search needs
 
--- src/line.rt:42:5
 loop-less : tie.Need-loop-less Inv-loop μ-loop
 loop-less c = search needs
 
--- src/line.rt:42:5
 loop-again : tie.Need-loop-again Inv-loop μ-loop
 loop-again c = let k = c .before .before .loop in let t = now (c .before .before .before .before .before .args .text) in let v = c .word-at .result .value in (
   omega arith,
@@ -65,11 +52,9 @@ loop-again c = let k = c .before .before .loop in let t = now (c .before .before
       ∙ ap (λ (x : ℕ). sets (set (k .table) (k .to) x) (k .to + 1) (wordsAt (k .left - 1) (drop (k .i + 5) t))) (sym (ap (λ (w : Word). w .value) (c .word-at .ensures))),
 )
 
--- src/line.rt:35:1
 same-length : tie.Need-same-length Inv-loop μ-loop
 same-length c = search needs
 
--- src/line.rt:35:1
 returns : tie.Need-returns Inv-loop μ-loop
 unfolding wordsAt
 returns c = let k = c .before .loop in let e : k .left ≡ 0 = omega arith in sym (k .inv .3 ∙ rw e)

@@ -1,49 +1,36 @@
-use Rattle.checker.specs.declared.kinds.Shape.{Shape}
-use Prim.Native.Nat.{_-_}
-use mathlib.Core.Path.{_≡_}
-use Rattle.checker.specs.Kinds.{words, kindOf}
+-- `text::rules::frame_rule` meets its contract: each return decides the tests before it.
+use mathlib.Core.Path.{ap}
 use Prim.Native.Nat.{suc}
-use mathlib.Core.Path.{_∙_, ap}
-use borrow.Author.Tests.{eq-eqb, ne-eqb, lt-ltb, le-leb, lt-leb}
 use native.Mathlib.Omega.{arith}
+use borrow.Author.Tests.{eq-eqb, ne-eqb, lt-ltb, le-leb, lt-leb}
 use borrow.Author.Needs.{needs}
-use Rattle.text.proofs.rules.frame_rule.Statement.{statement}
+use Rattle.checker.specs.declared.kinds.Shape.{Shape}
+use Rattle.checker.specs.Kinds.{words, kindOf}
 use Rattle.text.proofs.rules.frame_rule.Tie as tie
-use Rattle.text.proofs.rules.frame_rule.Reads as reads
-use Rattle.text.proofs.rules.frame_rule.Lts as lts
-use Rattle.checker.proofs.kinds.decide.Reads as decide-reads
-use Rattle.text.proofs.rules.room_rule.Reads as room-rule-reads
+use Rattle.text.proofs.rules.frame_rule.Statement.{statement}
 
--- src/rules.rt:60:9
 returns : tie.Need-returns
 returns c = λ n. rw (c .if1 .taken)
 
--- src/rules.rt:63:9
 returns-2 : tie.Need-returns-2
 returns-2 c = let a = c .before .before .args in λ n. rw (lt-ltb 0 (a .count) (omega arith), lt-leb 1 (a .kind) (c .if2 .taken))
 
--- src/rules.rt:66:9
 returns-3 : tie.Need-returns-3
 returns-3 c = let a = c .before .before .before .args in λ n. rw (lt-ltb 0 (a .count) (omega arith), le-leb 1 (a .kind) (omega arith), lt-leb (a .kind) 8 (c .if3 .taken))
 
--- src/rules.rt:68:9
 decide-requires : tie.Need-decide-requires
 decide-requires c κs = search needs
 
--- src/rules.rt:69:8
 sub-if4 : tie.Need-sub-if4
 sub-if4 c = search needs
 
--- src/rules.rt:70:9
 returns-4 : tie.Need-returns-4
 returns-4 c = let a = c .before .before .before .before .before .before .args in let w = ap (λ (s : Shape). s .words) (c .before .before .decide .ensures) in
     λ n. rw (lt-ltb 0 (a .count) (omega arith), le-leb 1 (a .kind) (omega arith), le-leb (a .kind) 8 (omega arith), ne-eqb (a .count) (suc (words (a .d) (kindOf (a .kind)))) (λ e. c .if4 .taken (omega arith)))
 
--- src/rules.rt:72:5
 room-rule-requires : tie.Need-room-rule-requires
 room-rule-requires c κs = search needs
 
--- src/rules.rt:55:1
 returns-5 : tie.Need-returns-5
 returns-5 c = let a = c .before .before .before .before .before .before .before .args in let w = ap (λ (s : Shape). s .words) (c .before .before .before .decide .ensures) in
     λ n. rw (lt-ltb 0 (a .count) (omega arith), le-leb 1 (a .kind) (omega arith), le-leb (a .kind) 8 (omega arith), eq-eqb (a .count) (suc (words (a .d) (kindOf (a .kind)))) (omega arith)) (c .room-rule .ensures n)

@@ -1,14 +1,11 @@
+-- `text::rules::head_word` meets its contract.
 use borrow.Author.Tests.{eq-eqb, ne-eqb}
-use Rattle.text.proofs.rules.head_word.Statement.{statement}
 use Rattle.text.proofs.rules.head_word.Tie as tie
-use Rattle.text.proofs.rules.head_word.Reads as reads
-use Rattle.text.proofs.rules.head_word.Lts as lts
+use Rattle.text.proofs.rules.head_word.Statement.{statement}
 
--- src/rules.rt:48:1
 returns : tie.Need-returns
 returns c = rw (eq-eqb _ _ (c .if1 .taken))
 
--- src/rules.rt:48:1
 returns-2 : tie.Need-returns-2
 returns-2 c = rw (ne-eqb _ _ (c .if1 .left))
 
