@@ -1,10 +1,19 @@
 -- `text::digits::word_at` meets its contract: the text ends inside the word, or each of its four bytes is judged by its code.
+use mathlib.Core.List.{List}
+use Prim.Native.Nat.{ℕ}
 use native.Mathlib.Omega.{arith}
 use denote.Ref.{now}
 use borrow.Author.Needs.{needs}
 use Rattle.text.proofs.digits.word_at.Tie as tie
 use Rattle.text.proofs.Hex.{word-past, bad-first, bad-second, bad-third, bad-fourth, all-digits}
 use Rattle.text.proofs.digits.word_at.Statement.{statement}
+
+-- the text and the place, behind the fourth digit
+abbrev text : tie.After-digit4 → List ℕ
+text c = now (c .before .before .before .before .before .before .before .before .before .before .before .args .text)
+
+abbrev at : tie.After-digit4 → ℕ
+at c = c .before .before .before .before .before .before .before .before .before .before .before .args .at
 
 returns : tie.Need-returns
 returns c = let a = c .before .before .args in word-past (now (a .text)) (a .at) (omega arith)
@@ -49,16 +58,16 @@ digit-requires-4 : tie.Need-digit-requires-4
 digit-requires-4 c κs = search needs
 
 returns-3 : tie.Need-returns-3
-returns-3 c = let a = c .before .before .before .before .before .before .before .before .before .before .before .before .args in bad-first (now (a .text)) (a .at) (omega arith) (omega arith)
+returns-3 c = let l = c .before in bad-first (text l) (at l) (omega arith) (omega arith)
 
 returns-4 : tie.Need-returns-4
-returns-4 c = let a = c .before .before .before .before .before .before .before .before .before .before .before .before .before .args in bad-second (now (a .text)) (a .at) (omega arith) (omega arith) (omega arith)
+returns-4 c = let l = c .before .before in bad-second (text l) (at l) (omega arith) (omega arith) (omega arith)
 
 returns-5 : tie.Need-returns-5
-returns-5 c = let a = c .before .before .before .before .before .before .before .before .before .before .before .before .before .before .args in bad-third (now (a .text)) (a .at) (omega arith) (omega arith) (omega arith) (omega arith)
+returns-5 c = let l = c .before .before .before in bad-third (text l) (at l) (omega arith) (omega arith) (omega arith) (omega arith)
 
 returns-6 : tie.Need-returns-6
-returns-6 c = let a = c .before .before .before .before .before .before .before .before .before .before .before .before .before .before .before .args in bad-fourth (now (a .text)) (a .at) (omega arith) (omega arith) (omega arith) (omega arith) (omega arith)
+returns-6 c = let l = c .before .before .before .before in bad-fourth (text l) (at l) (omega arith) (omega arith) (omega arith) (omega arith) (omega arith)
 
 mul-t16 : tie.Need-mul-t16
 mul-t16 c = search needs
@@ -79,7 +88,9 @@ add-t21 : tie.Need-add-t21
 add-t21 c = search needs
 
 returns-7 : tie.Need-returns-7
-returns-7 c = let a = c .before .before .before .before .before .before .before .before .before .before .before .before .before .before .before .args in rw (c .before .before .before .before .before .before .before .before .before .before .digit .ensures, c .before .before .before .before .before .before .before .before .digit2 .ensures, c .before .before .before .before .before .before .digit3 .ensures, c .before .before .before .before .digit4 .ensures) (all-digits (now (a .text)) (a .at) (omega arith) (omega arith) (omega arith) (omega arith) (omega arith))
+returns-7 c = let l = c .before .before .before .before in
+    rw (l .before .before .before .before .before .before .digit .ensures, l .before .before .before .before .digit2 .ensures, l .before .before .digit3 .ensures, l .digit4 .ensures)
+    (all-digits (text l) (at l) (omega arith) (omega arith) (omega arith) (omega arith) (omega arith))
 
 pub word-at-spec : {M : Type 1} → statement M
 word-at-spec =
