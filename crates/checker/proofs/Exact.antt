@@ -14,7 +14,7 @@ use Rattle.checker.specs.Kinds.{kindOf, order, words}
 use Rattle.checker.specs.Circuit.{Circuit, size, empty, place, stageOf, extend}
 use Rattle.checker.specs.Rules.{Judgement, pass, refuse, frameRule, Checked, onward, frames, headRule, checked}
 use Rattle.checker.proofs.Base.{and-left, and-right, and-both}
-use Rattle.checker.proofs.Walk.{frames-pass}
+use Rattle.checker.proofs.Steps.{frames-pass}
 use Rattle.checker.proofs.Composition.{Frame, AllFit, done, next, build, kindWord, wordsOf}
 use Rattle.checker.proofs.Building.{Lawful, InTime, build-size, stage-le, intime-step, build-intime}
 use Rattle.checker.proofs.Judging.{never, need-then, then-need, word-pass, pass-word}

@@ -3,7 +3,8 @@ pub mod Base
 pub mod Numbered
 pub mod Parts
 pub mod Sizes
-pub mod Walk
+pub mod Steps
+pub mod KindTable
 pub mod Composition
 pub mod Building
 pub mod Judging

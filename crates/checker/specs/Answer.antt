@@ -7,7 +7,7 @@ use Rattle.checker.specs.Limits.{innerNote}
 use Rattle.checker.specs.Lists.{each, over}
 use Rattle.checker.specs.Wires.{Place, named, inner, Wire}
 use Rattle.checker.specs.Circuit.{Circuit, size}
-use Rattle.checker.specs.Rules.{Judgement, pass, refuse, Checked}
+use Rattle.checker.specs.Rules.{Judgement, pass, refuse, Checked, checked}
 
 -- accepted: the numbers of wires and random bits, and the latency; refused: the rule's number, the frame and the word
 pub data Answer : Type 0 where
@@ -23,6 +23,10 @@ said (Refused rule frame word) = refused rule frame word
 abbrev pub answer : Circuit → Judgement → Answer
 answer k pass = accepted (size k) (k .randoms) (k .latency)
 answer k (refuse rule frame word) = refused rule frame word
+
+-- the answer to a table, with notes of so many words
+abbrev pub verdictOf : (table : List ℕ) (room : ℕ) → Answer
+verdictOf table room = answer (checked table room .circuit) (checked table room .judgement)
 
 -- the two words of a wire in the notes
 abbrev pub note : Place → List ℕ

@@ -7,3 +7,4 @@ pub mod Kinds
 pub mod Circuit
 pub mod Rules
 pub mod Answer
+pub mod Walk

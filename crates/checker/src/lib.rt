@@ -1,9 +1,12 @@
-// The checker's answer: accepted with the numbers of wires and random bits and the latency, or refused with the number
-// of the first rule broken, the frame and the word.
+// Decides whether a table of words is a circuit that keeps document 01's rules, and writes each wire's label and stage into
+// the notes.
+pub mod kinds;
+pub mod walk;
+
 pub enum Verdict {
     Accepted {
         wires: usize,
-        random_bits: usize,
+        randoms: usize,
         latency: usize,
     },
     Refused {
@@ -12,3 +15,4 @@ pub enum Verdict {
         word: usize,
     },
 }
+

@@ -1,0 +1,134 @@
+// The walk over the frames of a table.
+ghost use mathlib.Core.Path.{_≡_};
+ghost use Rattle.checker.specs.Lists.{nth};
+ghost use Rattle.checker.specs.Walk.{frameCode, operandsAt, stepAt};
+use super::kinds;
+use kinds::Kind;
+use kinds::Shape;
+
+// A gate, with its words. OUT's stay in the table.
+pub enum Gate {
+    In { stage: u16 },
+    Con { label: u16, value: u16, stage: u16 },
+    Xor { first: u16, second: u16 },
+    Not { wire: u16 },
+    Reg { wire: u16 },
+    Out,
+}
+
+// A frame is a gate or a gadget; a gadget's words stay in the table.
+pub enum Frame {
+    Gate(Gate),
+    And,
+    Ref,
+}
+
+// The state of a walk: the number of shares, and where in the table the next frame begins.
+pub struct Walk {
+    pub d: u16,
+    pub at: usize,
+}
+
+// What stands at a walk's place: a whole frame, with what its kind decides and the walk behind it; the rule that the words
+// there break, 5 or 6; or the table's end.
+pub enum Step {
+    Next {
+        frame: Frame,
+        shape: Shape,
+        walk: Walk,
+    },
+    Refused {
+        rule: usize,
+    },
+    End,
+}
+
+// The word at a place of a part of the table; 0 past its end.
+pub(crate) fn word_at(words: &[u16], i: usize) -> u16
+    ensures { λ r. ⌜ r ≡ nth (now (words .entry)) i ⌝ }
+{
+    if i < words.len() { words[i] } else { 0 }
+}
+
+// The frame of a kind, from the words after the kind. (No HEAD comes here: rule 5 refuses it before.)
+fn frame_of(kind: Kind, ops: &[u16]) -> Frame
+    ensures { λ r. ⌜ r ≡ frameCode kind (now (ops .entry)) ⌝ }
+{
+    match kind {
+        Kind::In => Frame::Gate(Gate::In {
+            stage: word_at(ops, 0),
+        }),
+        Kind::Con => Frame::Gate(Gate::Con {
+            label: word_at(ops, 0),
+            value: word_at(ops, 1),
+            stage: word_at(ops, 2),
+        }),
+        Kind::Xor => Frame::Gate(Gate::Xor {
+            first: word_at(ops, 0),
+            second: word_at(ops, 1),
+        }),
+        Kind::Not => Frame::Gate(Gate::Not {
+            wire: word_at(ops, 0),
+        }),
+        Kind::Reg => Frame::Gate(Gate::Reg {
+            wire: word_at(ops, 0),
+        }),
+        Kind::And => Frame::And,
+        Kind::Ref => Frame::Ref,
+        Kind::Out => Frame::Gate(Gate::Out),
+        Kind::Head => Frame::Gate(Gate::Out),
+    }
+}
+
+impl Walk {
+    // The words after the kind word at the walk's place, as a part of the table, as far as the table goes.
+    pub fn operands(self, table: &[u16]) -> &[u16]
+        ensures { λ r. ⌜ now r ≡ operandsAt (now (table .entry)) (self .d) (self .at) ⌝ }
+    {
+        let at = self.at;
+        let n = table.len();
+        if n <= at {
+            return &table[n..n];
+        }
+        let shape = kinds::decide(table[at], self.d);
+        let words = shape.words;
+        let start = at + 1;
+        if n - start < words {
+            return &table[start..n];
+        }
+        let end = start + words;
+        &table[start..end]
+    }
+
+    // The frame at the walk's place, and the walk behind it.
+    pub fn step(self, table: &[u16]) -> Step
+        ensures { λ r. ⌜ r ≡ stepAt (now (table .entry)) (self .d) (self .at) ⌝ }
+    {
+        let at = self.at;
+        let d = self.d;
+        if table.len() <= at {
+            return Step::End;
+        }
+        let word = table[at];
+        if word < 1 {
+            return Step::Refused { rule: 5 };
+        }
+        if 8 < word {
+            return Step::Refused { rule: 5 };
+        }
+        let shape = kinds::decide(word, d);
+        let words = shape.words;
+        let start = at + 1;
+        if table.len() - start < words {
+            return Step::Refused { rule: 6 };
+        }
+        let end = start + words;
+        let kind = shape.kind;
+        let frame = frame_of(kind, &table[start..end]);
+        Step::Next {
+            frame: frame,
+            shape: shape,
+            walk: Walk { d: d, at: end },
+        }
+    }
+}
