@@ -8,9 +8,9 @@ use lib.ListN.{length, length-append, length-map}
 use Rattle.checker.specs.declared.kinds.Kind.{Kind as KindCode}
 use Rattle.checker.specs.declared.kinds.Form.{Form}
 use Rattle.checker.specs.declared.kinds.Shape.{Shape as ShapeCode}
-use Rattle.checker.specs.Lists.{range}
-use Rattle.checker.specs.Gadgets.{labels}
-use Rattle.checker.specs.Kinds.{WordRule, share, before, row, Kind, HEAD, AND, REF, OUT, kindOf, shape, words}
+use Rattle.circuit.specs.Lists.{range}
+use Rattle.circuit.specs.Gadgets.{labels}
+use Rattle.circuit.specs.Kinds.{WordRule, share, before, row, Kind, HEAD, AND, REF, OUT, kindOf, shape, words}
 
 range-length : (n k : ℕ) → length (range n k) ≡ k
 range-length n zero = refl

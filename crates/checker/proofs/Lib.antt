@@ -1,12 +1,13 @@
--- What is proved of the definitions, and of the code.
-pub mod Base
-pub mod Numbered
-pub mod Parts
-pub mod Sizes
-pub mod Steps
+-- The kind table in numbers
 pub mod KindTable
-pub mod Composition
-pub mod Building
-pub mod Judging
-pub mod Fitting
-pub mod Exact
+-- The words of a frame
+pub mod WordRules
+pub mod Numbers
+-- The wires of a frame in the notes
+pub mod Stores
+pub mod MadeNotes
+pub mod Telling
+-- One frame, then all
+pub mod Adding
+pub mod Checking
+pub mod Ways

@@ -1,10 +1,5 @@
--- The definitions of document 01 that decide which tables are accepted. A reader must believe these files, in this order.
-pub mod Limits
-pub mod Lists
-pub mod Wires
-pub mod Gadgets
-pub mod Kinds
-pub mod Circuit
-pub mod Rules
-pub mod Answer
+-- What the code's answer says, and what the walk over frames answers.
+pub mod Said
 pub mod Walk
+-- For the contracts of the crate's own functions. No promise to others names any of it.
+pub mod Sheet

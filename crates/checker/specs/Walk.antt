@@ -15,8 +15,8 @@ use Rattle.checker.specs.declared.walk.Frame.the-variants as frame
 use Rattle.checker.specs.declared.walk.Walk.{Walk}
 use Rattle.checker.specs.declared.walk.Step.{Step}
 use Rattle.checker.specs.declared.walk.Step.the-variants.{Next, Refused, End}
-use Rattle.checker.specs.Lists.{nth}
-use Rattle.checker.specs.Kinds.{Kind, HEAD, IN, CON, XOR, NOT, REG, AND, REF, OUT, kindOf, shape, words}
+use Rattle.circuit.specs.Lists.{nth}
+use Rattle.circuit.specs.Kinds.{Kind, HEAD, IN, CON, XOR, NOT, REG, AND, REF, OUT, kindOf, shape, words}
 
 -- the code's name of a kind, and the form of the words after it
 abbrev pub kindCode : Kind → KindCode

@@ -1,6 +1,6 @@
 // What the kind word decides, once d is known: the one decision over kinds 0 to 8.
 ghost use mathlib.Core.Path.{_≡_};
-ghost use Rattle.checker.specs.Kinds.{kindOf};
+ghost use Rattle.circuit.specs.Kinds.{kindOf};
 ghost use Rattle.checker.specs.Walk.{shapeCode};
 
 pub enum Kind {
@@ -48,6 +48,7 @@ pub fn decide(word: u16, d: u16) -> Shape
 {
     let n = d as usize;
     let ordered = n * n - n;
+    let pairs = ordered / 2;
     match word {
         1 => Shape {
             kind: Kind::In,
@@ -94,15 +95,15 @@ pub fn decide(word: u16, d: u16) -> Shape
             form: Form::Gadget,
             words: 1 + n + n,
             makes: 7 * ordered + 4 * n,
-            uses: ordered / 2,
+            uses: pairs,
             brings: 0,
         },
         7 => Shape {
             kind: Kind::Ref,
             form: Form::Gadget,
             words: 1 + n,
-            makes: ordered / 2 + 2 * n,
-            uses: ordered / 2,
+            makes: pairs + 2 * n,
+            uses: pairs,
             brings: 0,
         },
         8 => Shape {

@@ -1,8 +1,25 @@
 // Decides whether a table of words is a circuit that keeps document 01's rules, and writes each wire's label and stage into
 // the notes.
-pub mod kinds;
-pub mod walk;
+ghost use mathlib.Core.Path.{_≡_};
+ghost use lib.ListN.{length};
+ghost use Rattle.circuit.specs.Rules.{checked};
+ghost use Rattle.checker.specs.Said.{said};
+ghost use Rattle.circuit.specs.Answer.{verdictOf, notesAfter};
+ghost use Rattle.checker.specs.Sheet.{headNumber};
 
+mod frame;
+pub mod kinds;
+mod notes;
+pub mod walk;
+mod words;
+
+use frame::Added;
+use frame::Tally;
+use walk::Step;
+use walk::Walk;
+
+// The answer: accepted with the numbers of wires and random bits and the latency, or refused with the number of the first
+// rule broken, the frame and the word.
 pub enum Verdict {
     Accepted {
         wires: usize,
@@ -16,3 +33,90 @@ pub enum Verdict {
     },
 }
 
+// The first of rules 1 to 4 that a table and notes of so many words break; 0 for none.
+fn head_rule(table: &[u16], room: usize) -> usize
+    ensures { λ r. ⌜ r ≡ headNumber (now (table .entry)) room ⌝ }
+{
+    if 8192 < table.len() {
+        return 1;
+    }
+    if room < 16384 {
+        return 2;
+    }
+    if table.len() < 2 {
+        return 3;
+    }
+    if table[0] != 0 {
+        return 3;
+    }
+    if table[1] < 2 {
+        return 4;
+    }
+    if 8 < table[1] {
+        return 4;
+    }
+    0
+}
+
+// The table checked frame by frame, in one pass. Rules 1 to 4 leave the notes untouched.
+pub fn check(table: &[u16], notes: &mut [u16]) -> Verdict
+    ensures answered { λ r. ⌜ said r ≡ verdictOf (now (table .entry)) (length (now (notes .entry))) ⌝ }
+    ensures noted { λ _. ⌜ now (notes .exit) ≡ notesAfter (checked (now (table .entry)) (length (now (notes .entry))) .circuit) (now (notes .entry)) ⌝ }
+{
+    let broken = head_rule(table, notes.len());
+    if broken != 0 {
+        return Verdict::Refused {
+            rule: broken,
+            frame: 0,
+            word: broken / 4,
+        };
+    }
+    let d = table[1];
+    let mut walk = Walk { d: d, at: 2 };
+    let mut tally = Tally {
+        frames: 1,
+        wires: 0,
+        randoms: 0,
+        latency: 0,
+    };
+    loop {
+        let step = walk.step(table);
+        match step {
+            Step::End => {
+                return Verdict::Accepted {
+                    wires: tally.wires,
+                    randoms: tally.randoms,
+                    latency: tally.latency,
+                };
+            }
+            Step::Refused { rule } => {
+                return Verdict::Refused {
+                    rule: rule,
+                    frame: tally.frames,
+                    word: 0,
+                };
+            }
+            Step::Next {
+                frame,
+                shape,
+                walk: next,
+            } => {
+                let ops = walk.operands(table);
+                let added = frame::add(tally, frame, shape, d, ops, notes);
+                match added {
+                    Added::Refused { rule, word } => {
+                        return Verdict::Refused {
+                            rule: rule,
+                            frame: tally.frames,
+                            word: word,
+                        };
+                    }
+                    Added::Next(t) => {
+                        tally = t;
+                        walk = next;
+                    }
+                }
+            }
+        }
+    }
+}

@@ -1,6 +1,6 @@
 // The walk over the frames of a table.
 ghost use mathlib.Core.Path.{_≡_};
-ghost use Rattle.checker.specs.Lists.{nth};
+ghost use Rattle.circuit.specs.Lists.{nth};
 ghost use Rattle.checker.specs.Walk.{frameCode, operandsAt, stepAt};
 use super::kinds;
 use kinds::Kind;

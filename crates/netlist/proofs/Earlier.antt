@@ -5,20 +5,20 @@ use mathlib.Core.Logic.{inl, inr}
 use Prim.Native.Nat.{ℕ, _+_, _≤_, _<_}
 use native.Mathlib.Omega.{arith}
 use lib.ListN.{length}
-use Rattle.checker.specs.Limits.{fewestShares}
-use Rattle.checker.specs.Lists.{nth, each}
-use Rattle.checker.specs.Wires.{Gate, Wire}
-use Rattle.checker.specs.Gadgets.{Part, r, R, B, m, u, U, v, V′, w, W, c, s, S, labels, above, others, sorted, gate, inAND, inREF, index, gadget}
-use Rattle.checker.specs.Kinds.{Kind}
-use Rattle.checker.specs.Circuit.{Circuit, size, empty, made}
-use Rattle.checker.specs.Rules.{checked}
-use Rattle.checker.proofs.Base.{In, in-head, in-tail, Has, has-left, Every, every-append, every-map, every-of, AllFrom, all-map, all-of}
-use Rattle.checker.proofs.Numbered.{all-get}
-use Rattle.checker.proofs.Parts.{index-lt, Before, before-append, before-each, More, Ready, ordered, label-lt, others-pair, InAND, is-M, is-U, is-W, and-has, cell1, cell2, cell3, sec1, sec2, sec3, has1, added, fresh1, fresh-has, ref-has, sorted-at}
-use Rattle.checker.proofs.Composition.{Frame, Fits, fit-IN, fit-CON, fit-XOR, fit-NOT, fit-REG, fit-AND, fit-REF, fit-OUT, AllFit, build}
-use Rattle.checker.proofs.Building.{wireAt, gadget-all, Lawful, build-all}
-use Rattle.checker.proofs.Judging.{named-made}
-use Rattle.checker.proofs.Exact.{Accepted}
+use Rattle.circuit.specs.Limits.{fewestShares}
+use Rattle.circuit.specs.Lists.{nth, each}
+use Rattle.circuit.specs.Wires.{Gate, Wire}
+use Rattle.circuit.specs.Gadgets.{Part, r, R, B, m, u, U, v, V′, w, W, c, s, S, labels, above, others, sorted, gate, inAND, inREF, index, gadget}
+use Rattle.circuit.specs.Kinds.{Kind}
+use Rattle.circuit.specs.Circuit.{Circuit, size, empty, made}
+use Rattle.circuit.specs.Rules.{checked}
+use Rattle.circuit.proofs.Base.{In, in-head, in-tail, Has, has-left, Every, every-append, every-map, every-of, AllFrom, all-map, all-of}
+use Rattle.circuit.proofs.Numbered.{all-get}
+use Rattle.circuit.proofs.Parts.{index-lt, Before, before-append, before-each, More, Ready, ordered, label-lt, others-pair, InAND, is-M, is-U, is-W, and-has, cell1, cell2, cell3, sec1, sec2, sec3, has1, added, fresh1, fresh-has, ref-has, sorted-at}
+use Rattle.circuit.specs.Composition.{Frame, Fits, fit-IN, fit-CON, fit-XOR, fit-NOT, fit-REG, fit-AND, fit-REF, fit-OUT, AllFit, build}
+use Rattle.circuit.proofs.Building.{wireAt, gadget-all, Lawful, build-all}
+use Rattle.circuit.proofs.Judging.{named-made}
+use Rattle.circuit.proofs.Exact.{Accepted}
 use Rattle.netlist.specs.Probes.{operands}
 
 -- the gate of wire x takes wires before x

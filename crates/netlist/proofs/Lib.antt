@@ -1,5 +1,5 @@
 -- What is proved of the definitions.
-pub mod Cases
+pub mod StarredCases
 pub mod Randoms
 pub mod Earlier
 pub mod Stages

@@ -4,15 +4,15 @@ use mathlib.Core.Bool.{false, cond}
 use mathlib.Core.List.{List, [], _∷_, _++_, map}
 use Prim.Native.Nat.{ℕ, suc, _+_}
 use native.Mathlib.Omega.{arith}
-use Rattle.checker.specs.Wires.{Gate, Wire, named, inner, _placed_}
-use Rattle.checker.specs.Gadgets.{Part, c, s, S, labels, gate, delay, index, gadget}
-use Rattle.checker.specs.Kinds.{Kind, HEAD, IN, CON, XOR, NOT, REG, AND, REF, OUT, shape}
-use Rattle.checker.specs.Circuit.{Circuit, size, empty, made, extend}
-use Rattle.checker.specs.Rules.{checked}
-use Rattle.checker.proofs.Base.{cases}
-use Rattle.checker.proofs.Sizes.{of-and, of-ref}
-use Rattle.checker.proofs.Composition.{Frame, build}
-use Rattle.checker.proofs.Exact.{Accepted}
+use Rattle.circuit.specs.Wires.{Gate, Wire, named, inner, _placed_}
+use Rattle.circuit.specs.Gadgets.{Part, c, s, S, labels, gate, delay, index, gadget}
+use Rattle.circuit.specs.Kinds.{Kind, HEAD, IN, CON, XOR, NOT, REG, AND, REF, OUT, shape}
+use Rattle.circuit.specs.Circuit.{Circuit, size, empty, made, extend}
+use Rattle.circuit.specs.Rules.{checked}
+use Rattle.circuit.proofs.Base.{cases}
+use Rattle.circuit.proofs.Sizes.{of-and, of-ref}
+use Rattle.circuit.specs.Composition.{Frame, build}
+use Rattle.circuit.proofs.Exact.{Accepted}
 use Rattle.netlist.specs.Values.{isRandom}
 
 -- the number of random gates among wires

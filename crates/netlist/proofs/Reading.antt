@@ -8,17 +8,17 @@ use lib.Dec.{eqb}
 use lib.ListN.{length, getD, replicate, length-append, List·getD-append}
 use lib.Seq.{getD-append-seam}
 use borrow.Author.Tests.{eqb-true}
-use Rattle.checker.specs.Limits.{wireLimit, fewestShares}
-use Rattle.checker.specs.Lists.{nth, mem, range, each}
-use Rattle.checker.specs.Wires.{Gate, constant, sum, inner, Wire, _placed_}
-use Rattle.checker.specs.Gadgets.{Part, M, U, W, c, others, gate, inAND, index}
-use Rattle.checker.specs.Kinds.{AND}
-use Rattle.checker.specs.Circuit.{Circuit, size, empty, made, extend}
-use Rattle.checker.proofs.Base.{cases, or-cases, or-left, In, in-tail, in-append, in-each, Sub, Every, every-append, every-map, every-imp, AllFrom, all-append}
-use Rattle.checker.proofs.Parts.{index-lt, others-pair, InAND, is-M, is-U, is-W, and-has}
-use Rattle.checker.proofs.Sizes.{gadget-size}
-use Rattle.checker.proofs.Composition.{Frame, Fits, AllFit, next, build}
-use Rattle.checker.proofs.Building.{Lawful, build-more, build-append, build-shares, fit-split, part-at, output-at}
+use Rattle.circuit.specs.Limits.{wireLimit, fewestShares}
+use Rattle.circuit.specs.Lists.{nth, mem, range, each}
+use Rattle.circuit.specs.Wires.{Gate, constant, sum, inner, Wire, _placed_}
+use Rattle.circuit.specs.Gadgets.{Part, M, U, W, c, others, gate, inAND, index}
+use Rattle.circuit.specs.Kinds.{AND}
+use Rattle.circuit.specs.Circuit.{Circuit, size, empty, made, extend}
+use Rattle.circuit.proofs.Base.{cases, or-cases, or-left, In, in-tail, in-append, in-each, Sub, Every, every-append, every-map, every-imp, AllFrom, all-append}
+use Rattle.circuit.proofs.Parts.{index-lt, others-pair, InAND, is-M, is-U, is-W, and-has}
+use Rattle.circuit.proofs.Sizes.{gadget-size}
+use Rattle.circuit.specs.Composition.{Frame, Fits, AllFit, next, build}
+use Rattle.circuit.proofs.Building.{Lawful, build-more, build-append, build-shares, fit-split, part-at, output-at}
 use Rattle.netlist.specs.Values.{at, byte, valuesOf}
 use Rattle.netlist.specs.Probes.{isStop, operands, reads, readBy, stopsFrom, stops, sheet, readingOf}
 use Rattle.netlist.proofs.Earlier.{Early, EarlyIn, early-new, build-early}

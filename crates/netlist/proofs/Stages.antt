@@ -4,20 +4,20 @@ use mathlib.Core.Bool.{false}
 use mathlib.Core.List.{List, [], _∷_, map}
 use Prim.Native.Nat.{ℕ, suc, _+_, _≤_, _<_}
 use native.Mathlib.Omega.{arith}
-use Rattle.checker.specs.Limits.{fewestShares}
-use Rattle.checker.specs.Lists.{nth}
-use Rattle.checker.specs.Wires.{Gate, input, constant, random, reg, inverse, sum, product, gated, named, inner, Wire, _placed_}
-use Rattle.checker.specs.Gadgets.{Part, r, R, U, W, c, s, S, labels, others, sorted, gate, delay, inAND, inREF, index}
-use Rattle.checker.specs.Kinds.{Kind, AND, REF}
-use Rattle.checker.specs.Circuit.{Circuit, size, empty, place, stageShown, stageOf, newStage, made, extend}
-use Rattle.checker.specs.Rules.{checked}
-use Rattle.checker.proofs.Base.{Every, every-append, every-map, every-imp, every-of, AllFrom, all-map, all-of, all-imp, all-zip}
-use Rattle.checker.proofs.Numbered.{all-get}
-use Rattle.checker.proofs.Parts.{label-lt, others-pair, InAND, is-r, is-R, is-B, is-m, is-M, is-u, is-U, is-v, is-V, is-w, is-W, and-parts, and-has, InREF, fresh, added, ref-parts, ref-has, sorted-at}
-use Rattle.checker.proofs.Composition.{Frame, Fits, fit-IN, fit-CON, fit-XOR, fit-NOT, fit-REG, fit-AND, fit-REF, fit-OUT, AllFit, build}
-use Rattle.checker.proofs.Building.{wireAt, gadget-all, part-at, place-old, row-first, Lawful, build-all}
-use Rattle.checker.proofs.Judging.{named-made}
-use Rattle.checker.proofs.Exact.{Accepted}
+use Rattle.circuit.specs.Limits.{fewestShares}
+use Rattle.circuit.specs.Lists.{nth}
+use Rattle.circuit.specs.Wires.{Gate, input, constant, random, reg, inverse, sum, product, gated, named, inner, Wire, _placed_}
+use Rattle.circuit.specs.Gadgets.{Part, r, R, U, W, c, s, S, labels, others, sorted, gate, delay, inAND, inREF, index}
+use Rattle.circuit.specs.Kinds.{Kind, AND, REF}
+use Rattle.circuit.specs.Circuit.{Circuit, size, empty, place, stageShown, stageOf, newStage, made, extend}
+use Rattle.circuit.specs.Rules.{checked}
+use Rattle.circuit.proofs.Base.{Every, every-append, every-map, every-imp, every-of, AllFrom, all-map, all-of, all-imp, all-zip}
+use Rattle.circuit.proofs.Numbered.{all-get}
+use Rattle.circuit.proofs.Parts.{label-lt, others-pair, InAND, is-r, is-R, is-B, is-m, is-M, is-u, is-U, is-v, is-V, is-w, is-W, and-parts, and-has, InREF, fresh, added, ref-parts, ref-has, sorted-at}
+use Rattle.circuit.specs.Composition.{Frame, Fits, fit-IN, fit-CON, fit-XOR, fit-NOT, fit-REG, fit-AND, fit-REF, fit-OUT, AllFit, build}
+use Rattle.circuit.proofs.Building.{wireAt, gadget-all, part-at, place-old, row-first, Lawful, build-all}
+use Rattle.circuit.proofs.Judging.{named-made}
+use Rattle.circuit.proofs.Exact.{Accepted}
 use Rattle.netlist.specs.Probes.{operands}
 use Rattle.netlist.proofs.Earlier.{Early, early-new}
 

@@ -3,11 +3,11 @@ use mathlib.Core.List.{List, [], _∷_, _++_}
 use Prim.Native.Nat.{ℕ, suc, _*_}
 use lib.Dec.{leb, ltb, eqb}
 use lib.ListN.{length}
-use Rattle.checker.specs.Limits.{wireLimit}
-use Rattle.checker.specs.Lists.{over}
-use Rattle.checker.specs.Circuit.{Circuit, size}
-use Rattle.checker.specs.Rules.{Judgement, pass, refuse, need, _then_, Checked, checked}
-use Rattle.checker.specs.Answer.{Answer, answer, notesAfter}
+use Rattle.circuit.specs.Limits.{wireLimit}
+use Rattle.circuit.specs.Lists.{over}
+use Rattle.circuit.specs.Circuit.{Circuit, size}
+use Rattle.circuit.specs.Rules.{Judgement, pass, refuse, need, _then_, Checked, checked}
+use Rattle.circuit.specs.Answer.{Answer, answer, notesAfter}
 use Rattle.netlist.specs.Values.{bits, bytes, valuesOf}
 use Rattle.netlist.specs.Probes.{readingOf}
 

@@ -5,8 +5,8 @@ use mathlib.Core.List.{List, [], _∷_}
 use Prim.Native.Nat.{ℕ, zero, suc, _+_, _*_, _<_}
 use lib.Dec.{eqb}
 use lib.ListN.{length, take, drop}
-use Rattle.checker.specs.Lists.{_⊕_, mem}
-use Rattle.checker.specs.Circuit.{Circuit}
+use Rattle.circuit.specs.Lists.{_⊕_, mem}
+use Rattle.circuit.specs.Circuit.{Circuit}
 use Rattle.netlist.specs.Values.{bits}
 use Rattle.netlist.specs.Probes.{readingOf}
 

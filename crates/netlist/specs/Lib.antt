@@ -3,3 +3,5 @@ pub mod Values
 pub mod Probes
 pub mod Calls
 pub mod Counts
+-- Document 01's starred cases.
+pub mod Cases

@@ -3,9 +3,9 @@ use mathlib.Core.Bool.{Bool, true, false, cond}
 use mathlib.Core.List.{List, [], _∷_, _++_, map}
 use Prim.Native.Nat.{ℕ}
 use lib.ListN.{length, getD}
-use Rattle.checker.specs.Limits.{wireLimit}
-use Rattle.checker.specs.Lists.{mem, range, each}
-use Rattle.checker.specs.Wires.{Gate, input, constant, random, reg, inverse, sum, product, gated, Wire}
+use Rattle.circuit.specs.Limits.{wireLimit}
+use Rattle.circuit.specs.Lists.{mem, range, each}
+use Rattle.circuit.specs.Wires.{Gate, input, constant, random, reg, inverse, sum, product, gated, Wire}
 use Rattle.netlist.specs.Values.{byte, at, valuesOf}
 
 -- document 01's term: a stop is an IN or CON wire, a random bit, or a register

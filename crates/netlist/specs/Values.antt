@@ -3,9 +3,9 @@ use mathlib.Core.Bool.{Bool, true, false, cond, not, _&&_}
 use mathlib.Core.List.{List, [], _∷_, _++_, map}
 use Prim.Native.Nat.{ℕ}
 use lib.ListN.{getD, drop}
-use Rattle.checker.specs.Lists.{_⊕_}
-use Rattle.checker.specs.Wires.{Gate, input, constant, random, reg, inverse, sum, product, gated, Wire}
-use Rattle.checker.specs.Circuit.{isSet}
+use Rattle.circuit.specs.Lists.{_⊕_}
+use Rattle.circuit.specs.Wires.{Gate, input, constant, random, reg, inverse, sum, product, gated, Wire}
+use Rattle.circuit.specs.Circuit.{isSet}
 
 -- bytes as bits, and back
 abbrev pub bits : List ℕ → List Bool

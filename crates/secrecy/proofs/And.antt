@@ -7,11 +7,11 @@ use Prim.Native.Nat.{ℕ, _+_, _≤_, _<_}
 use native.Mathlib.Omega.{arith}
 use lib.ListN.{length}
 use lib.Dec.{ltb}
-use Rattle.checker.specs.Lists.{_⊕_, each}
-use Rattle.checker.specs.Wires.{named, inner}
-use Rattle.checker.specs.Gadgets.{Part, r, R, B, m, M, u, U, v, V′, w, W, c, labels, above, others, sorted, delay, inAND}
-use Rattle.checker.proofs.Base.{no-flip, cases, ltb-other, In, Has, has-left, every-append, every-map, AllFrom}
-use Rattle.checker.proofs.Parts.{index-lt, Before, before-append, before-each, More, Ready, Pair, other, label-lt, above-pair, others-pair, InAND, is-r, is-R, is-B, is-m, is-M, is-u, is-U, is-v, is-V, is-w, is-W, and-parts, and-has, cell1, cell2, cell3, sec1, sec2, sec3, has1, sorted-at}
+use Rattle.circuit.specs.Lists.{_⊕_, each}
+use Rattle.circuit.specs.Wires.{named, inner}
+use Rattle.circuit.specs.Gadgets.{Part, r, R, B, m, M, u, U, v, V′, w, W, c, labels, above, others, sorted, delay, inAND}
+use Rattle.circuit.proofs.Base.{no-flip, cases, ltb-other, In, Has, has-left, every-append, every-map, AllFrom}
+use Rattle.circuit.proofs.Parts.{index-lt, Before, before-append, before-each, More, Ready, Pair, other, label-lt, above-pair, others-pair, InAND, is-r, is-R, is-B, is-m, is-M, is-u, is-U, is-v, is-V, is-w, is-W, and-parts, and-has, cell1, cell2, cell3, sec1, sec2, sec3, has1, sorted-at}
 use Rattle.secrecy.proofs.Roles.{Role, lone, pair, role}
 use Rattle.secrecy.proofs.Taken.{seen-both}
 use Rattle.secrecy.proofs.Coupled.{Values, undecided, Shift, Agree, Early}

@@ -6,9 +6,9 @@ use Prim.Native.Nat.{ℕ, suc, _+_, _<_}
 use native.Mathlib.Omega.{arith}
 use lib.ListN.{length, length-append, List·getD-append}
 use lib.Seq.{getD-append-seam}
-use Rattle.checker.specs.Lists.{_⊕_, each}
-use Rattle.checker.specs.Wires.{Gate, input, constant, random, reg, inverse, sum, product, gated, Wire}
-use Rattle.checker.proofs.Base.{Every, every-imp, AllFrom}
+use Rattle.circuit.specs.Lists.{_⊕_, each}
+use Rattle.circuit.specs.Wires.{Gate, input, constant, random, reg, inverse, sum, product, gated, Wire}
+use Rattle.circuit.proofs.Base.{Every, every-imp, AllFrom}
 use Rattle.netlist.specs.Values.{at, total, value, isRandom, valuesFrom}
 use Rattle.netlist.specs.Probes.{isStop, operands, reads, readBy, stopsFrom}
 use Rattle.secrecy.proofs.Sums.{sumBits, sum-swap}

@@ -5,12 +5,12 @@ use mathlib.Core.List.{List, [], _∷_, _++_, map}
 use Prim.Native.Nat.{ℕ, zero, suc, _+_, _<_}
 use native.Mathlib.Omega.{arith}
 use lib.ListN.{length, drop, length-map}
-use Rattle.checker.specs.Lists.{range}
-use Rattle.checker.specs.Wires.{Gate, input, constant, random, reg, inverse, sum, product, gated, Wire, _placed_, named, inner}
-use Rattle.checker.specs.Gadgets.{Part, labels, gate, delay, index, gadget}
-use Rattle.checker.specs.Circuit.{Circuit, size, empty, made}
-use Rattle.checker.proofs.Base.{no-flip, AllFrom, all-left, all-right, all-imp, all-map, all-unmap}
-use Rattle.checker.proofs.Composition.{Frame, AllFit, build}
+use Rattle.circuit.specs.Lists.{range}
+use Rattle.circuit.specs.Wires.{Gate, input, constant, random, reg, inverse, sum, product, gated, Wire, _placed_, named, inner}
+use Rattle.circuit.specs.Gadgets.{Part, labels, gate, delay, index, gadget}
+use Rattle.circuit.specs.Circuit.{Circuit, size, empty, made}
+use Rattle.circuit.proofs.Base.{no-flip, AllFrom, all-left, all-right, all-imp, all-map, all-unmap}
+use Rattle.circuit.specs.Composition.{Frame, AllFit, build}
 use Rattle.netlist.specs.Values.{at, value, isRandom, valuesFrom, valuesOf}
 use Rattle.secrecy.proofs.Coupled.{Values, Step, wireOf, Run, Early, Low, Settled, settled}
 use Rattle.secrecy.proofs.Whole.{step, steps, steps-wires, early}

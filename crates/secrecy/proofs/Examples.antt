@@ -6,17 +6,16 @@ use mathlib.Core.List.{List, [], _∷_, _++_}
 use Prim.Native.Nat.{ℕ, zero, suc, _+_, _<_}
 use native.Mathlib.Omega.{arith}
 use lib.ListN.{replicate}
-use Rattle.checker.specs.Limits.{notesRoom}
-use Rattle.checker.specs.Lists.{nth}
-use Rattle.checker.specs.Wires.{named}
-use Rattle.checker.specs.Gadgets.{inAND, index, gadget}
-use Rattle.checker.specs.Kinds.{IN, XOR, AND, OUT, kindOf, shape}
-use Rattle.checker.specs.Circuit.{Circuit, place, empty, newStage, made, extend}
-use Rattle.checker.specs.Rules.{pass, wordsRule, frameRule, frames, headRule, checked}
-use Rattle.checker.proofs.Composition.{Frame, Row, fit-IN, fit-AND, fit-OUT, AllFit, done, next, build}
+use Rattle.circuit.specs.Limits.{notesRoom}
+use Rattle.circuit.specs.Lists.{nth}
+use Rattle.circuit.specs.Wires.{named}
+use Rattle.circuit.specs.Gadgets.{inAND, index, gadget}
+use Rattle.circuit.specs.Kinds.{IN, XOR, AND, OUT, kindOf, shape}
+use Rattle.circuit.specs.Circuit.{Circuit, place, empty, newStage, made, extend}
+use Rattle.circuit.specs.Rules.{pass, wordsRule, frameRule, frames, headRule, checked}
+use Rattle.circuit.specs.Composition.{Frame, Row, fit-IN, fit-AND, fit-OUT, AllFit, done, next, build, frame}
 use Rattle.netlist.specs.Probes.{stops, sheet}
 use Rattle.netlist.specs.Counts.{pairsFor, EqualCounts}
-use Rattle.secrecy.proofs.Products.{frame}
 use Rattle.secrecy.proofs.Theorems.{theoremB}
 
 -- circuit A: its table and its frames

@@ -4,8 +4,8 @@ use mathlib.Core.Bool.{Bool, true, false, cond, not, _&&_}
 use mathlib.Core.List.{List}
 use mathlib.Core.Logic.{_⊎_, ⊎-elim}
 use Prim.Native.Nat.{ℕ}
-use Rattle.checker.specs.Lists.{_⊕_, mem}
-use Rattle.checker.proofs.Base.{no-flip, cases, clash, In}
+use Rattle.circuit.specs.Lists.{_⊕_, mem}
+use Rattle.circuit.proofs.Base.{no-flip, cases, clash, In}
 use Rattle.secrecy.proofs.Coupled.{Values, Shift}
 
 -- x where only the first of two labels is there, y where only the second is, and no flip otherwise

@@ -5,14 +5,14 @@ use mathlib.Core.List.{List, [], _∷_, map}
 use Prim.Native.Nat.{ℕ, zero, suc, _+_, _*_, _<_}
 use native.Mathlib.Omega.{arith}
 use lib.ListN.{length, getD}
-use Rattle.checker.specs.Lists.{nth}
-use Rattle.checker.specs.Wires.{Gate, input, constant, reg, inverse, sum, Place, named, inner, Wire, _placed_}
-use Rattle.checker.specs.Gadgets.{labels}
-use Rattle.checker.specs.Kinds.{Kind, HEAD, IN, CON, XOR, NOT, REG, AND, REF, OUT}
-use Rattle.checker.specs.Circuit.{Circuit, size, place, labelOf, stageShown, isSet, newStage, made}
-use Rattle.checker.proofs.Base.{In, in-head, every-of, AllFrom, all-zip, all-map, all-unmap, all-of, map-two}
-use Rattle.checker.proofs.Parts.{label-lt}
-use Rattle.checker.proofs.Composition.{Fits, fit-IN, fit-CON, fit-XOR, fit-NOT, fit-REG, fit-AND, fit-REF, fit-OUT}
+use Rattle.circuit.specs.Lists.{nth}
+use Rattle.circuit.specs.Wires.{Gate, input, constant, reg, inverse, sum, Place, named, inner, Wire, _placed_}
+use Rattle.circuit.specs.Gadgets.{labels}
+use Rattle.circuit.specs.Kinds.{Kind, HEAD, IN, CON, XOR, NOT, REG, AND, REF, OUT}
+use Rattle.circuit.specs.Circuit.{Circuit, size, place, labelOf, stageShown, isSet, newStage, made}
+use Rattle.circuit.proofs.Base.{In, in-head, every-of, AllFrom, all-zip, all-map, all-unmap, all-of, map-two}
+use Rattle.circuit.proofs.Parts.{label-lt}
+use Rattle.circuit.specs.Composition.{Fits, fit-IN, fit-CON, fit-XOR, fit-NOT, fit-REG, fit-AND, fit-REF, fit-OUT}
 use Rattle.netlist.specs.Values.{at}
 use Rattle.secrecy.proofs.Roles.{Role, lone}
 use Rattle.secrecy.proofs.Taken.{taken, taken-sub, chosen, Chosen}

@@ -8,8 +8,8 @@ use native.Mathlib.Omega.{arith}
 use lib.Dec.{eqb, ltb}
 use lib.ListN.{length}
 use borrow.Author.Tests.{eqb-true, eqb-false, ltb-true, ltb-false}
-use Rattle.checker.specs.Lists.{mem}
-use Rattle.checker.proofs.Base.{cases, clash, or-left, or-right, or-cases, lt-ne, In}
+use Rattle.circuit.specs.Lists.{mem}
+use Rattle.circuit.proofs.Base.{cases, clash, or-left, or-right, or-cases, lt-ne, In}
 
 lower : (i n : ℕ) → i < suc n → eqb i n ≡ false → i < n
 lower i n h e = cases (ltb i n) (ltb-true i n) (λ k. absurd (eqb-false i n e (omega (arith, ltb-false i n k))))

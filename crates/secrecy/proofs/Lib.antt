@@ -26,4 +26,5 @@ pub mod Equations
 pub mod Products
 -- What is proved, and that it is not empty
 pub mod Theorems
+pub mod Accepted
 pub mod Examples

@@ -8,8 +8,8 @@ use lib.Dec.{eqb}
 use lib.ListN.{length, take, drop, length-drop, List·getD-append, replicate, length-replicate}
 use lib.Seq.{getD-append-add}
 use borrow.Author.Tests.{eqb-false, ne-eqb}
-use Rattle.checker.specs.Lists.{_⊕_}
-use Rattle.checker.proofs.Base.{no-flip, xor-comm, xor-assoc}
+use Rattle.circuit.specs.Lists.{_⊕_}
+use Rattle.circuit.proofs.Base.{no-flip, xor-comm, xor-assoc}
 use Rattle.netlist.specs.Values.{at}
 use Rattle.netlist.specs.Counts.{alike, parity, secretsOf}
 use Rattle.secrecy.proofs.Sums.{flipped}

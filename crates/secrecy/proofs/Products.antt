@@ -7,14 +7,14 @@ use native.Mathlib.Omega.{arith}
 use lib.Dec.{eqb, ltb}
 use lib.ListN.{length}
 use borrow.Author.Tests.{ltb-true}
-use Rattle.checker.specs.Lists.{_⊕_, nth}
-use Rattle.checker.specs.Wires.{Gate}
-use Rattle.checker.specs.Gadgets.{Part, r, R, B, m, M, u, U, v, V′, w, W, c, s, S, labels, others, sorted, inAND, inREF, index}
-use Rattle.checker.specs.Kinds.{Kind, AND, REF}
-use Rattle.checker.specs.Circuit.{Circuit, size, place, stageShown, newStage, empty, made}
-use Rattle.checker.proofs.Base.{cases, no-flip, ltb-other, AllFrom}
-use Rattle.checker.proofs.Parts.{index-at, Pair, other, label-lt, others-pair, InAND, is-R, is-B, is-m, is-M, is-u, is-U, is-v, is-V, is-w, is-W, and-has, added, ref-has}
-use Rattle.checker.proofs.Composition.{Frame, AllFit, build}
+use Rattle.circuit.specs.Lists.{_⊕_, nth}
+use Rattle.circuit.specs.Wires.{Gate}
+use Rattle.circuit.specs.Gadgets.{Part, r, R, B, m, M, u, U, v, V′, w, W, c, s, S, labels, others, sorted, inAND, inREF, index}
+use Rattle.circuit.specs.Kinds.{Kind, AND, REF}
+use Rattle.circuit.specs.Circuit.{Circuit, size, place, stageShown, newStage, empty, made}
+use Rattle.circuit.proofs.Base.{cases, no-flip, ltb-other, AllFrom}
+use Rattle.circuit.proofs.Parts.{index-at, Pair, other, label-lt, others-pair, InAND, is-R, is-B, is-m, is-M, is-u, is-U, is-v, is-V, is-w, is-W, and-has, added, ref-has}
+use Rattle.circuit.specs.Composition.{Frame, AllFit, build, frame}
 use Rattle.netlist.specs.Values.{at, total, value, isRandom, valuesOf}
 use Rattle.secrecy.proofs.Coupled.{Values}
 use Rattle.secrecy.proofs.Totals.{total-ext, total-append, total-map, output, multiplied, refreshed}
@@ -92,10 +92,6 @@ module _ (d first : ℕ) (a : ℕ → ℕ) (f : Values) (sh : List Bool) where
     ref-adds : total (labels d) (λ i. f (first + length (inREF d) + i)) ≡ total (labels d) (λ i. f (a i))
     ref-adds = total-ext _ (λ i. f (a i) ⊕ total (others d i) (fresh i)) (labels d) (λ i h. S-is i (label-lt d i h))
         ∙ refreshed d fresh (λ i j e. ap (λ p. f (refWire p)) (sorted-swap r i j e)) (λ i. f (a i))
-
--- a frame of this kind with these words
-abbrev pub frame : Kind → List ℕ → Frame
-frame kind ops = record { kind = kind; ops = ops }
 
 -- a frame in a circuit, k the circuit before it
 module _ (d : ℕ) (fs : List Frame) (ops : List ℕ) (gs : List Frame) (shares tape : List Bool) where

@@ -8,14 +8,14 @@ use native.Mathlib.Nat.{div-eq-of-eq-mul-left}
 use lib.Dec.{eqb, ltb}
 use lib.ListN.{length, length-append}
 use borrow.Author.Tests.{eqb-true, lt-ltb, ltb-true}
-use Rattle.checker.specs.Lists.{range, keep, each, nth}
-use Rattle.checker.specs.Wires.{Gate, Wire, input, _placed_, named, inner}
-use Rattle.checker.specs.Gadgets.{Part, r, c, s, S, labels, above, others, gate, delay, inAND, inREF, index, gadget}
-use Rattle.checker.specs.Kinds.{Kind, HEAD, IN, CON, XOR, NOT, REG, AND, REF, OUT, pairs, shape}
-use Rattle.checker.specs.Circuit.{Circuit, size, empty, newStage, made, extend}
-use Rattle.checker.proofs.Base.{cases, ltb-other}
-use Rattle.checker.proofs.Parts.{cell1, cell2, cell3, sec1, sec2, sec3, fresh1}
-use Rattle.checker.proofs.Composition.{Frame, build}
+use Rattle.circuit.specs.Lists.{range, keep, each, nth}
+use Rattle.circuit.specs.Wires.{Gate, Wire, input, _placed_, named, inner}
+use Rattle.circuit.specs.Gadgets.{Part, r, c, s, S, labels, above, others, gate, delay, inAND, inREF, index, gadget}
+use Rattle.circuit.specs.Kinds.{Kind, HEAD, IN, CON, XOR, NOT, REG, AND, REF, OUT, pairs, shape}
+use Rattle.circuit.specs.Circuit.{Circuit, size, empty, newStage, made, extend}
+use Rattle.circuit.proofs.Base.{cases, ltb-other}
+use Rattle.circuit.proofs.Parts.{cell1, cell2, cell3, sec1, sec2, sec3, fresh1}
+use Rattle.circuit.specs.Composition.{Frame, build}
 use Rattle.netlist.specs.Values.{isRandom}
 
 -- how many random gates wires have

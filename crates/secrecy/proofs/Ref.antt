@@ -6,11 +6,11 @@ use mathlib.Core.Logic.{inr}
 use Prim.Native.Nat.{ℕ, _+_, _≤_, _<_}
 use native.Mathlib.Omega.{arith}
 use lib.ListN.{length}
-use Rattle.checker.specs.Lists.{each}
-use Rattle.checker.specs.Wires.{named, inner}
-use Rattle.checker.specs.Gadgets.{Part, r, s, S, labels, above, others, sorted, delay, inREF}
-use Rattle.checker.proofs.Base.{no-flip, In, in-head, in-tail, Has, every-map, AllFrom}
-use Rattle.checker.proofs.Parts.{index-lt, Before, before-append, before-each, More, Ready, label-lt, others-pair, InREF, fresh, added, fresh1, fresh-has, ref-parts, ref-has, sorted-at}
+use Rattle.circuit.specs.Lists.{each}
+use Rattle.circuit.specs.Wires.{named, inner}
+use Rattle.circuit.specs.Gadgets.{Part, r, s, S, labels, above, others, sorted, delay, inREF}
+use Rattle.circuit.proofs.Base.{no-flip, In, in-head, in-tail, Has, every-map, AllFrom}
+use Rattle.circuit.proofs.Parts.{index-lt, Before, before-append, before-each, More, Ready, label-lt, others-pair, InREF, fresh, added, fresh1, fresh-has, ref-parts, ref-has, sorted-at}
 use Rattle.secrecy.proofs.Roles.{Role, lone, role}
 use Rattle.secrecy.proofs.Coupled.{undecided, Shift, Early}
 use Rattle.secrecy.proofs.Same.{Two, Same, settle, carry}

@@ -1,7 +1,7 @@
 -- The proof's device: each wire has a role, by which a probe on it takes share indices.
 use mathlib.Core.Bool.{Bool, true, false}
 use Prim.Native.Nat.{ℕ}
-use Rattle.checker.specs.Gadgets.{Part, r, R, B, m, M, u, U, v, V′, w, W, c, s, S}
+use Rattle.circuit.specs.Gadgets.{Part, r, R, B, m, M, u, U, v, V′, w, W, c, s, S}
 
 -- one share index; or two, the first preferred, with true for the wires w and W of AND
 pub data Role : Type 0 where

@@ -5,9 +5,9 @@ use mathlib.Core.List.{List, [], _∷_}
 use Prim.Native.Nat.{ℕ}
 use lib.Dec.{eqb}
 use borrow.Author.Tests.{eqb-true}
-use Rattle.checker.specs.Lists.{each}
-use Rattle.checker.specs.Wires.{Gate}
-use Rattle.checker.proofs.Base.{cases, clash, or-cases, In, in-each, Every, every-imp, every-in}
+use Rattle.circuit.specs.Lists.{each}
+use Rattle.circuit.specs.Wires.{Gate}
+use Rattle.circuit.proofs.Base.{cases, clash, or-cases, In, in-each, Every, every-imp, every-in}
 use Rattle.netlist.specs.Values.{isRandom}
 use Rattle.netlist.specs.Probes.{isStop, operands, reads}
 use Rattle.secrecy.proofs.Coupled.{Values, Shift, Bits, isInput, value-same}

@@ -6,9 +6,9 @@ use Prim.Native.Nat.{ℕ, _+_, _*_}
 use native.Mathlib.Omega.{arith}
 use lib.Dec.{eqb}
 use borrow.Author.Tests.{eqb-true}
-use Rattle.checker.specs.Lists.{mem}
-use Rattle.checker.specs.Circuit.{Circuit}
-use Rattle.checker.proofs.Base.{cases, clash, In}
+use Rattle.circuit.specs.Lists.{mem}
+use Rattle.circuit.specs.Circuit.{Circuit}
+use Rattle.circuit.proofs.Base.{cases, clash, In}
 use Rattle.netlist.specs.Values.{bits, valuesOf}
 use Rattle.netlist.specs.Probes.{stops, sheet, readingOf}
 use Rattle.netlist.specs.Counts.{sumOver, alike, secretsOf, pairsFor, EqualCounts}

@@ -6,11 +6,11 @@ use mathlib.Core.Logic.{_⊎_}
 use Prim.Native.Nat.{ℕ, _+_, _≤_, _<_}
 use native.Mathlib.Omega.{arith}
 use lib.ListN.{length, length-map}
-use Rattle.checker.specs.Lists.{mem}
-use Rattle.checker.specs.Wires.{Gate, Place, named, inner, Wire, _placed_}
-use Rattle.checker.specs.Gadgets.{Part, labels, gate, delay, index, gadget}
-use Rattle.checker.proofs.Base.{In, Sub, Has, Every, every-of, AllFrom, all-append, all-left, all-right, all-zip, all-map, all-unmap, all-of, map-two}
-use Rattle.checker.proofs.Parts.{index-at, label-lt, Before, Ready, ordered}
+use Rattle.circuit.specs.Lists.{mem}
+use Rattle.circuit.specs.Wires.{Gate, Place, named, inner, Wire, _placed_}
+use Rattle.circuit.specs.Gadgets.{Part, labels, gate, delay, index, gadget}
+use Rattle.circuit.proofs.Base.{In, Sub, Has, Every, every-of, AllFrom, all-append, all-left, all-right, all-zip, all-map, all-unmap, all-of, map-two}
+use Rattle.circuit.proofs.Parts.{index-at, label-lt, Before, Ready, ordered}
 use Rattle.secrecy.proofs.Roles.{Role, lone, pair, role}
 use Rattle.secrecy.proofs.Taken.{taken, taken-sub, taken-append, Chosen, chosen, seen, seen-all}
 use Rattle.secrecy.proofs.Coupled.{Shift, Step, Early}

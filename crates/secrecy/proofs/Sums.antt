@@ -5,7 +5,7 @@ use mathlib.Core.List.{List, [], _∷_}
 use Prim.Native.Nat.{ℕ, zero, suc, _+_}
 use native.Mathlib.Omega.{arith}
 use lib.ListN.{length}
-use Rattle.checker.specs.Lists.{_⊕_}
+use Rattle.circuit.specs.Lists.{_⊕_}
 use Rattle.netlist.specs.Values.{bits}
 use Rattle.netlist.specs.Counts.{sumOver}
 

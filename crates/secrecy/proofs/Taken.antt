@@ -9,8 +9,8 @@ use native.Mathlib.Decide.{ℕ-discrete}
 use lib.ListN.{length}
 use lib.Dec.{eqb}
 use borrow.Author.Tests.{eqb-true}
-use Rattle.checker.specs.Lists.{mem}
-use Rattle.checker.proofs.Base.{cases, or-left, or-right, or-cases, and-left, and-right, and-both, In, Sub, in-head, in-tail, AllFrom, all-imp}
+use Rattle.circuit.specs.Lists.{mem}
+use Rattle.circuit.proofs.Base.{cases, or-left, or-right, or-cases, and-left, and-right, and-both, In, Sub, in-head, in-tail, AllFrom, all-imp}
 use Rattle.netlist.specs.Counts.{different}
 use Rattle.secrecy.proofs.Roles.{Role, lone, pair, same-role}
 

@@ -7,12 +7,12 @@ use native.Mathlib.Omega.{arith}
 use native.Mathlib.Decide.{decLt}
 use lib.ListN.{length, length-append, length-map, List·getD-eq-default}
 use lib.Dec.{eqb}
-use Rattle.checker.specs.Limits.{wireLimit}
-use Rattle.checker.specs.Lists.{mem, each, range}
-use Rattle.checker.specs.Wires.{Wire}
-use Rattle.checker.specs.Circuit.{empty}
-use Rattle.checker.proofs.Composition.{Frame, build, AllFit}
-use Rattle.checker.proofs.Base.{cases, In, Sub, in-append, in-each, Every, AllFrom, all-imp, all-zip, all-map, all-unmap}
+use Rattle.circuit.specs.Limits.{wireLimit}
+use Rattle.circuit.specs.Lists.{mem, each, range}
+use Rattle.circuit.specs.Wires.{Wire}
+use Rattle.circuit.specs.Circuit.{empty}
+use Rattle.circuit.specs.Composition.{Frame, build, AllFit}
+use Rattle.circuit.proofs.Base.{cases, In, Sub, in-append, in-each, Every, AllFrom, all-imp, all-zip, all-map, all-unmap}
 use Rattle.netlist.specs.Counts.{alike, different}
 use Rattle.netlist.specs.Values.{at, byte, valuesOf}
 use Rattle.netlist.specs.Probes.{operands, reads, readBy, stopsFrom, stops, sheet}

@@ -4,20 +4,20 @@ use mathlib.Core.Bool.{Bool, _&&_}
 use mathlib.Core.List.{List, [], _∷_, _++_}
 use Prim.Native.Nat.{ℕ, _+_}
 use lib.ListN.{length}
-use Rattle.checker.specs.Lists.{nth}
-use Rattle.checker.specs.Gadgets.{labels, inAND, inREF}
-use Rattle.checker.specs.Kinds.{AND, REF}
-use Rattle.checker.specs.Circuit.{size, empty}
-use Rattle.checker.proofs.Composition.{Frame, AllFit, build}
+use Rattle.circuit.specs.Lists.{nth}
+use Rattle.circuit.specs.Gadgets.{labels, inAND, inREF}
+use Rattle.circuit.specs.Kinds.{AND, REF}
+use Rattle.circuit.specs.Circuit.{size, empty}
+use Rattle.circuit.specs.Composition.{Frame, frame, AllFit, build}
 use Rattle.netlist.specs.Values.{at, total, valuesOf}
 use Rattle.netlist.specs.Counts.{EqualCounts}
 use Rattle.secrecy.specs.Deciding.{AgreeAt, Deciding}
-use Rattle.secrecy.specs.Added.{added}
+use Rattle.secrecy.specs.Gadgets.{added}
 use Rattle.secrecy.proofs.Whole.{build-d}
 use Rattle.secrecy.proofs.Tapes.{indices, indices-sub, indices-length, equal-tapes}
 use Rattle.secrecy.proofs.Sharings.{equal-counts}
 use Rattle.secrecy.proofs.Totals.{total-map}
-use Rattle.secrecy.proofs.Products.{frame, and-product, ref-sum}
+use Rattle.secrecy.proofs.Products.{and-product, ref-sum}
 
 -- Theorem A: the share indices to start from, and at most one more for each different probed wire, decide
 pub theoremA : (d : ℕ) (fs : List Frame) → AllFit (empty d) fs → (probes start : List ℕ) → Deciding (build (empty d) fs) probes start

@@ -6,10 +6,10 @@ use Prim.Native.Nat.{ℕ, zero, suc, _+_, _≤_, _<_}
 use native.Mathlib.Omega.{arith}
 use lib.Dec.{eqb}
 use borrow.Author.Tests.{eqb-true}
-use Rattle.checker.specs.Lists.{_⊕_, range, keep}
-use Rattle.checker.specs.Gadgets.{labels, others}
-use Rattle.checker.proofs.Base.{no-flip, xor-self, xor-comm, xor-assoc, ne-lt, cases, lt-ne, eqb-refl, eqb-sym, In, in-head, in-tail}
-use Rattle.checker.proofs.Parts.{label-lt}
+use Rattle.circuit.specs.Lists.{_⊕_, range, keep}
+use Rattle.circuit.specs.Gadgets.{labels, others}
+use Rattle.circuit.proofs.Base.{no-flip, xor-self, xor-comm, xor-assoc, ne-lt, cases, lt-ne, eqb-refl, eqb-sym, In, in-head, in-tail}
+use Rattle.circuit.proofs.Parts.{label-lt}
 use Rattle.netlist.specs.Values.{total}
 
 -- (a + b) + (e + h) = (a + e) + (b + h)

@@ -6,10 +6,10 @@ use mathlib.Core.Logic.{_⊎_, inl, inr}
 use Prim.Native.Nat.{ℕ, zero, suc, _+_, _≤_}
 use native.Mathlib.Omega.{arith}
 use lib.ListN.{length, length-append, length-map}
-use Rattle.checker.specs.Wires.{named, Wire}
-use Rattle.checker.specs.Circuit.{Circuit, size, place, made, extend}
-use Rattle.checker.proofs.Composition.{Frame, build, AllFit, done, next}
-use Rattle.checker.proofs.Base.{Sub, AllFrom, all-append, all-left, all-right, all-imp, all-map, all-unmap}
+use Rattle.circuit.specs.Wires.{named, Wire}
+use Rattle.circuit.specs.Circuit.{Circuit, size, place, made, extend}
+use Rattle.circuit.specs.Composition.{Frame, build, AllFit, done, next}
+use Rattle.circuit.proofs.Base.{Sub, AllFrom, all-append, all-left, all-right, all-imp, all-map, all-unmap}
 use Rattle.secrecy.proofs.Frames.{placeIn, entries, frameFlips, frame-wires, before, Holds, Shares, frame-good, frame-early}
 use Rattle.secrecy.proofs.Roles.{Role}
 use Rattle.secrecy.proofs.Taken.{taken, taken-sub, taken-append, taken-length, count}

@@ -5,9 +5,9 @@ use mathlib.Core.List.{List, _++_}
 use Prim.Native.Nat.{ℕ, _+_, _*_, _≤_, _<_}
 use lib.Dec.{eqb}
 use lib.ListN.{length}
-use Rattle.checker.specs.Lists.{mem}
-use Rattle.checker.specs.Wires.{named}
-use Rattle.checker.specs.Circuit.{Circuit, place}
+use Rattle.circuit.specs.Lists.{mem}
+use Rattle.circuit.specs.Wires.{named}
+use Rattle.circuit.specs.Circuit.{Circuit, place}
 use Rattle.netlist.specs.Values.{bits, at, valuesOf}
 use Rattle.netlist.specs.Probes.{stops, sheet}
 use Rattle.netlist.specs.Counts.{sumOver, alike, different}

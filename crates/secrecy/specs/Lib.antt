@@ -1,3 +1,3 @@
--- What theorem A says. Theorem B's statement, `EqualCounts`, stands beside the meaning of circuits.
+-- What theorems A and C say. Theorem B's statement, `EqualCounts`, stands beside the meaning of circuits.
 pub mod Deciding
-pub mod Added
+pub mod Gadgets

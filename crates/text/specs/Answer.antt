@@ -4,8 +4,8 @@ use Prim.Native.Nat.{ℕ}
 use lib.ListN.{length}
 use Rattle.text.specs.declared.TextVerdict.{TextVerdict}
 use Rattle.text.specs.declared.TextVerdict.the-variants.{Accepted, Refused}
-use Rattle.checker.specs.Lists.{over}
-use Rattle.checker.specs.Rules.{Judgement, pass, refuse}
+use Rattle.circuit.specs.Lists.{over}
+use Rattle.circuit.specs.Rules.{Judgement, pass, refuse}
 use Rattle.text.specs.Reader.{Read}
 
 pub data TextAnswer : Type 0 where

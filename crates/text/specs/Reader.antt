@@ -4,11 +4,11 @@ use mathlib.Core.List.{List, [], _∷_, _++_}
 use Prim.Native.Nat.{ℕ, suc, _+_}
 use lib.Dec.{leb, eqb}
 use lib.ListN.{length}
-use Rattle.checker.specs.Limits.{tableLimit}
-use Rattle.checker.specs.Lists.{nth}
-use Rattle.checker.specs.Kinds.{kindOf, words, order}
-use Rattle.checker.specs.Circuit.{empty}
-use Rattle.checker.specs.Rules.{Judgement, pass, refuse, need, _then_, wordRule}
+use Rattle.circuit.specs.Limits.{tableLimit}
+use Rattle.circuit.specs.Lists.{nth}
+use Rattle.circuit.specs.Kinds.{kindOf, words, order}
+use Rattle.circuit.specs.Circuit.{empty}
+use Rattle.circuit.specs.Rules.{Judgement, pass, refuse, need, _then_, wordRule}
 use Rattle.text.specs.Lines.{Line, linesOf, areWords, wordsOn}
 
 -- the words of the whole lines before the first refusal, or of all; and the judgement

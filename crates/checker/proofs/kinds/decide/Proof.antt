@@ -1,104 +1,84 @@
-use Rattle.checker.proofs.KindTable.{words-AND, words-REF, words-OUT, ordered, square-least, square-most, no-kind, same-shape}
-use Rattle.checker.specs.Kinds.{kindOf, shape}
+-- `checker::kinds::decide` meets its contract.
+use mathlib.Core.Path.{refl, sym, ap}
+use Prim.Native.Nat.{_+_, _*_, _/_}
+use native.Mathlib.Omega.{arith}
+use borrow.Author.Needs.{needs}
+use Rattle.circuit.specs.Kinds.{kindOf, shape}
 use Rattle.checker.specs.declared.kinds.Form.the-variants.{Gadget, Row}
 use Rattle.checker.specs.declared.kinds.Kind.the-variants.{And, Ref, Out}
-use native.Mathlib.Omega.{arith}
-use Prim.Native.Nat.{_+_, _*_, _/_}
-use mathlib.Core.Path.{refl, sym, ap}
-use borrow.Author.Needs.{needs}
+use Rattle.checker.proofs.KindTable.{words-AND, words-REF, words-OUT, ordered, square-least, square-most, no-kind, same-shape}
 use Rattle.checker.proofs.kinds.decide.Statement.{statement}
 use Rattle.checker.proofs.kinds.decide.Tie as tie
-use Rattle.checker.proofs.kinds.decide.Reads as reads
-use Rattle.checker.proofs.kinds.decide.Lts as lts
 
--- src/kinds.rt:50:19
 mul-ordered : tie.Need-mul-ordered
 mul-ordered c = record { fits = omega (arith, square-most (c .args .d) (omega arith)) }
 
--- src/kinds.rt:50:19
 sub-ordered : tie.Need-sub-ordered
 sub-ordered c = square-least (c .args .d)
 
--- src/kinds.rt:95:20
-add-t19 : tie.Need-add-t19
-add-t19 c = search needs
-
--- src/kinds.rt:95:20
 add-t20 : tie.Need-add-t20
 add-t20 c = search needs
 
--- src/kinds.rt:96:20
-mul-t21 : tie.Need-mul-t21
-mul-t21 c = record { fits = omega (arith, square-most (c .before .args .d) (omega arith)) }
+add-t21 : tie.Need-add-t21
+add-t21 c = search needs
 
--- src/kinds.rt:96:34
 mul-t22 : tie.Need-mul-t22
-mul-t22 c = search needs
+mul-t22 c = record { fits = omega (arith, square-most (c .before .args .d) (omega arith)) }
 
--- src/kinds.rt:96:20
-add-t23 : tie.Need-add-t23
-add-t23 c = record { fits = omega (arith, square-most (c .before .args .d) (omega arith)) }
+mul-t23 : tie.Need-mul-t23
+mul-t23 c = search needs
 
--- src/kinds.rt:103:20
+add-t24 : tie.Need-add-t24
+add-t24 c = record { fits = omega (arith, square-most (c .before .args .d) (omega arith)) }
+
 add-t27 : tie.Need-add-t27
 add-t27 c = search needs
 
--- src/kinds.rt:104:34
-mul-t29 : tie.Need-mul-t29
-mul-t29 c = search needs
+mul-t28 : tie.Need-mul-t28
+mul-t28 c = search needs
 
--- src/kinds.rt:104:20
-add-t30 : tie.Need-add-t30
-add-t30 c = record { fits = omega (arith, square-most (c .before .args .d) (omega arith)) }
+add-t29 : tie.Need-add-t29
+add-t29 c = record { fits = omega (arith, square-most (c .before .args .d) (omega arith)) }
 
--- src/kinds.rt:46:1
 returns : tie.Need-returns
 unfolding kindOf shape
 returns c = rw (c .match .keys1)
 
--- src/kinds.rt:46:1
 returns-2 : tie.Need-returns-2
 unfolding kindOf shape
 returns-2 c = rw (c .match .keys2)
 
--- src/kinds.rt:46:1
 returns-3 : tie.Need-returns-3
 unfolding kindOf shape
 returns-3 c = rw (c .match .keys3)
 
--- src/kinds.rt:46:1
 returns-4 : tie.Need-returns-4
 unfolding kindOf shape
 returns-4 c = rw (c .match .keys4)
 
--- src/kinds.rt:46:1
 returns-5 : tie.Need-returns-5
 unfolding kindOf shape
 returns-5 c = rw (c .match .keys5)
 
--- src/kinds.rt:46:1
 returns-6 : tie.Need-returns-6
 unfolding kindOf shape
-returns-6 c = 
+returns-6 c =
     let d = c .before .args .d in
     let e = ordered d in
     rw (c .match .keys6) (same-shape And Gadget (sym (words-AND d)) (ap (λ n. 7 * n + 4 * d) e) (ap (λ n. n / 2) e))
 
--- src/kinds.rt:46:1
 returns-7 : tie.Need-returns-7
 unfolding kindOf shape
-returns-7 c = 
+returns-7 c =
     let d = c .before .args .d in
     let e = ordered d in
     rw (c .match .keys7) (same-shape Ref Gadget (sym (words-REF d)) (ap (λ n. n / 2 + 2 * d) e) (ap (λ n. n / 2) e))
 
--- src/kinds.rt:46:1
 returns-8 : tie.Need-returns-8
 unfolding kindOf shape
-returns-8 c = 
+returns-8 c =
     rw (c .match .keys8) (same-shape Out Row (sym (words-OUT (c .before .args .d))) refl refl)
 
--- src/kinds.rt:46:1
 returns-9 : tie.Need-returns-9
 unfolding shape
 returns-9 c = let h = c .match .rest in rw (no-kind (c .before .args .word) (h .0 .0 .0 .0 .0 .0 .0 .1) (h .0 .0 .0 .0 .0 .0 .1) (h .0 .0 .0 .0 .0 .1) (h .0 .0 .0 .0 .1) (h .0 .0 .0 .1) (h .0 .0 .1) (h .0 .1) (h .1))
@@ -109,14 +89,14 @@ decide-spec =
     (tie.spec
     mul-ordered
     sub-ordered
-    add-t19
     add-t20
-    mul-t21
+    add-t21
     mul-t22
-    add-t23
+    mul-t23
+    add-t24
     add-t27
-    mul-t29
-    add-t30
+    mul-t28
+    add-t29
     returns
     returns-2
     returns-3

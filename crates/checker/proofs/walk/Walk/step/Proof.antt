@@ -1,58 +1,46 @@
-use Rattle.checker.specs.Walk.{kindCode, shapeCode, frameCode, operandsAt, behind}
-use Rattle.checker.specs.Kinds.{kindOf, words}
-use Rattle.checker.specs.Lists.{nth}
-use Rattle.checker.specs.declared.walk.Step.the-variants.{Next}
-use denote.Ref.{now}
-use lib.ListN.{length, take, drop, length-drop}
-use lib.Dec.{leb}
-use native.Mathlib.Omega.{arith}
-use Prim.Native.Nat.{_+_, _-_}
+-- `checker::walk::Walk::step` meets its contract.
 use mathlib.Core.Bool.{true, false}
 use mathlib.Core.Path.{_≡_, ap, ap₂, _∙_}
-use borrow.Author.Tests.{le-ltb, lt-ltb, le-leb, lt-leb}
+use Prim.Native.Nat.{_+_, _-_}
+use native.Mathlib.Omega.{arith}
+use lib.Dec.{leb}
+use lib.ListN.{length, take, drop, length-drop}
 use borrow.Author.Needs.{needs}
+use borrow.Author.Tests.{le-ltb, lt-ltb, le-leb, lt-leb}
+use denote.Ref.{now}
+use Rattle.circuit.specs.Kinds.{kindOf, words}
+use Rattle.circuit.specs.Lists.{nth}
+use Rattle.checker.specs.Walk.{kindCode, shapeCode, frameCode, operandsAt, behind}
+use Rattle.checker.specs.declared.walk.Step.the-variants.{Next}
 use Rattle.checker.proofs.walk.Walk.step.Statement.{statement}
 use Rattle.checker.proofs.walk.Walk.step.Tie as tie
-use Rattle.checker.proofs.walk.Walk.step.Reads as reads
-use Rattle.checker.proofs.walk.Walk.step.Lts as lts
-use Rattle.checker.proofs.kinds.decide.Reads as decide-reads
-use Rattle.checker.proofs.walk.frame_of.Reads as frame-of-reads
 
--- src/walk.rt:110:13
 returns : tie.Need-returns
 returns c = rw (le-ltb _ _ (c .if1 .taken))
 
--- src/walk.rt:112:20
 mul-word : tie.Need-mul-word
 mul-word c = search needs
 
--- src/walk.rt:112:20
 shared-slice-read-word : tie.Need-shared-slice-read-word
 shared-slice-read-word c = search needs
 
--- src/walk.rt:114:13
 returns-2 : tie.Need-returns-2
 returns-2 c = rw (lt-ltb _ _ (c .before .before .if1 .left), lt-leb _ _ (c .if2 .taken))
 
--- src/walk.rt:117:13
 returns-3 : tie.Need-returns-3
 returns-3 c = rw (lt-ltb _ _ (c .before .before .before .if1 .left), le-leb _ _ (c .before .if2 .left), lt-leb _ _ (c .if3 .taken))
 
--- src/walk.rt:119:13
 decide-requires : tie.Need-decide-requires
 decide-requires c κs = search needs
 
--- src/walk.rt:121:21
 add-start : tie.Need-add-start
 add-start c = search needs
 
--- src/walk.rt:122:12
 sub-if4 : tie.Need-sub-if4
 sub-if4 c = search needs
 
--- src/walk.rt:123:13
 returns-4 : tie.Need-returns-4
-returns-4 c = 
+returns-4 c =
     let table = now (c .before .before .before .before .before .before .before .args .table) in
     let at = c .before .before .before .before .before .before .before .args .self .at in
     let d = c .before .before .before .before .before .before .before .args .self .d in
@@ -61,33 +49,26 @@ returns-4 c =
     let short : leb (words d kind) (length (drop (at + 1) table)) ≡ false = lt-leb (words d kind) (length (drop (at + 1) table)) (omega (arith, length-drop (at + 1) table)) in
     rw (lt-ltb _ _ (c .before .before .before .before .before .if1 .left), le-leb _ _ (c .before .before .before .if2 .left), le-leb _ _ (c .before .before .if3 .left), short)
 
--- src/walk.rt:125:19
 add-end : tie.Need-add-end
 add-end c = search needs
 
--- src/walk.rt:127:36
 mul-frame-of : tie.Need-mul-frame-of
 mul-frame-of c = search needs
 
--- src/walk.rt:127:36
 sub-frame-of : tie.Need-sub-frame-of
 sub-frame-of c = search needs
 
--- src/walk.rt:127:36
 part-frame-of-start : tie.Need-part-frame-of-start
 part-frame-of-start c = search needs
 
--- src/walk.rt:127:36
 part-frame-of-end : tie.Need-part-frame-of-end
 part-frame-of-end c = search needs
 
--- src/walk.rt:127:13
 frame-of-requires : tie.Need-frame-of-requires
 frame-of-requires c κs = search needs
 
--- src/walk.rt:104:5
 returns-5 : tie.Need-returns-5
-returns-5 c = 
+returns-5 c =
     let table = now (c .before .before .before .before .before .before .before .before .before .args .table) in
     let at = c .before .before .before .before .before .before .before .before .before .args .self .at in
     let d = c .before .before .before .before .before .before .before .before .before .args .self .d in

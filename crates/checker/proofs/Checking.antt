@@ -1,0 +1,203 @@
+-- The whole check, frame by frame: what the loop keeps, and what each way out of it answers.
+use mathlib.Core.Path.{_≡_, refl, sym, ap, ap₂, subst, _∙_}
+use mathlib.Core.Bool.{Bool, true, false, cond, _&&_}
+use mathlib.Core.List.{List, [], _∷_}
+use Prim.Native.Nat.{ℕ, zero, suc, _+_, _*_, _-_, _/_, _≤_, _<_}
+use native.Mathlib.Omega.{arith}
+use lib.Dec.{leb, ltb, eqb}
+use lib.ListN.{length, take, drop, length-drop, drop-of-length-le}
+use lib.Seq.{drop-cons, drop-drop, length-take-le}
+use borrow.Author.Tests.{leb-true, leb-false, ltb-true, ltb-false, eqb-true}
+use Rattle.checker.specs.declared.Verdict.the-variants.{Accepted, Refused}
+use Rattle.checker.specs.declared.kinds.Shape.{Shape as ShapeCode}
+use Rattle.checker.specs.declared.walk.Frame.{Frame}
+use Rattle.checker.specs.declared.walk.Walk.{Walk}
+use Rattle.checker.specs.declared.walk.Step.{Step}
+use Rattle.checker.specs.declared.walk.Step.the-variants as step
+use Rattle.checker.specs.declared.frame.Tally.{Tally}
+use Rattle.checker.specs.declared.frame.Added.{Added}
+use Rattle.checker.specs.declared.frame.Added.the-variants as added
+use Rattle.circuit.specs.Limits.{tableLimit, notesRoom, fewestShares, mostShares, wireLimit}
+use Rattle.circuit.specs.Lists.{nth}
+use Rattle.circuit.specs.Kinds.{Kind, HEAD, kindOf, shape, words}
+use Rattle.circuit.specs.Circuit.{Circuit, size, empty, made, extend}
+use Rattle.circuit.specs.Rules.{Judgement, pass, refuse, need, _then_, frameRule, Checked, onward, frames, headRule, checked}
+use Rattle.checker.specs.Said.{said}
+use Rattle.circuit.specs.Answer.{answer, verdictOf, notesAfter}
+use Rattle.checker.specs.Walk.{kindCode, shapeCode, frameCode, operandsAt, behind, stepAt}
+use Rattle.checker.specs.Sheet.{judged, tallyOf, judgementIn, laterRule, notesAdded, FrameOf, Placed, Adds, headNumber}
+use Rattle.circuit.proofs.Base.{cases}
+use Rattle.circuit.specs.Composition.{kindWord}
+use Rattle.circuit.proofs.Building.{Lawful, size-extend}
+use Rattle.circuit.proofs.Steps.{frames-pass, frames-refuse}
+use Rattle.circuit.proofs.Fitting.{known, frame-pass}
+use Rattle.checker.proofs.MadeNotes.{uses-few}
+use Rattle.checker.proofs.Telling.{Labelled, tells, notes-more, label-step}
+
+-- 1 to 4
+pub head-judged : (table : List ℕ) (room : ℕ) → headRule table room ≡ judged (headNumber table room) 0 (headNumber table room / 4)
+unfolding headRule
+head-judged table room = go (leb (length table) tableLimit) (leb notesRoom room) (leb 2 (length table) && eqb (nth table 0) 0) (leb fewestShares (nth table 1) && leb (nth table 1) mostShares)
+  where
+    go : (a b c e : Bool) → (need a 1 0 0 then need b 2 0 0 then need c 3 0 0 then need e 4 0 1)
+        ≡ judged (cond a (cond b (cond c (cond e 0 4) 3) 2) 1) 0 (cond a (cond b (cond c (cond e 0 4) 3) 2) 1 / 4)
+    go false b c e = refl
+    go true false c e = refl
+    go true true false e = refl
+    go true true true false = refl
+    go true true true true = refl
+
+pub head-refused : (table notes : List ℕ) (n : ℕ) → n ≡ headNumber table (length notes) → (n ≡ 0 → ⊥)
+    → (said (Refused n 0 (n / 4)) ≡ verdictOf table (length notes)) × (notes ≡ notesAfter (checked table (length notes) .circuit) notes)
+unfolding checked notesAfter
+head-refused table notes n e h = rw (head-judged table (length notes), ← e) (go n h)
+  where
+    go : (n : ℕ) → (n ≡ 0 → ⊥)
+        → (said (Refused n 0 (n / 4)) ≡ answer (onward (judged n 0 (n / 4)) (empty 0) (frames (empty (nth table 1)) 1 0 (drop 2 table)) .circuit) (onward (judged n 0 (n / 4)) (empty 0) (frames (empty (nth table 1)) 1 0 (drop 2 table)) .judgement))
+        × (notes ≡ notesAfter (onward (judged n 0 (n / 4)) (empty 0) (frames (empty (nth table 1)) 1 0 (drop 2 table)) .circuit) notes)
+    go zero z = absurd (z refl)
+    go (suc n) z = (refl, refl)
+
+-- what the loop keeps: the circuit of the frames so far, its notes, and that the rest of the table is still to be judged
+pub record Walking (table notes₀ notes : List ℕ) (d : ℕ) (walk : Walk) (tally : Tally) : Type 0 where
+  pub k : Circuit
+  pub least : fewestShares ≤ k .d
+  pub most : k .d ≤ mostShares
+  pub shares : k .d ≡ d
+  pub walk-shares : walk .d ≡ d
+  pub tally-is : tally ≡ tallyOf (tally .frames) k
+  pub few : size k ≤ wireLimit
+  pub used : k .randoms ≤ size k
+  pub counted : tally .frames ≤ walk .at
+  pub inside : walk .at ≤ length table
+  pub short : length table ≤ tableLimit
+  pub roomy : notesRoom ≤ length notes₀
+  pub law : Lawful Labelled k
+  pub notes-is : notes ≡ notesAfter k notes₀
+  pub rest : checked table (length notes₀) ≡ frames k (tally .frames) 0 (drop (walk .at) table)
+
+-- at the start
+pub record Headed (table : List ℕ) (room : ℕ) : Type 0 where
+  pub short : length table ≤ tableLimit
+  pub roomy : notesRoom ≤ room
+  pub two : 2 ≤ length table
+  pub least : fewestShares ≤ nth table 1
+  pub most : nth table 1 ≤ mostShares
+
+pub headed : (table : List ℕ) (room : ℕ) → headNumber table room ≡ 0 → Headed table room
+headed table room e =
+    cases (leb (length table) tableLimit) (λ a. cases (leb notesRoom room) (λ b. cases (leb 2 (length table)) (λ c.
+    cases (eqb (nth table 0) 0) (λ z. cases (leb fewestShares (nth table 1)) (λ f. cases (leb (nth table 1) mostShares)
+    (λ g. record { short = leb-true _ _ a; roomy = leb-true _ _ b; two = leb-true _ _ c; least = leb-true _ _ f; most = leb-true _ _ g })
+    (λ g. off (rw (a, b, c, z, f, g) at e)))
+    (λ f. off (rw (a, b, c, z, f) at e)))
+    (λ z. off (rw (a, b, c, z) at e)))
+    (λ c. off (rw (a, b, c) at e)))
+    (λ b. off (rw (a, b) at e)))
+    (λ a. off (rw a at e))
+  where
+    off : {n : ℕ} → suc n ≡ 0 → Headed table room
+    off e = absurd (omega arith)
+
+pub start : (table notes : List ℕ) → headNumber table (length notes) ≡ 0
+    → Walking table notes notes (nth table 1) (record { d = nth table 1; at = 2 }) (record { frames = 1; wires = 0; randoms = 0; latency = 0 })
+unfolding checked notesAfter
+start table notes e =
+    let h = headed table (length notes) e in
+    record {
+      k = empty (nth table 1);
+      least = h .least;
+      most = h .most;
+      shares = refl;
+      walk-shares = refl;
+      tally-is = refl;
+      few = omega arith;
+      used = omega arith;
+      counted = omega arith;
+      inside = h .two;
+      short = h .short;
+      roomy = h .roomy;
+      law = tt;
+      notes-is = refl;
+      rest = rw (head-judged table (length notes), e);
+    }
+
+-- what stands at the walk's place
+module _ (table : List ℕ) (d at : ℕ) where
+  abbrev word : ℕ
+  word = nth table at
+
+  abbrev rest : List ℕ
+  rest = drop (at + 1) table
+
+  pub here : at < length table → drop at table ≡ word ∷ rest
+  here h = let e : suc at ≡ at + 1 = omega arith in drop-cons table at 0 h ∙ ap (λ n. nth table at ∷ drop n table) e
+
+  -- the table's end
+  pub step-end : step.End ≡ stepAt table d at → length table ≤ at
+  step-end e = cases (ltb at (length table)) (λ a. cases (leb 1 (nth table at) && leb (nth table at) 8) (λ b.
+      cases (leb (words d (kindOf (nth table at))) (length (drop (at + 1) table)))
+      (λ c. off (rw (a, b, c) at e)) (λ c. off₂ (rw (a, b, c) at e))) (λ b. off₂ (rw (a, b) at e))) (λ a. ltb-false at (length table) a)
+    where
+      off : {A : Type 0} {f : Frame} {s : ShapeCode} {w : Walk} → step.End ≡ step.Next f s w → A
+      off e = let z : _≡_ {A = ℕ} 0 1 = cc in absurd (omega arith)
+
+      off₂ : {A : Type 0} {n : ℕ} → step.End ≡ step.Refused n → A
+      off₂ e = let z : _≡_ {A = ℕ} 0 1 = cc in absurd (omega arith)
+
+  -- 5 or 6
+  pub step-refused : (rule : ℕ) → step.Refused rule ≡ stepAt table d at
+      → (at < length table) × ((k : Circuit) → k .d ≡ d → (f : ℕ) → frameRule k f word rest ≡ refuse rule f 0)
+  unfolding frameRule
+  step-refused rule e = cases (ltb at (length table)) (λ a. (
+    ltb-true at (length table) a,
+    λ k s f.
+        cases (leb 1 (nth table at) && leb (nth table at) 8)
+        (λ b. cases (leb (words d (kindOf (nth table at))) (length (drop (at + 1) table)))
+        (λ c. off (rw (a, b, c) at e)) (λ c. rw (s, b, c, number (rw (a, b, c) at e))))
+        (λ b. rw (b, number (rw (a, b) at e))),
+  )) (λ a. off₂ (rw a at e))
+    where
+      number : {n : ℕ} → step.Refused rule ≡ step.Refused n → rule ≡ n
+      number e = cc
+
+      off : {A : Type 0} {f : Frame} {s : ShapeCode} {w : Walk} → step.Refused rule ≡ step.Next f s w → A
+      off e = let z : _≡_ {A = ℕ} 0 1 = cc in absurd (omega arith)
+
+      off₂ : {A : Type 0} → step.Refused rule ≡ step.End → A
+      off₂ e = let z : _≡_ {A = ℕ} 0 1 = cc in absurd (omega arith)
+
+  -- a whole frame
+  pub record AtFrame (fr : Frame) (sh : ShapeCode) (w : Walk) : Type 0 where
+    pub inside : at < length table
+    pub low : 1 ≤ word
+    pub high : word ≤ 8
+    pub whole : words d (kindOf word) ≤ length rest
+    pub frame-is : fr ≡ frameCode (kindCode (kindOf word)) (operandsAt table d at)
+    pub shape-is : sh ≡ shapeCode d (kindOf word)
+    pub walk-is : w ≡ behind d at (words d (kindOf word))
+
+  pub step-next : (fr : Frame) (sh : ShapeCode) (w : Walk) → step.Next fr sh w ≡ stepAt table d at → AtFrame fr sh w
+  step-next fr sh w e = cases (ltb at (length table)) (λ a. cases (leb 1 (nth table at)) (λ b. cases (leb (nth table at) 8) (λ b₂.
+      cases (leb (words d (kindOf (nth table at))) (length (drop (at + 1) table)))
+      (λ c. found (ltb-true at (length table) a) (leb-true 1 (nth table at) b) (leb-true (nth table at) 8 b₂) (leb-true (words d (kindOf (nth table at))) (length (drop (at + 1) table)) c) (rw (a, b, b₂, c) at e))
+      (λ c. off (rw (a, b, b₂, c) at e))) (λ b₂. off (rw (a, b, b₂) at e))) (λ b. off (rw (a, b) at e))) (λ a. off₂ (rw a at e))
+    where
+      off : {A : Type 0} {n : ℕ} → step.Next fr sh w ≡ step.Refused n → A
+      off e = let z : _≡_ {A = ℕ} 0 1 = cc in absurd (omega arith)
+
+      off₂ : {A : Type 0} → step.Next fr sh w ≡ step.End → A
+      off₂ e = let z : _≡_ {A = ℕ} 0 1 = cc in absurd (omega arith)
+
+      frame-eq : {f′ : Frame} {s′ : ShapeCode} {w′ : Walk} → step.Next fr sh w ≡ step.Next f′ s′ w′ → fr ≡ f′
+      frame-eq e = cc
+
+      shape-eq : {f′ : Frame} {s′ : ShapeCode} {w′ : Walk} → step.Next fr sh w ≡ step.Next f′ s′ w′ → sh ≡ s′
+      shape-eq e = cc
+
+      walk-eq : {f′ : Frame} {s′ : ShapeCode} {w′ : Walk} → step.Next fr sh w ≡ step.Next f′ s′ w′ → w ≡ w′
+      walk-eq e = cc
+
+      found : at < length table → 1 ≤ nth table at → nth table at ≤ 8 → words d (kindOf (nth table at)) ≤ length (drop (at + 1) table)
+          → step.Next fr sh w ≡ step.Next (frameCode (kindCode (kindOf (nth table at))) (operandsAt table d at)) (shapeCode d (kindOf (nth table at))) (behind d at (words d (kindOf (nth table at)))) → AtFrame fr sh w
+      found a b b₂ c e = record { inside = a; low = b; high = b₂; whole = c; frame-is = frame-eq e; shape-is = shape-eq e; walk-is = walk-eq e }

@@ -1,0 +1,119 @@
+-- What a frame adds, as the code counts and writes it: the stage, the latency, the number of wires, and their words in the notes.
+use mathlib.Core.Path.{_≡_, refl, sym, ap, ap₂, _∙_}
+use mathlib.Core.Bool.{true, false}
+use mathlib.Core.List.{List, [], _∷_, _++_, map, append-nil, append-assoc}
+use Prim.Native.Nat.{ℕ, zero, suc, _+_, _*_, _-_, _≤_, _<_, max}
+use native.Mathlib.Nat.{max-eq-left, max-eq-right}
+use native.Mathlib.Omega.{arith}
+use lib.Dec.{ltb}
+use lib.ListN.{length}
+use borrow.Author.Tests.{ltb-true, ltb-false}
+use Rattle.checker.specs.declared.notes.Made.{Made}
+use Rattle.circuit.specs.Lists.{range, nth, each}
+use Rattle.circuit.specs.Wires.{Gate, input, Wire, named, inner, _placed_}
+use Rattle.circuit.specs.Gadgets.{labels, Part, c, S, gate, delay, inAND, inREF, index, gadget}
+use Rattle.circuit.specs.Kinds.{Kind, HEAD, IN, CON, XOR, NOT, REG, AND, REF, OUT, pairs, shape}
+use Rattle.circuit.specs.Circuit.{Circuit, size, place, stageShown, newStage, made, latencyAfter}
+use Rattle.circuit.specs.Answer.{note}
+use Rattle.checker.specs.Walk.{kindCode, frameCode}
+use Rattle.checker.specs.Sheet.{foundOf, innerWords, namedWords, madeWords, madeFrame, latencyFrame}
+use Rattle.circuit.proofs.Base.{cases}
+use Rattle.checker.proofs.WordRules.{label-found, stage-found}
+use Rattle.circuit.proofs.Sizes.{and-size, ref-size}
+
+-- the wires that a frame makes, by what a circuit says of those it names
+abbrev pub madeBy : Circuit → List ℕ → Kind → Made
+madeBy k ops kind = madeFrame (frameCode (kindCode kind) ops) (k .d) (shape (k .d) kind .makes - k .d) (foundOf k) ops
+
+-- how many
+pub made-count : (look : ℕ → _) (ops : List ℕ) (d : ℕ) (kind : Kind)
+    → (madeFrame (frameCode (kindCode kind) ops) d (shape d kind .makes - d) look ops .inner) + (madeFrame (frameCode (kindCode kind) ops) d (shape d kind .makes - d) look ops .named) ≡ shape d kind .makes
+unfolding shape
+made-count look ops d HEAD = refl
+made-count look ops d IN = omega arith
+made-count look ops d CON = refl
+made-count look ops d XOR = refl
+made-count look ops d NOT = refl
+made-count look ops d REG = refl
+made-count look ops d AND = omega arith
+made-count look ops d REF = omega arith
+made-count look ops d OUT = refl
+
+-- how many random bits: no more than wires
+pub uses-few : (d : ℕ) (kind : Kind) → shape d kind .uses ≤ shape d kind .makes
+unfolding shape
+uses-few d HEAD = omega arith
+uses-few d IN = omega arith
+uses-few d CON = omega arith
+uses-few d XOR = omega arith
+uses-few d NOT = omega arith
+uses-few d REG = omega arith
+uses-few d AND = omega arith
+uses-few d REF = omega arith
+uses-few d OUT = omega arith
+
+-- the words of wires in the notes
+pub notes-append : (xs ys : List Wire) → each (xs ++ ys) (λ w. note (w .place)) ≡ each xs (λ w. note (w .place)) ++ each ys (λ w. note (w .place))
+notes-append [] ys = refl
+notes-append (x ∷ xs) ys = ap (λ l. note (x .place) ++ l) (notes-append xs ys) ∙ sym (append-assoc (note (x .place)) (each xs (λ w. note (w .place))) (each ys (λ w. note (w .place))))
+
+row-notes : (g : ℕ → Gate) (t n count : ℕ) → each (map (λ i. g i placed named i t) (range n count)) (λ w. note (w .place)) ≡ namedWords n t count
+unfolding namedWords
+row-notes g t n zero = refl
+row-notes g t n (suc count) = ap (λ l. n ∷ t ∷ l) (row-notes g t (suc n) count)
+
+inner-notes : (g : Part → Gate) (stage : Part → ℕ) (ps : List Part) → each (map (λ p. g p placed inner (stage p)) ps) (λ w. note (w .place)) ≡ innerWords (length ps)
+unfolding innerWords
+inner-notes g stage [] = refl
+inner-notes g stage (p ∷ ps) = ap (λ l. 0xFFFF ∷ 0xFFFF ∷ l) (inner-notes g stage ps)
+
+gadget-notes : (d first : ℕ) (a b : ℕ → ℕ) (inside : List Part) (out : ℕ → Part) (start end count : ℕ) → length inside ≡ count
+    → each (gadget d first a b inside out start end) (λ w. note (w .place)) ≡ innerWords count ++ namedWords 0 end d
+unfolding gadget
+gadget-notes d first a b inside out start end count e =
+    let g : Part → Gate = gate d a b (λ p. first + index p inside) in
+    notes-append (map (λ p. g p placed inner (start + delay p)) inside) (map (λ i. g (out i) placed named i end) (labels d))
+    ∙ ap₂ _++_ (inner-notes g (λ p. start + delay p) inside ∙ ap innerWords e) (row-notes (λ i. g (out i)) end 0 d)
+
+-- what a frame adds, by what the circuit says of the wires it names
+module _ (k : Circuit) (ops : List ℕ) where
+  pub made-stage : (kind : Kind) → (kind ≡ HEAD → ⊥) → madeBy k ops kind .stage ≡ newStage k ops kind
+  unfolding newStage
+  made-stage HEAD h = absurd (h refl)
+  made-stage IN h = refl
+  made-stage CON h = refl
+  made-stage XOR h = omega (arith, stage-found k (nth ops 0))
+  made-stage NOT h = omega (arith, stage-found k (nth ops 0))
+  made-stage REG h = omega (arith, stage-found k (nth ops 0))
+  made-stage AND h = omega (arith, stage-found k (nth ops 1))
+  made-stage REF h = omega (arith, stage-found k (nth ops 1))
+  made-stage OUT h = stage-found k (nth ops 0)
+
+  pub made-words : (kind : Kind) → (kind ≡ HEAD → ⊥) → madeWords (madeBy k ops kind) ≡ each (made k ops kind) (λ w. note (w .place))
+  unfolding shape newStage made innerWords namedWords
+  made-words HEAD h = absurd (h refl)
+  made-words IN h = sym (row-notes (λ i. input (k .inputs * k .d + i)) (nth ops 0) 0 (k .d))
+  made-words CON h = refl
+  made-words XOR h = ap₂ (λ l t. l ∷ t ∷ []) (label-found k (nth ops 0)) (made-stage XOR h)
+  made-words NOT h = ap₂ (λ l t. l ∷ t ∷ []) (label-found k (nth ops 0)) (made-stage NOT h)
+  made-words REG h = ap₂ (λ l t. l ∷ t ∷ []) (label-found k (nth ops 0)) (made-stage REG h)
+  made-words AND h = ap (λ t. innerWords (7 * (k .d * (k .d - 1)) + 4 * k .d - k .d) ++ namedWords 0 t (k .d)) (made-stage AND h)
+      ∙ sym (gadget-notes (k .d) (size k) (λ i. nth ops (1 + i)) (λ i. nth ops (1 + k .d + i)) (inAND (k .d)) c (stageShown (place k (nth ops (1 + k .d)))) (newStage k ops AND)
+      (7 * (k .d * (k .d - 1)) + 4 * k .d - k .d) (omega (arith, and-size (k .d))))
+  made-words REF h = ap (λ t. innerWords (pairs (k .d) + 2 * k .d - k .d) ++ namedWords 0 t (k .d)) (made-stage REF h)
+      ∙ sym (gadget-notes (k .d) (size k) (λ i. nth ops (1 + i)) (λ i. nth ops (1 + i)) (inREF (k .d)) S (stageShown (place k (nth ops 1))) (newStage k ops REF)
+      (pairs (k .d) + 2 * k .d - k .d) (omega (arith, ref-size (k .d))))
+  made-words OUT h = refl
+
+  pub made-latency : (kind : Kind) → (kind ≡ HEAD → ⊥) → latencyFrame (frameCode (kindCode kind) ops) (k .latency) (newStage k ops kind) ≡ latencyAfter k ops kind
+  made-latency HEAD h = absurd (h refl)
+  made-latency IN h = refl
+  made-latency CON h = refl
+  made-latency XOR h = refl
+  made-latency NOT h = refl
+  made-latency REG h = refl
+  made-latency AND h = refl
+  made-latency REF h = refl
+  made-latency OUT h = let t = newStage k ops OUT in cases (ltb (k .latency) t)
+      (λ e. rw e (sym (max-eq-right (omega (arith, ltb-true (k .latency) t e)))))
+      (λ e. rw e (sym (max-eq-left (ltb-false (k .latency) t e))))

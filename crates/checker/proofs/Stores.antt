@@ -1,0 +1,69 @@
+-- Wires stored into the notes, two words a turn.
+use mathlib.Core.Path.{_≡_, refl, sym, ap, ap₂, _∙_}
+use mathlib.Core.List.{List, [], _∷_, _++_}
+use Prim.Native.Nat.{ℕ, zero, suc, _+_, _*_, _-_, _≤_, _<_}
+use native.Mathlib.Omega.{arith}
+use lib.ListN.{length, set, length-set}
+use lib.Seq.{sets}
+use Rattle.circuit.specs.Limits.{innerNote}
+use Rattle.checker.specs.Sheet.{innerWords, namedWords}
+
+-- before the first turn
+pub store-start : (n : List ℕ) (from label count : ℕ) (words : ℕ → ℕ → List ℕ) → sets n (2 * from) (words label count) ≡ sets n (2 * from + 0) (words (label + 0) (count - 0))
+store-start n from label count words =
+    let p : 2 * from ≡ 2 * from + 0 = omega arith in
+    let l : label ≡ label + 0 = omega arith in
+    let k : count ≡ count - 0 = omega arith in
+    ap₂ (λ p k. sets n p (words label k)) p k ∙ ap (λ l. sets n (2 * from + 0) (words l (count - 0))) l
+
+-- one turn
+pub store-turn : (n : List ℕ) (from i a b : ℕ) (ws rest : List ℕ) → ws ≡ a ∷ b ∷ rest
+    → sets n (2 * from + 2 * i) ws ≡ sets (set (set n (2 * from + 2 * i) a) (2 * from + 2 * i + 1) b) (2 * from + 2 * (i + 1)) rest
+store-turn n from i a b ws rest e = ap (sets n p) e ∙ ap₂ (λ q r. sets (set (set n p a) q b) r rest) next after
+  where
+    p : ℕ
+    p = 2 * from + 2 * i
+
+    next : suc p ≡ p + 1
+    next = omega arith
+
+    after : suc (suc p) ≡ 2 * from + 2 * (i + 1)
+    after = omega arith
+
+-- what is left of inner and of named wires after a turn, and at the end
+pub inner-turn : (count i : ℕ) → i < count → innerWords (count - i) ≡ innerNote ∷ innerNote ∷ innerWords (count - (i + 1))
+unfolding innerWords
+inner-turn count i h = let e : count - i ≡ suc (count - (i + 1)) = omega arith in ap innerWords e
+
+pub inner-end : (count i : ℕ) → i ≤ count → count ≤ i → innerWords (count - i) ≡ []
+unfolding innerWords
+inner-end count i h l = let e : count - i ≡ 0 = omega arith in ap innerWords e
+
+pub named-turn : (label stage count i : ℕ) → i < count
+    → namedWords (label + i) stage (count - i) ≡ (label + i) ∷ stage ∷ namedWords (label + (i + 1)) stage (count - (i + 1))
+unfolding namedWords
+named-turn label stage count i h =
+    let e : count - i ≡ suc (count - (i + 1)) = omega arith in
+    let l : suc (label + i) ≡ label + (i + 1) = omega arith in
+    ap (namedWords (label + i) stage) e ∙ ap (λ x. (label + i) ∷ stage ∷ namedWords x stage (count - (i + 1))) l
+
+pub named-end : (label stage count i : ℕ) → i ≤ count → count ≤ i → namedWords (label + i) stage (count - i) ≡ []
+unfolding namedWords
+named-end label stage count i h l = let e : count - i ≡ 0 = omega arith in ap (namedWords (label + i) stage) e
+
+-- a run of stores, and one behind it
+pub stores-append : (n : List ℕ) (p : ℕ) (xs ys : List ℕ) → sets n p (xs ++ ys) ≡ sets (sets n p xs) (p + length xs) ys
+stores-append n p [] ys = let e : p ≡ p + 0 = omega arith in ap (λ q. sets n q ys) e
+stores-append n p (x ∷ xs) ys = let e : suc p + length xs ≡ p + suc (length xs) = omega arith in
+    stores-append (set n p x) (suc p) xs ys ∙ ap (λ q. sets (sets (set n p x) (suc p) xs) q ys) e
+
+pub inner-length : (count : ℕ) → length (innerWords count) ≡ 2 * count
+unfolding innerWords
+inner-length zero = refl
+inner-length (suc n) = omega (arith, inner-length n)
+
+pub stores-made : (n : List ℕ) (from inner : ℕ) (ws : List ℕ)
+    → sets (sets n (2 * from) (innerWords inner)) (2 * (from + inner)) ws ≡ sets n (2 * from) (innerWords inner ++ ws)
+stores-made n from inner ws =
+    let e : 2 * (from + inner) ≡ 2 * from + length (innerWords inner) = omega (arith, inner-length inner) in
+    ap (λ p. sets (sets n (2 * from) (innerWords inner)) p ws) e ∙ sym (stores-append n (2 * from) (innerWords inner) ws)

@@ -1,0 +1,193 @@
+-- The ways out of the loop over the frames, and its turn.
+use mathlib.Core.Path.{_≡_, refl, sym, ap, ap₂, subst, _∙_}
+use mathlib.Core.Bool.{true, _&&_}
+use mathlib.Core.List.{List, [], _∷_}
+use Prim.Native.Nat.{ℕ, suc, _+_, _*_, _-_, _≤_, _<_}
+use native.Mathlib.Omega.{arith}
+use lib.Dec.{leb}
+use lib.ListN.{length, take, drop, length-drop, drop-of-length-le}
+use lib.Seq.{sets, drop-drop, length-take-le}
+use borrow.Author.Tests.{le-leb}
+use Rattle.checker.specs.declared.Verdict.{Verdict}
+use Rattle.checker.specs.declared.Verdict.the-variants.{Accepted, Refused}
+use Rattle.checker.specs.declared.kinds.Shape.{Shape as ShapeCode}
+use Rattle.checker.specs.declared.walk.Frame.{Frame}
+use Rattle.checker.specs.declared.walk.Walk.{Walk}
+use Rattle.checker.specs.declared.walk.Step.the-variants as step
+use Rattle.checker.specs.declared.frame.Tally.{Tally}
+use Rattle.checker.specs.declared.frame.Added.{Added}
+use Rattle.checker.specs.declared.frame.Added.the-variants as added
+use Rattle.circuit.specs.Limits.{notesRoom, fewestShares, mostShares, wireLimit}
+use Rattle.circuit.specs.Lists.{nth, each}
+use Rattle.circuit.specs.Kinds.{Kind, HEAD, kindOf, shape, words}
+use Rattle.circuit.specs.Circuit.{Circuit, size, made, extend}
+use Rattle.circuit.specs.Rules.{Judgement, pass, refuse, frameRule, Checked, frames, checked}
+use Rattle.checker.specs.Said.{said}
+use Rattle.circuit.specs.Answer.{Answer, answer, verdictOf, note, notesAfter}
+use Rattle.checker.specs.Walk.{shapeCode, operandsAt, behind, stepAt}
+use Rattle.checker.specs.Sheet.{Tells, tallyOf, judgementIn, laterRule, notesAdded, FrameOf, Placed, Adds}
+use Rattle.circuit.specs.Composition.{kindWord, Fits}
+use Rattle.circuit.proofs.Building.{size-extend}
+use Rattle.circuit.proofs.Steps.{frames-pass, frames-refuse}
+use Rattle.circuit.proofs.Fitting.{known, frame-pass}
+use Rattle.checker.proofs.MadeNotes.{uses-few}
+use Rattle.checker.proofs.Telling.{tells, notes-more, notes-same, label-step}
+use Rattle.checker.proofs.Checking.{Walking, here, step-end, step-refused, AtFrame, step-next}
+
+-- what the call promises
+abbrev pub Promised : (table notes₀ notes : List ℕ) → Verdict → Type 0
+Promised table notes₀ notes verdict = (said verdict ≡ verdictOf table (length notes₀)) × (notes ≡ notesAfter (checked table (length notes₀) .circuit) notes₀)
+
+module _ {table notes₀ notes : List ℕ} {d : ℕ} {walk : Walk} {tally : Tally} (w : Walking table notes₀ notes d walk tally) where
+  -- the rest of the table judged ends the check
+  ends : (c : Checked) → frames (w .k) (tally .frames) 0 (drop (walk .at) table) ≡ c → c .circuit ≡ w .k → (v : Verdict) → said v ≡ answer (c .circuit) (c .judgement) → Promised table notes₀ notes v
+  ends c e s v a = rw (w .rest, e) (a, w .notes-is ∙ ap (λ k. notesAfter k notes₀) (sym s))
+
+  -- the end of the table
+  pub way-end : step.End ≡ stepAt table (walk .d) (walk .at) → Promised table notes₀ notes (Accepted (tally .wires) (tally .randoms) (tally .latency))
+  unfolding frames
+  way-end e = ends (record { circuit = w .k; judgement = pass }) (ap (frames (w .k) (tally .frames) 0) none) refl (Accepted (tally .wires) (tally .randoms) (tally .latency))
+      (ap (λ t. answer-of (t .wires) (t .randoms) (t .latency)) (w .tally-is))
+    where
+      answer-of : ℕ → ℕ → ℕ → Answer
+      answer-of a b c = said (Accepted a b c)
+
+      none : drop (walk .at) table ≡ []
+      none = drop-of-length-le table {i = walk .at} (step-end table (walk .d) (walk .at) e)
+
+  -- a frame that is refused
+  refused-at : (rule word : ℕ) → walk .at < length table → frameRule (w .k) (tally .frames) (nth table (walk .at)) (drop (walk .at + 1) table) ≡ refuse rule (tally .frames) word
+      → Promised table notes₀ notes (Refused rule (tally .frames) word)
+  refused-at rule word h e = ends (record { circuit = w .k; judgement = refuse rule (tally .frames) word })
+      (ap (frames (w .k) (tally .frames) 0) (here table d (walk .at) h) ∙ frames-refuse (w .k) (tally .frames) (nth table (walk .at)) (drop (walk .at + 1) table) rule (tally .frames) word e) refl
+      (Refused rule (tally .frames) word) refl
+
+  pub way-refused : (rule : ℕ) → step.Refused rule ≡ stepAt table (walk .d) (walk .at) → Promised table notes₀ notes (Refused rule (tally .frames) 0)
+  way-refused rule e = let (h, r) = step-refused table (walk .d) (walk .at) rule e in
+      refused-at rule 0 h (r (w .k) (w .shares ∙ sym (w .walk-shares)) (tally .frames))
+
+  -- a whole frame at the walk's place
+  module _ (fr : Frame) (sh : ShapeCode) (next : Walk) (e : step.Next fr sh next ≡ stepAt table (walk .d) (walk .at)) (ops : List ℕ) (o : ops ≡ operandsAt table (walk .d) (walk .at)) where
+    frame-at : AtFrame table (walk .d) (walk .at) fr sh next
+    frame-at = step-next table (walk .d) (walk .at) fr sh next e
+
+    kind : Kind
+    kind = kindOf (nth table (walk .at))
+
+    rest : List ℕ
+    rest = drop (walk .at + 1) table
+
+    later : kind ≡ HEAD → ⊥
+    unfolding kind
+    later h = omega (arith, frame-at .low, ap kindWord h, known (nth table (walk .at)) (frame-at .high))
+
+    shares : walk .d ≡ w .k .d
+    shares = w .walk-shares ∙ sym (w .shares)
+
+    ops-is : ops ≡ take (words (w .k .d) kind) rest
+    unfolding kind rest
+    ops-is = o ∙ ap (λ n. take (words n kind) rest) shares
+
+    whole : words (w .k .d) kind ≤ length rest
+    unfolding kind rest
+    whole = subst (λ n. words n kind ≤ length rest) shares (frame-at .whole)
+
+    placed : Placed (w .k) kind tally fr sh d ops notes
+    unfolding kind rest
+    placed = record {
+      later = later;
+      tells = rw (w .notes-is) (subst (λ n. Tells (w .k) (notesAfter (w .k) notes₀) n) (sym (ap (λ t. t .wires) (w .tally-is))) (tells (w .k) notes₀ (w .most) (omega (arith, w .least)) (w .law)));
+      tally-is = w .tally-is;
+      shares = w .shares;
+      frame-is = rw o (frame-at .frame-is);
+      shape-is = frame-at .shape-is ∙ ap (λ n. shapeCode n kind) (w .walk-shares);
+      whole = ap length ops-is ∙ length-take-le (words (w .k .d) kind) rest whole ∙ ap (λ n. words n kind) (w .shares);
+    }
+
+    -- what is left to judge behind 5 and 6 is the frame's judgement
+    judged-is : frameRule (w .k) (tally .frames) (nth table (walk .at)) rest ≡ laterRule (w .k) (tally .frames) kind ops
+    unfolding kind rest frameRule
+    judged-is = rw (le-leb 1 (nth table (walk .at)) (frame-at .low), le-leb (nth table (walk .at)) 8 (frame-at .high), le-leb (words (w .k .d) kind) (length rest) whole, ops-is)
+
+    pub frame-of : FrameOf fr sh d ops
+    frame-of = record { kind = kind; frame-is = placed .frame-is; shape-is = placed .shape-is }
+
+    module _ (new : List ℕ) (r : Added) (a : Adds tally fr sh d ops notes new r) where
+      -- the frame is refused, and the notes stay
+      broken-is : (rule word : ℕ) → r ≡ added.Refused rule word → laterRule (w .k) (tally .frames) kind ops ≡ refuse rule (tally .frames) word
+      broken-is rule word s = sym (a .judgement (w .k) kind placed) ∙ ap (judgementIn (tally .frames)) s
+
+      pub broken-kept : (rule word : ℕ) → r ≡ added.Refused rule word → new ≡ notes
+      broken-kept rule word s = a .notes (w .k) kind placed ∙ ap (λ j. notesAdded j notes (size (w .k)) (made (w .k) ops kind)) (broken-is rule word s)
+
+      pub way-broken : (rule word : ℕ) → r ≡ added.Refused rule word → Promised table notes₀ new (Refused rule (tally .frames) word)
+      unfolding kind rest
+      way-broken rule word s =
+          let (v, n) = refused-at rule word (frame-at .inside) (judged-is ∙ broken-is rule word s) in
+          (v, broken-kept rule word s ∙ n)
+
+      -- the frame is added
+      pub turn : (t : Tally) → r ≡ added.Next t → Walking table notes₀ new d next t
+      unfolding kind rest
+      turn t s =
+          let told : laterRule (w .k) (tally .frames) kind ops ≡ pass = sym (a .judgement (w .k) kind placed) ∙ ap (judgementIn (tally .frames)) s in
+          let passed = frame-pass (w .k) (tally .frames) (nth table (walk .at)) rest (w .least) (judged-is ∙ told) in
+          let n = words (w .k .d) kind in
+          let more : Circuit = extend (w .k) ops kind in
+          let t-is : t ≡ tallyOf (tally .frames + 1) more = a .next (w .k) kind placed t s in
+          let f-is : t .frames ≡ tally .frames + 1 = ap (λ x. x .frames) t-is in
+          let at-is : next .at ≡ walk .at + 1 + n = ap (λ x. x .at) (frame-at .walk-is) ∙ ap (λ q. walk .at + 1 + words q kind) shares in
+          record {
+            k = more;
+            least = w .least;
+            most = w .most;
+            shares = w .shares;
+            walk-shares = ap (λ x. x .d) (frame-at .walk-is) ∙ w .walk-shares;
+            tally-is = t-is ∙ ap (λ f. tallyOf f more) (sym f-is);
+            few = omega (arith, size-extend (w .k) ops kind, passed .few);
+            used = omega (arith, size-extend (w .k) ops kind, uses-few (w .k .d) kind, w .used);
+            counted = omega (arith, w .counted);
+            inside = omega (arith, length-drop (walk .at + 1) table, frame-at .inside, whole);
+            short = w .short;
+            roomy = w .roomy;
+            law = label-step (w .k) ops kind (w .least) (subst (Fits (w .k) kind) (sym ops-is) (passed .fits)) (w .law);
+            notes-is = a .notes (w .k) kind placed ∙ ap (λ j. notesAdded j notes (size (w .k)) (made (w .k) ops kind)) told
+                ∙ ap (λ l. sets l (2 * size (w .k)) (each (made (w .k) ops kind) (λ x. note (x .place)))) (w .notes-is)
+                ∙ notes-more (w .k) ops kind notes₀ (omega (arith, size-extend (w .k) ops kind, passed .few, w .roomy));
+            rest = w .rest ∙ ap (frames (w .k) (tally .frames) 0) (here table d (walk .at) (frame-at .inside))
+                ∙ frames-pass (w .k) (tally .frames) (nth table (walk .at)) rest (judged-is ∙ told)
+                ∙ ap₂ (λ o f. frames (extend (w .k) o kind) f 0 (drop n rest)) (sym ops-is) (one ∙ sym f-is)
+                ∙ ap (frames more (t .frames) 0) (drop-drop n (walk .at + 1) table ∙ ap (λ q. drop q table) (sym at-is));
+          }
+        where
+          one : suc (tally .frames) ≡ tally .frames + 1
+          one = omega arith
+
+    -- and less of the table is left
+    pub less-left : length table - next .at < length table - walk .at
+    unfolding kind rest
+    less-left = omega (arith, ap (λ x. x .at) (frame-at .walk-is), frame-at .inside)
+
+-- the notes are as long as they were
+pub same-length : {table notes₀ notes : List ℕ} {d : ℕ} {walk : Walk} {tally : Tally} → Walking table notes₀ notes d walk tally → length notes ≡ length notes₀
+same-length {notes₀ = notes₀} w = ap length (w .notes-is) ∙ notes-same (w .k) notes₀ (omega (arith, w .few, w .roomy))
+
+-- the numbers that a frame is added to
+pub record Bounded (notes : List ℕ) (tally : Tally) : Type 0 where
+  pub room : 16384 ≤ length notes
+  pub wires : tally .wires ≤ 8192
+  pub used : tally .randoms ≤ tally .wires
+  pub frames : tally .frames ≤ 8192
+
+pub bounded : {table notes₀ notes : List ℕ} {d : ℕ} {walk : Walk} {tally : Tally} → Walking table notes₀ notes d walk tally → Bounded notes tally
+bounded w =
+    let wires-is = ap (λ t. t .wires) (w .tally-is) in
+    record {
+      room = omega (arith, same-length w, w .roomy);
+      wires = omega (arith, w .few);
+      used = omega (arith, ap (λ t. t .randoms) (w .tally-is), w .used);
+      frames = omega (arith, w .counted, w .inside, w .short);
+    }
+
+pub shares-few : {table notes₀ notes : List ℕ} {d : ℕ} {walk : Walk} {tally : Tally} → Walking table notes₀ notes d walk tally → d ≤ 8
+shares-few w = omega (arith, w .shares, w .most)

@@ -1,0 +1,120 @@
+-- Judgements that pass: what each word's rule asks, as a statement.
+use mathlib.Core.Path.{_≡_, refl, ap, _∙_}
+use mathlib.Core.Bool.{Bool, true, false, _&&_}
+use mathlib.Core.List.{List, [], _∷_}
+use Prim.Native.Nat.{ℕ, suc, _+_, _≤_, _<_}
+use native.Mathlib.Omega.{arith}
+use lib.Dec.{leb, ltb, eqb}
+use lib.ListN.{length, drop, List·getD-eq-default}
+use lib.Seq.{drop-cons}
+use borrow.Author.Tests.{ltb-true, ltb-false, leb-true, eqb-true, lt-ltb, le-leb, eq-eqb}
+use Rattle.circuit.specs.Limits.{stageLimit, fewestShares, mostShares}
+use Rattle.circuit.specs.Lists.{nth}
+use Rattle.circuit.specs.Wires.{Place, named, inner, constant, _placed_}
+use Rattle.circuit.specs.Kinds.{WordRule, order, label, value, stage, random, like, share, before}
+use Rattle.circuit.specs.Circuit.{Circuit, size, place, labelOf, stageShown}
+use Rattle.circuit.specs.Rules.{Judgement, pass, refuse, need, _then_, isNamed, wireRule, wordRule, wordsRule}
+use Rattle.circuit.proofs.Base.{cases, and-left, and-right, and-both, AllFrom}
+
+pub never : {A : Type 0} (rule frame word : ℕ) → refuse rule frame word ≡ pass → A
+never rule frame word h = absurd (let z : _≡_ {A = ℕ} 0 1 = cc in omega arith)
+
+-- a chain of judgements passes where each part passes
+pub then-pass : (i j : Judgement) → (i then j) ≡ pass → (i ≡ pass) × (j ≡ pass)
+then-pass pass j h = (refl, h)
+then-pass (refuse rule frame word) j h = never rule frame word h
+
+pub pass-then : (i j : Judgement) → i ≡ pass → j ≡ pass → (i then j) ≡ pass
+pass-then i j p q = rw p q
+
+pub need-pass : (b : Bool) (rule frame word : ℕ) → need b rule frame word ≡ pass → b ≡ true
+need-pass true rule frame word h = refl
+need-pass false rule frame word h = never rule frame word h
+
+pub pass-need : (b : Bool) (rule frame word : ℕ) → b ≡ true → need b rule frame word ≡ pass
+pass-need b rule frame word h = rw h
+
+-- a test, then the rest
+pub need-then : (b : Bool) (rule frame word : ℕ) (j : Judgement) → (need b rule frame word then j) ≡ pass → (b ≡ true) × (j ≡ pass)
+need-then b rule frame word j h = let (p, q) = then-pass (need b rule frame word) j h in (need-pass b rule frame word p, q)
+
+pub then-need : (b : Bool) (rule frame word : ℕ) (j : Judgement) → b ≡ true → j ≡ pass → (need b rule frame word then j) ≡ pass
+then-need b rule frame word j p q = rw (p, q)
+
+-- a wire that is named has been made
+pub named-made : (k : Circuit) (x l t : ℕ) → place k x ≡ named l t → x < size k
+named-made k x l t h = cases (ltb x (size k)) (ltb-true x (size k))
+    (λ e. let z : place k x ≡ inner 0 = ap (λ wire. wire .place) (List·getD-eq-default (k .wires) (constant false placed inner 0) (ltb-false x (size k) e)) in
+    absurd (let y : _≡_ {A = ℕ} 0 1 = cc in omega arith))
+
+named-place : (p : Place) → isNamed p ≡ true → p ≡ named (labelOf p) (stageShown p)
+named-place (named l t) h = refl
+named-place (inner t) h = absurd (let z : _≡_ {A = ℕ} 0 1 = cc in omega arith)
+
+-- what the word x has to be, by its rule
+module _ (k : Circuit) (ops : List ℕ) where
+  abbrev pub Meets : WordRule → ℕ → Type 0
+  Meets order x = (fewestShares ≤ x) × (x ≤ mostShares)
+  Meets label x = x < k .d
+  Meets value x = x ≤ 1
+  Meets stage x = x ≤ stageLimit
+  Meets random x = x ≡ k .randoms
+  Meets (like p) x = place k x ≡ named (labelOf (place k (nth ops p))) (stageShown (place k (nth ops p)))
+  Meets (share i p) x = place k x ≡ named i (stageShown (place k (nth ops p)))
+  Meets (before i p) x = (t : ℕ) × (place k x ≡ named i t) × (suc t ≡ stageShown (place k (nth ops p)))
+
+  -- the rules of the words from place n on
+  abbrev pub AllMeet : ℕ → List WordRule → Type 0
+  AllMeet n rs = AllFrom (λ m r. Meets r (nth ops m)) n rs
+
+module _ (k : Circuit) (f : ℕ) (ops : List ℕ) where
+  wire-pass : (l w x : ℕ) (stageRight : Bool) → wireRule k f ops (eqb (labelOf (place k x)) l) stageRight w x ≡ pass
+      → (place k x ≡ named l (stageShown (place k x))) × (stageRight ≡ true)
+  wire-pass l w x stageRight h =
+      let (a, h1) = need-then (ltb x (size k)) 8 f w _ h in
+      let (b, h2) = need-then (isNamed (place k x)) 9 f w _ h1 in
+      let (e, h3) = need-then (eqb (labelOf (place k x)) l) 10 f w _ h2 in
+      (named-place (place k x) b ∙ ap (λ l. named l (stageShown (place k x))) (eqb-true (labelOf (place k x)) l e), need-pass stageRight 11 f w h3)
+
+  alike : (l t w x : ℕ) → wireRule k f ops (eqb (labelOf (place k x)) l) (eqb (stageShown (place k x)) t) w x ≡ pass → place k x ≡ named l t
+  alike l t w x h = let (e, s) = wire-pass l w x (eqb (stageShown (place k x)) t) h in e ∙ ap (named l) (eqb-true (stageShown (place k x)) t s)
+
+  pass-wire : (l t w x : ℕ) (stageRight : Bool) → place k x ≡ named l t → stageRight ≡ true
+      → wireRule k f ops (eqb (labelOf (place k x)) l) stageRight w x ≡ pass
+  pass-wire l t w x stageRight h s = rw (lt-ltb x (size k) (named-made k x l t h), h, eq-eqb l l refl, s)
+
+  pub word-pass : (r : WordRule) (w x : ℕ) → wordRule k f ops r w x ≡ pass → Meets k ops r x
+  word-pass order w x h = let e = need-pass (leb fewestShares x && leb x mostShares) 4 f w h in
+      (leb-true fewestShares x (and-left (leb fewestShares x) (leb x mostShares) e), leb-true x mostShares (and-right (leb fewestShares x) (leb x mostShares) e))
+  word-pass label w x h = ltb-true x (k .d) (need-pass (ltb x (k .d)) 7 f w h)
+  word-pass value w x h = leb-true x 1 (need-pass (leb x 1) 7 f w h)
+  word-pass stage w x h = leb-true x stageLimit (need-pass (leb x stageLimit) 7 f w h)
+  word-pass random w x h = eqb-true x (k .randoms) (need-pass (eqb x (k .randoms)) 12 f w h)
+  word-pass (like p) w x h = alike (labelOf (place k (nth ops p))) (stageShown (place k (nth ops p))) w x h
+  word-pass (share i p) w x h = alike i (stageShown (place k (nth ops p))) w x h
+  word-pass (before i p) w x h =
+      let (e, s) = wire-pass i w x (eqb (suc (stageShown (place k x))) (stageShown (place k (nth ops p)))) h in
+      (stageShown (place k x), e, eqb-true (suc (stageShown (place k x))) (stageShown (place k (nth ops p))) s)
+
+  pub pass-word : (r : WordRule) (w x : ℕ) → Meets k ops r x → wordRule k f ops r w x ≡ pass
+  pass-word order w x h = pass-need _ 4 f w (and-both _ _ (le-leb fewestShares x (h .0)) (le-leb x mostShares (h .1)))
+  pass-word label w x h = pass-need _ 7 f w (lt-ltb x (k .d) h)
+  pass-word value w x h = pass-need _ 7 f w (le-leb x 1 h)
+  pass-word stage w x h = pass-need _ 7 f w (le-leb x stageLimit h)
+  pass-word random w x h = pass-need _ 12 f w (eq-eqb x (k .randoms) h)
+  pass-word (like p) w x h = pass-wire (labelOf (place k (nth ops p))) (stageShown (place k (nth ops p))) w x _ h (eq-eqb _ _ (ap stageShown h))
+  pass-word (share i p) w x h = pass-wire i (stageShown (place k (nth ops p))) w x _ h (eq-eqb _ _ (ap stageShown h))
+  pass-word (before i p) w x h = pass-wire i (h .0) w x _ (h .1) (eq-eqb _ _ (ap (λ q. suc (stageShown q)) (h .1) ∙ h .2))
+
+  -- the words of a frame from place n on pass where each meets its rule
+  pub words-pass : (w n : ℕ) (rs : List WordRule) → n + length rs ≤ length ops → wordsRule k f ops w rs (drop n ops) ≡ pass → AllMeet k ops n rs
+  unfolding wordsRule
+  words-pass w n [] l h = tt
+  words-pass w n (r ∷ rs) l h =
+      let (p, q) = then-pass _ _ (rw (drop-cons ops n 0 (omega arith)) at h) in
+      (word-pass r w (nth ops n) p, words-pass (suc w) (suc n) rs (omega arith) q)
+
+  pub pass-words : (w n : ℕ) (rs : List WordRule) → n + length rs ≤ length ops → AllMeet k ops n rs → wordsRule k f ops w rs (drop n ops) ≡ pass
+  unfolding wordsRule
+  pass-words w n [] l h = refl
+  pass-words w n (r ∷ rs) l h = rw (drop-cons ops n 0 (omega arith)) (pass-then _ _ (pass-word r w (nth ops n) (h .0)) (pass-words (suc w) (suc n) rs (omega arith) (h .1)))

@@ -1,0 +1,14 @@
+-- Lists, and the parts of the gadgets
+pub mod Base
+pub mod Numbered
+pub mod Parts
+-- How many wires each kind makes
+pub mod Sizes
+-- The walk over the words of a table goes from frame to frame
+pub mod Steps
+-- Laws of wires along frames that fit
+pub mod Building
+-- The checker accepts exactly the tables whose frames fit
+pub mod Judging
+pub mod Fitting
+pub mod Exact

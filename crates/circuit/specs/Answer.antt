@@ -1,0 +1,31 @@
+-- Document 01, "Calls and their sheets": the answers' numbers, and the notes after a call.
+use mathlib.Core.List.{List, [], _∷_}
+use Prim.Native.Nat.{ℕ}
+use Rattle.circuit.specs.Limits.{innerNote}
+use Rattle.circuit.specs.Lists.{each, over}
+use Rattle.circuit.specs.Wires.{Place, named, inner, Wire}
+use Rattle.circuit.specs.Circuit.{Circuit, size}
+use Rattle.circuit.specs.Rules.{Judgement, pass, refuse, Checked, checked}
+
+-- accepted: the numbers of wires and random bits, and the latency; refused: the rule's number, the frame and the word
+pub data Answer : Type 0 where
+  accepted : (wires randoms latency : ℕ) → Answer
+  refused : (rule frame word : ℕ) → Answer
+
+-- the answer to a judgement on a circuit
+abbrev pub answer : Circuit → Judgement → Answer
+answer k pass = accepted (size k) (k .randoms) (k .latency)
+answer k (refuse rule frame word) = refused rule frame word
+
+-- the answer to a table, with notes of so many words
+abbrev pub verdictOf : (table : List ℕ) (room : ℕ) → Answer
+verdictOf table room = answer (checked table room .circuit) (checked table room .judgement)
+
+-- the two words of a wire in the notes
+abbrev pub note : Place → List ℕ
+note (named label stage) = label ∷ stage ∷ []
+note (inner stage) = innerNote ∷ innerNote ∷ []
+
+-- the notes after a check: the words of the wires made, the rest untouched
+unfoldable pub notesAfter : Circuit → List ℕ → List ℕ
+notesAfter k notes = over (each (k .wires) (λ wire. note (wire .place))) notes

@@ -1,0 +1,102 @@
+-- Document 01, "Frames": the circuit that frames make, frame by frame.
+use mathlib.Core.Bool.{Bool, true, false}
+use mathlib.Core.List.{List, [], _∷_, _++_, map}
+use Prim.Native.Nat.{ℕ, zero, suc, _+_, _*_, max}
+use lib.ListN.{length, getD}
+use Rattle.circuit.specs.Lists.{nth}
+use Rattle.circuit.specs.Wires.{Place, named, inner, Wire, input, constant, reg, inverse, sum, _placed_}
+use Rattle.circuit.specs.Gadgets.{labels, Part, inAND, inREF, gadget}
+use Rattle.circuit.specs.Kinds.{Kind, HEAD, IN, CON, XOR, NOT, REG, AND, REF, OUT, shape}
+
+-- the number of shares; the wires in the order made; how many INs and random bits there are; the highest stage of an OUT
+pub record Circuit : Type 0 where
+  pub d : ℕ
+  pub wires : List Wire
+  pub inputs : ℕ
+  pub randoms : ℕ
+  pub latency : ℕ
+
+abbrev pub size : Circuit → ℕ
+size k = length (k .wires)
+
+-- a HEAD alone
+abbrev pub empty : ℕ → Circuit
+empty d = record { d = d; wires = []; inputs = 0; randoms = 0; latency = 0 }
+
+-- the place of a wire; inner, where there is no such wire
+abbrev pub place : Circuit → ℕ → Place
+place k x = getD (k .wires) x (constant false placed inner 0) .place
+
+-- the label and the stage that a wire shows to other frames; an inner one shows none, and rule 9 is tested before this counts
+abbrev pub labelOf : Place → ℕ
+labelOf (named l t) = l
+labelOf (inner t) = 0
+
+abbrev pub stageShown : Place → ℕ
+stageShown (named l t) = t
+stageShown (inner t) = 0
+
+-- the stage at which a wire stands
+abbrev pub stageOf : Place → ℕ
+stageOf (named l t) = t
+stageOf (inner t) = t
+
+-- a byte or word as a bit
+abbrev pub isSet : ℕ → Bool
+isSet zero = false
+isSet (suc n) = true
+
+-- what a frame with these words after its kind adds to a circuit
+module _ (k : Circuit) (ops : List ℕ) where
+  abbrev label : ℕ → ℕ
+  label i = labelOf (place k (nth ops i))
+
+  abbrev stage : ℕ → ℕ
+  stage i = stageShown (place k (nth ops i))
+
+  -- the stage of the wires that a frame makes for others to name; of OUT, that of its wires
+  unfoldable pub newStage : Kind → ℕ
+  newStage HEAD = 0
+  newStage IN = nth ops 0
+  newStage CON = nth ops 2
+  newStage XOR = stage 0
+  newStage NOT = stage 0
+  newStage REG = suc (stage 0)
+  newStage AND = suc (stage 1)
+  newStage REF = suc (stage 1)
+  newStage OUT = stage 0
+
+  -- the wires that a frame makes. AND's words: the first random, d wires a, d wires b; REF's: the first random, d wires
+  unfoldable pub made : Kind → List Wire
+  unfolding newStage
+  made HEAD = []
+  made IN = map (λ i. input (k .inputs * k .d + i) placed named i (newStage IN)) (labels (k .d))
+  made CON = (constant (isSet (nth ops 1)) placed named (nth ops 0) (newStage CON)) ∷ []
+  made XOR = (sum (nth ops 0 ∷ nth ops 1 ∷ []) placed named (label 0) (newStage XOR)) ∷ []
+  made NOT = (inverse (nth ops 0) placed named (label 0) (newStage NOT)) ∷ []
+  made REG = (reg (nth ops 0) placed named (label 0) (newStage REG)) ∷ []
+  made AND = gadget (k .d) (size k) (λ i. nth ops (1 + i)) (λ i. nth ops (1 + k .d + i)) (inAND (k .d)) Part.c (stage (1 + k .d)) (newStage AND)
+  made REF = gadget (k .d) (size k) (λ i. nth ops (1 + i)) (λ i. nth ops (1 + i)) (inREF (k .d)) Part.S (stage 1) (newStage REF)
+  made OUT = []
+
+  -- the latency after a frame: the highest stage of any OUT so far
+  abbrev pub latencyAfter : Kind → ℕ
+  latencyAfter HEAD = k .latency
+  latencyAfter IN = k .latency
+  latencyAfter CON = k .latency
+  latencyAfter XOR = k .latency
+  latencyAfter NOT = k .latency
+  latencyAfter REG = k .latency
+  latencyAfter AND = k .latency
+  latencyAfter REF = k .latency
+  latencyAfter OUT = max (k .latency) (newStage OUT)
+
+  -- the circuit with the frame
+  abbrev pub extend : Kind → Circuit
+  extend kind = record {
+    d = k .d;
+    wires = k .wires ++ made kind;
+    inputs = k .inputs + shape (k .d) kind .brings;
+    randoms = k .randoms + shape (k .d) kind .uses;
+    latency = latencyAfter kind;
+  }

@@ -1,0 +1,216 @@
+//! Random cases through the reference and the proved code: answers and every byte of every buffer.
+use masked_tests::calls::{Answer, Calls};
+use masked_tests::generate::case::{case, Case};
+use masked_tests::generate::random::Random;
+use masked_tests::options;
+use masked_tests::reference::check::frame_length;
+use masked_tests::reference::Reference;
+use std::process::exit;
+
+const NAMES: [&str; 4] = ["check", "evaluate", "read_probes", "read_text"];
+/// Bytes or words of junk before and after each lent buffer.
+const GUARD: usize = 16;
+
+/// The buffers of one side, with guards around what is lent.
+#[derive(Clone, PartialEq)]
+struct Buffers {
+    notes: Vec<u16>,
+    values: Vec<u8>,
+    reading: Vec<u8>,
+    table: Vec<u16>,
+}
+
+impl Buffers {
+    fn junk(random: &mut Random, case: &Case) -> Buffers {
+        Buffers {
+            notes: random.words(case.notes + 2 * GUARD),
+            values: random.bytes(case.values + 2 * GUARD),
+            reading: random.bytes(case.reading + 2 * GUARD),
+            table: random.words(case.text_table + 2 * GUARD),
+        }
+    }
+
+    /// Makes the call with this number in NAMES.
+    fn call(&mut self, call: usize, calls: &dyn Calls, case: &Case) -> Answer {
+        let notes = &mut self.notes[GUARD..GUARD + case.notes];
+        let values = &mut self.values[GUARD..GUARD + case.values];
+        let reading = &mut self.reading[GUARD..GUARD + case.reading];
+        let table = &mut self.table[GUARD..GUARD + case.text_table];
+        let Case { shares, tape, probes, .. } = case;
+        match call {
+            0 => calls.check(&case.table, notes),
+            1 => calls.evaluate(&case.table, notes, shares, tape, values),
+            2 => calls.read_probes(&case.table, notes, shares, tape, values, probes, reading),
+            _ => calls.read_text(&case.text, table),
+        }
+    }
+
+    /// Names the first place where two sides differ.
+    fn difference(&self, other: &Buffers) -> String {
+        fn at<T: PartialEq + std::fmt::Debug>(name: &str, x: &[T], y: &[T]) -> Option<String> {
+            let at = (0..x.len()).find(|&at| x[at] != y[at])?;
+            let (place, x, y) = (at as i64 - GUARD as i64, &x[at], &y[at]);
+            Some(format!("{name}[{place}]: reference {x:?}, other {y:?}"))
+        }
+        at("notes", &self.notes, &other.notes)
+            .or_else(|| at("values", &self.values, &other.values))
+            .or_else(|| at("reading", &self.reading, &other.reading))
+            .or_else(|| at("table", &self.table, &other.table))
+            .unwrap_or_default()
+    }
+}
+
+/// Runs one call on both sides; gives the answer where they agree.
+fn agree(call: usize, other: &dyn Calls, case: &Case, junk: &Buffers) -> Result<Answer, String> {
+    let (mut ours, mut theirs) = (junk.clone(), junk.clone());
+    let wanted = ours.call(call, &Reference, case);
+    let got = theirs.call(call, other, case);
+    if wanted != got {
+        return Err(format!("{}: reference {wanted:?}, other {got:?}", NAMES[call]));
+    }
+    if ours != theirs {
+        return Err(format!("{}: {}", NAMES[call], ours.difference(&theirs)));
+    }
+    Ok(wanted)
+}
+
+fn hex(words: &[u16]) -> String {
+    words.iter().map(|word| format!("{word:04X} ")).collect()
+}
+
+fn bytes_hex(bytes: &[u8]) -> String {
+    bytes.iter().map(|byte| format!("{byte:02X}")).collect()
+}
+
+fn print_failure(seed: u64, number: u64, case: &Case, what: &str) {
+    println!("compare: seed {seed} case {number} failed: {what}");
+    println!("  again: compare --seed {seed} --first {number} --count 1");
+    println!("  table ({} words): {}", case.table.len(), hex(&case.table));
+    println!("  shares: {}  tape: {}", bytes_hex(&case.shares), bytes_hex(&case.tape));
+    println!("  probes: {}", hex(&case.probes));
+    println!(
+        "  lengths: notes {} values {} reading {} text table {}",
+        case.notes, case.values, case.reading, case.text_table
+    );
+    println!("  text bytes: {}", bytes_hex(&case.text));
+}
+
+/// The rules that each call must have met.
+fn wanted_rules(call: usize) -> Vec<usize> {
+    match call {
+        0 => (0..=14).collect(),
+        1 => (0..=18).collect(),
+        2 => (0..=19).collect(),
+        _ => vec![0, 3, 4, 5, 6, 20, 21],
+    }
+}
+
+/// Prints how often each rule was met; gives how many were never met.
+fn print_rules(met: &[[u64; 22]; 4]) -> usize {
+    println!("rule       {}", NAMES.map(|name| format!("{name:>12}")).concat());
+    let mut missing = 0;
+    for rule in 0..22 {
+        let name = if rule == 0 { "accepted".to_string() } else { format!("rule {rule}") };
+        let cell = |call: usize| match met[call][rule] {
+            0 if wanted_rules(call).contains(&rule) => "NEVER".to_string(),
+            0 => "-".to_string(),
+            times => times.to_string(),
+        };
+        let cells: Vec<String> = (0..4).map(cell).collect();
+        missing += cells.iter().filter(|cell| *cell == "NEVER").count();
+        println!(
+            "{name:<11}{}",
+            cells.iter().map(|cell| format!("{cell:>12}")).collect::<String>()
+        );
+    }
+    missing
+}
+
+/// What the accepted circuits were made of.
+#[derive(Default)]
+struct Shapes {
+    by_shares: [u64; 9],
+    frames: [u64; 9],
+    most_words: usize,
+    most_wires: u64,
+}
+
+impl Shapes {
+    fn note(&mut self, table: &[u16], answer: Answer) {
+        if answer.result != 0 {
+            return;
+        }
+        let d = usize::from(table[1]);
+        self.by_shares[d] += 1;
+        self.most_words = self.most_words.max(table.len());
+        self.most_wires = self.most_wires.max(answer.numbers[0]);
+        let mut at = 2;
+        while at < table.len() {
+            self.frames[usize::from(table[at])] += 1;
+            at += frame_length(table[at], d).expect("an accepted table has no other kind");
+        }
+    }
+
+    fn print(&self) {
+        let shares: Vec<String> = (2..9).map(|d| format!("d {d}: {}", self.by_shares[d])).collect();
+        println!("accepted circuits: {}", shares.join(", "));
+        let names = ["IN", "CON", "XOR", "NOT", "REG", "AND", "REF", "OUT"];
+        let frames =
+            names.iter().zip(&self.frames[1..]).map(|(name, count)| format!("{name} {count}"));
+        println!("their frames: {}", frames.collect::<Vec<_>>().join(", "));
+        println!("the largest: {} words, {} wires", self.most_words, self.most_wires);
+    }
+}
+
+#[cfg(feature = "proved")]
+fn other(name: Option<String>) -> (Box<dyn Calls>, &'static str) {
+    match name.as_deref() {
+        Some("tuned") => (Box::new(masked_tests::tuned::Tuned), "the tuned opponent"),
+        _ => (Box::new(masked_tests::calls::Proved), "the proved code"),
+    }
+}
+
+#[cfg(not(feature = "proved"))]
+fn other(_: Option<String>) -> (Box<dyn Calls>, &'static str) {
+    (Box::new(masked_tests::tuned::Tuned), "the tuned opponent, NOT the proved code")
+}
+
+fn main() {
+    options::only(&["seed", "count", "first", "against"]);
+    let seed = options::number("seed", 1);
+    let count = options::number("count", 20_000);
+    let first = options::number("first", 0);
+    let (other, name) = other(options::text("against"));
+    println!("compare: the reference with {name}, {count} circuits, seed {seed}");
+    let mut met = [[0; 22]; 4];
+    let mut shapes = Shapes::default();
+    let mut failed = 0;
+    for number in first..first + count {
+        let mut random = Random::of_case(seed, number);
+        let case = case(&mut random);
+        let junk = Buffers::junk(&mut random, &case);
+        let answers: Result<Vec<Answer>, String> =
+            (0..4).map(|call| agree(call, other.as_ref(), &case, &junk)).collect();
+        match answers {
+            Ok(answers) => {
+                (0..4).for_each(|call| met[call][answers[call].result as usize] += 1);
+                shapes.note(&case.table, answers[0]);
+            }
+            Err(what) => {
+                failed += 1;
+                if failed <= 3 {
+                    print_failure(seed, number, &case, &what);
+                }
+            }
+        }
+    }
+    shapes.print();
+    let missing = print_rules(&met);
+    if missing > 0 && count > 1000 {
+        println!("compare: {missing} rules were never met by a call that has them");
+    }
+    println!("compare: {} passed, {failed} failed", count - failed);
+    if failed > 0 || (missing > 0 && count > 1000) {
+        exit(1);
+    }
+}

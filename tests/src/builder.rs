@@ -1,0 +1,140 @@
+//! Writes frames into a table and keeps the numbers of the wires they make.
+
+/// A wire's label and stage.
+pub type Place = (usize, usize);
+
+#[derive(Clone)]
+pub struct Builder {
+    pub d: usize,
+    pub table: Vec<u16>,
+    /// Where in the table each frame begins; HEAD is the first.
+    pub frames: Vec<usize>,
+    /// The place of each wire made so far; None for an inner one.
+    pub places: Vec<Option<Place>>,
+    pub inputs: usize,
+    pub randoms: usize,
+}
+
+impl Builder {
+    pub fn new(d: usize) -> Builder {
+        Builder {
+            d,
+            table: vec![0, d as u16],
+            frames: vec![0],
+            places: Vec::new(),
+            inputs: 0,
+            randoms: 0,
+        }
+    }
+
+    pub fn wires(&self) -> usize {
+        self.places.len()
+    }
+
+    /// The place of a wire that frames may name.
+    pub fn place(&self, wire: u16) -> Place {
+        self.places[usize::from(wire)].expect("frames name no inner wire")
+    }
+
+    fn frame(&mut self, words: &[u16]) {
+        self.frames.push(self.table.len());
+        self.table.extend(words);
+    }
+
+    fn open(&mut self, label: usize, stage: usize) -> u16 {
+        self.places.push(Some((label, stage)));
+        (self.places.len() - 1) as u16
+    }
+
+    fn open_row(&mut self, stage: usize) -> Vec<u16> {
+        (0..self.d).map(|label| self.open(label, stage)).collect()
+    }
+
+    fn inner(&mut self, count: usize) {
+        self.places.extend(vec![None; count]);
+    }
+
+    pub fn input(&mut self, stage: usize) -> Vec<u16> {
+        self.frame(&[1, stage as u16]);
+        self.inputs += 1;
+        self.open_row(stage)
+    }
+
+    pub fn constant(&mut self, label: usize, value: u16, stage: usize) -> u16 {
+        self.frame(&[2, label as u16, value, stage as u16]);
+        self.open(label, stage)
+    }
+
+    /// The result has the first wire's label, also where the second has another.
+    pub fn xor(&mut self, x: u16, y: u16) -> u16 {
+        self.frame(&[3, x, y]);
+        let (label, stage) = self.place(x);
+        self.open(label, stage)
+    }
+
+    pub fn not(&mut self, x: u16) -> u16 {
+        self.frame(&[4, x]);
+        let (label, stage) = self.place(x);
+        self.open(label, stage)
+    }
+
+    pub fn register(&mut self, x: u16) -> u16 {
+        self.frame(&[5, x]);
+        let (label, stage) = self.place(x);
+        self.open(label, stage + 1)
+    }
+
+    /// Random bits of one gadget.
+    pub fn pairs(&self) -> usize {
+        self.d * (self.d - 1) / 2
+    }
+
+    /// Wires that one AND makes.
+    pub fn and_wires(&self) -> usize {
+        7 * self.d * (self.d - 1) + 4 * self.d
+    }
+
+    /// Wires that one REF makes.
+    pub fn refresh_wires(&self) -> usize {
+        self.pairs() + 2 * self.d
+    }
+
+    pub fn and(&mut self, a: &[u16], b: &[u16]) -> Vec<u16> {
+        let stage = self.place(a[0]).1;
+        self.frame(&[&[6, self.randoms as u16], a, b].concat());
+        self.randoms += self.pairs();
+        self.inner(self.and_wires() - self.d);
+        self.open_row(stage + 1)
+    }
+
+    pub fn refresh(&mut self, row: &[u16]) -> Vec<u16> {
+        let stage = self.place(row[0]).1;
+        self.frame(&[&[7, self.randoms as u16], row].concat());
+        self.randoms += self.pairs();
+        self.inner(self.refresh_wires() - self.d);
+        self.open_row(stage + 1)
+    }
+
+    pub fn output(&mut self, row: &[u16]) {
+        self.frame(&[&[8], row].concat());
+    }
+
+    /// The words of each frame.
+    pub fn lines(&self) -> Vec<Vec<u16>> {
+        let ends = self.frames[1..].iter().copied().chain([self.table.len()]);
+        self.frames.iter().zip(ends).map(|(&from, to)| self.table[from..to].to_vec()).collect()
+    }
+
+    pub fn text(&self) -> String {
+        text(&self.lines())
+    }
+}
+
+/// Lines of words as the text reader takes them.
+pub fn text(lines: &[Vec<u16>]) -> String {
+    let line = |words: &Vec<u16>| {
+        let words: Vec<String> = words.iter().map(|word| format!("{word:04X}")).collect();
+        words.join(" ") + "\n"
+    };
+    lines.iter().map(line).collect()
+}

@@ -1,0 +1,162 @@
+//! Valid random circuits, built frame by frame from a pool of wires by label and stage.
+use super::random::Random;
+use crate::builder::Builder;
+use std::collections::BTreeMap;
+
+const MOST: usize = 8192;
+const LAST_STAGE: usize = 255;
+
+/// The wires that frames may name, by stage, then label.
+pub struct Pool {
+    wires: BTreeMap<usize, Vec<Vec<u16>>>,
+    d: usize,
+}
+
+impl Pool {
+    fn new(d: usize) -> Pool {
+        Pool { wires: BTreeMap::new(), d }
+    }
+
+    /// All that a circuit has made.
+    pub fn of(builder: &Builder) -> Pool {
+        let mut pool = Pool::new(builder.d);
+        for wire in (0..builder.wires()).filter(|&wire| builder.places[wire].is_some()) {
+            pool.add(builder, wire as u16);
+        }
+        pool
+    }
+
+    fn add(&mut self, builder: &Builder, wire: u16) {
+        let (label, stage) = builder.place(wire);
+        self.wires.entry(stage).or_insert_with(|| vec![Vec::new(); self.d])[label].push(wire);
+    }
+
+    /// Stages where each label has a wire.
+    pub fn full_stages(&self) -> Vec<usize> {
+        let full = |labels: &Vec<Vec<u16>>| labels.iter().all(|wires| !wires.is_empty());
+        self.wires.iter().filter(|(_, labels)| full(labels)).map(|(&stage, _)| stage).collect()
+    }
+
+    /// A wire of a label and stage, more often one of the last made.
+    fn wire(&self, random: &mut Random, label: usize, stage: usize) -> u16 {
+        let wires = &self.wires[&stage][label];
+        let from = if random.once_in(2) { wires.len().saturating_sub(2) } else { 0 };
+        random.pick(&wires[from..])
+    }
+
+    pub fn row(&self, random: &mut Random, stage: usize) -> Vec<u16> {
+        (0..self.d).map(|label| self.wire(random, label, stage)).collect()
+    }
+}
+
+/// What shapes a random circuit.
+#[derive(Clone, Copy)]
+pub struct Shape {
+    pub d: usize,
+    pub frames: usize,
+    /// INs and CONs stand at this stage or up to two later.
+    pub first_stage: usize,
+    /// Most of shares and random bits together.
+    pub most_free_bits: usize,
+}
+
+impl Shape {
+    pub fn random(random: &mut Random, most_frames: usize) -> Shape {
+        let first_stage =
+            if random.once_in(6) { random.within(248, LAST_STAGE) } else { random.below(4) };
+        Shape {
+            d: random.within(2, 8),
+            frames: random.below(most_frames + 1),
+            first_stage,
+            most_free_bits: usize::MAX,
+        }
+    }
+}
+
+/// A circuit that the checker accepts.
+pub fn circuit(random: &mut Random, shape: Shape) -> Builder {
+    let mut builder = Builder::new(shape.d);
+    let mut pool = Pool::new(shape.d);
+    for _ in 0..shape.frames {
+        for wire in step(random, shape, &mut builder, &pool) {
+            pool.add(&builder, wire);
+        }
+    }
+    builder
+}
+
+/// Adds one frame, or none where the one drawn has no wires to name or no room.
+fn step(random: &mut Random, shape: Shape, builder: &mut Builder, pool: &Pool) -> Vec<u16> {
+    let room = MOST - builder.wires().max(builder.table.len());
+    if room < builder.and_wires().max(20) {
+        return Vec::new();
+    }
+    let kind = random.pick(&[1, 1, 2, 3, 3, 3, 3, 4, 4, 5, 5, 5, 6, 6, 6, 7, 7, 8]);
+    let free_bits = builder.inputs * shape.d + builder.randoms;
+    let needs = [0, shape.d, 0, 0, 0, 0, builder.pairs(), builder.pairs(), 0][kind];
+    if free_bits + needs > shape.most_free_bits {
+        return Vec::new();
+    }
+    let stage = (shape.first_stage + random.below(3)).min(LAST_STAGE);
+    match kind {
+        1 => builder.input(stage),
+        2 => {
+            let (label, value) = (random.below(shape.d), random.below(2) as u16);
+            vec![builder.constant(label, value, stage)]
+        }
+        3..=5 => gate(random, kind, builder, pool),
+        _ => gadget(random, kind, builder, pool),
+    }
+}
+
+/// XOR, NOT or REG; now and then NOT or REG on a whole row.
+fn gate(random: &mut Random, kind: usize, builder: &mut Builder, pool: &Pool) -> Vec<u16> {
+    let stages: Vec<usize> = pool.wires.keys().copied().collect();
+    if stages.is_empty() {
+        return Vec::new();
+    }
+    let stage = random.pick(&stages);
+    let labels: Vec<usize> =
+        (0..pool.d).filter(|&label| !pool.wires[&stage][label].is_empty()).collect();
+    if kind == 5 && stage == LAST_STAGE {
+        return Vec::new();
+    }
+    let chosen = if random.once_in(3) { labels } else { vec![random.pick(&labels)] };
+    let mut made = Vec::new();
+    for label in chosen {
+        let x = pool.wire(random, label, stage);
+        made.push(match kind {
+            3 => builder.xor(x, pool.wire(random, label, stage)),
+            4 => builder.not(x),
+            _ => builder.register(x),
+        });
+    }
+    made
+}
+
+/// AND, REF or OUT, where the pool has the rows for it.
+fn gadget(random: &mut Random, kind: usize, builder: &mut Builder, pool: &Pool) -> Vec<u16> {
+    let full = pool.full_stages();
+    let fits = |stage: &usize| match kind {
+        6 => *stage < LAST_STAGE && *stage > 0 && full.contains(&(stage - 1)),
+        7 => *stage < LAST_STAGE,
+        _ => true,
+    };
+    let stages: Vec<usize> = full.iter().copied().filter(fits).collect();
+    if stages.is_empty() {
+        return Vec::new();
+    }
+    let stage = random.pick(&stages);
+    let row = pool.row(random, stage);
+    match kind {
+        6 => {
+            let b = pool.row(random, stage - 1);
+            builder.and(&row, &b)
+        }
+        7 => builder.refresh(&row),
+        _ => {
+            builder.output(&row);
+            Vec::new()
+        }
+    }
+}

@@ -1,0 +1,9 @@
+//! Random cases: circuits, damage to them, texts, and buffers right and wrong.
+pub mod case;
+pub mod circuit;
+pub mod damage;
+pub mod limits;
+pub mod near;
+pub mod probes;
+pub mod random;
+pub mod text;

@@ -1,0 +1,75 @@
+//! Frames that are nearly right: whole rows at wrong stages, single words off, several faults at once.
+use super::circuit::Pool;
+use super::random::Random;
+use crate::builder::Builder;
+
+const STAGES: [u16; 10] = [0, 1, 2, 3, 253, 254, 255, 256, 257, 0xFFFF];
+
+/// One frame to follow the circuit's own.
+pub fn near_frame(random: &mut Random, builder: &Builder) -> Vec<u16> {
+    let pool = Pool::of(builder);
+    let d = builder.d;
+    match random.pick(&[1, 2, 3, 3, 4, 5, 6, 6, 6, 6, 7, 7, 8, 8]) {
+        1 => vec![1, random.pick(&STAGES)],
+        2 => {
+            let (label, value) = (random.within(0, d + 1) as u16, random.below(4) as u16);
+            vec![2, label, value, random.pick(&STAGES)]
+        }
+        3 => vec![3, wire(random, builder), wire(random, builder)],
+        kind @ (4 | 5) => vec![kind, wire(random, builder)],
+        kind @ (6 | 7) => {
+            let rows = if kind == 6 { 2 } else { 1 };
+            let mut words = vec![kind, first_random(random, builder)];
+            (0..rows).for_each(|_| words.extend(row(random, builder, &pool)));
+            words
+        }
+        kind => [vec![kind], row(random, builder, &pool)].concat(),
+    }
+}
+
+/// Mostly a wire that frames may name; else an inner one, or none at all.
+fn wire(random: &mut Random, builder: &Builder) -> u16 {
+    let wires = builder.wires();
+    if wires == 0 || random.once_in(16) {
+        return random.pick(&[wires as u16, wires as u16 + 1, 8191, 8192, 0xFFFF]);
+    }
+    let mut wire = random.below(wires);
+    for _ in 0..8 {
+        if builder.places[wire].is_some() {
+            break;
+        }
+        wire = random.below(wires);
+    }
+    wire as u16
+}
+
+/// The number of random bits used so far, or one near it.
+fn first_random(random: &mut Random, builder: &Builder) -> u16 {
+    let used = builder.randoms as u16;
+    match random.below(12) {
+        0 => used.wrapping_add(1),
+        1 => used.saturating_sub(builder.pairs() as u16),
+        2 => builder.wires() as u16,
+        _ => used,
+    }
+}
+
+/// A row of one stage, any one, with words replaced or swapped now and then.
+fn row(random: &mut Random, builder: &Builder, pool: &Pool) -> Vec<u16> {
+    let d = builder.d;
+    let stages = pool.full_stages();
+    let mut row = match stages.is_empty() {
+        true => (0..d).map(|_| wire(random, builder)).collect(),
+        false => {
+            let stage = random.pick(&stages);
+            pool.row(random, stage)
+        }
+    };
+    if random.once_in(4) {
+        row[random.below(d)] = wire(random, builder);
+    }
+    if random.once_in(12) {
+        row.swap(random.below(d), random.below(d));
+    }
+    row
+}

@@ -1,0 +1,81 @@
+//! The masking itself: a row of d wires for each net, at each stage where it is needed.
+use super::netlist::{Gate, Netlist};
+use crate::builder::Builder;
+use std::collections::BTreeMap;
+
+pub struct Masked {
+    pub builder: Builder,
+    /// The wires of each output.
+    pub outputs: Vec<Vec<u16>>,
+}
+
+/// A net's rows by stage: the first is the one made, the others are registers.
+type Rows = BTreeMap<usize, Vec<u16>>;
+
+struct Masking {
+    builder: Builder,
+    nets: Vec<Rows>,
+}
+
+/// Masks with d shares; all inputs stand at stage 0, all outputs at one stage.
+pub fn mask(netlist: &Netlist, d: usize) -> Masked {
+    let mut masking = Masking { builder: Builder::new(d), nets: Vec::new() };
+    for gate in &netlist.gates {
+        let (stage, row) = masking.gate(*gate);
+        masking.nets.push(BTreeMap::from([(stage, row)]));
+    }
+    let last = netlist.outputs.iter().map(|&net| masking.first_stage(net)).max().unwrap_or(0);
+    let outputs: Vec<Vec<u16>> =
+        netlist.outputs.iter().map(|&net| masking.row_at(net, last)).collect();
+    for row in &outputs {
+        masking.builder.output(row);
+    }
+    Masked { builder: masking.builder, outputs }
+}
+
+impl Masking {
+    fn first_stage(&self, net: usize) -> usize {
+        *self.nets[net].keys().next().expect("a net has its own row")
+    }
+
+    /// The net's row at a stage, through registers where it is made earlier.
+    fn row_at(&mut self, net: usize, stage: usize) -> Vec<u16> {
+        let (&from, row) = self.nets[net].range(..=stage).next_back().expect("made by that stage");
+        let mut row = row.clone();
+        for next in from + 1..=stage {
+            row = row.iter().map(|&wire| self.builder.register(wire)).collect();
+            self.nets[net].insert(next, row.clone());
+        }
+        row
+    }
+
+    /// Adds a gate's frames; gives its stage and row.
+    fn gate(&mut self, gate: Gate) -> (usize, Vec<u16>) {
+        match gate {
+            Gate::Input => (0, self.builder.input(0)),
+            Gate::Not(x) => {
+                let stage = self.first_stage(x);
+                let mut row = self.row_at(x, stage);
+                row[0] = self.builder.not(row[0]);
+                (stage, row)
+            }
+            Gate::Xor(x, y) => {
+                let stage = self.first_stage(x).max(self.first_stage(y));
+                let (x, y) = (self.row_at(x, stage), self.row_at(y, stage));
+                (stage, x.iter().zip(&y).map(|(&x, &y)| self.builder.xor(x, y)).collect())
+            }
+            Gate::And(x, y) => self.and(x, y),
+        }
+    }
+
+    /// AND: b stands one stage before a, so the later net is a.
+    fn and(&mut self, x: usize, y: usize) -> (usize, Vec<u16>) {
+        let (x_stage, y_stage) = (self.first_stage(x), self.first_stage(y));
+        let both = x_stage == y_stage;
+        let x_first = both && self.nets[y].contains_key(&(y_stage + 1)) || x_stage < y_stage;
+        let (a, b) = if x_first { (y, x) } else { (x, y) };
+        let stage = x_stage.max(y_stage) + usize::from(both);
+        let (a, b) = (self.row_at(a, stage), self.row_at(b, stage - 1));
+        (stage + 1, self.builder.and(&a, &b))
+    }
+}

@@ -1,0 +1,82 @@
+//! A circuit as a list of wires, each with its place and where its value comes from.
+use super::Counts;
+
+/// A wire's label (its share, 0 to d-1) and stage (its clock).
+#[derive(Clone, Copy, Debug, PartialEq, Eq)]
+pub struct Place {
+    pub label: usize,
+    pub stage: usize,
+}
+
+/// Where a wire's value comes from. The numbers are wires, except in the first three.
+#[derive(Clone, Debug, PartialEq, Eq)]
+pub enum Source {
+    /// A byte of the list of shares.
+    Share(usize),
+    Constant(u8),
+    /// A byte of the tape.
+    Random(usize),
+    Register(usize),
+    Not(usize),
+    /// All of them added modulo 2.
+    Sum(Vec<usize>),
+    Product(usize, usize),
+    /// (not the first) times the second.
+    NotProduct(usize, usize),
+}
+
+/// `place` is None for an inner wire, which no frame may name.
+#[derive(Clone, Debug)]
+pub struct Wire {
+    pub place: Option<Place>,
+    pub source: Source,
+}
+
+/// What the frames walked so far have made.
+#[derive(Clone, Debug)]
+pub struct Circuit {
+    /// Number of shares of each secret.
+    pub d: usize,
+    /// Number of IN frames.
+    pub inputs: usize,
+    pub randoms: usize,
+    pub latency: usize,
+    pub wires: Vec<Wire>,
+}
+
+impl Circuit {
+    pub fn new(d: usize) -> Circuit {
+        Circuit { d, inputs: 0, randoms: 0, latency: 0, wires: Vec::new() }
+    }
+
+    pub fn counts(&self) -> Counts {
+        Counts { wires: self.wires.len(), randoms: self.randoms, latency: self.latency }
+    }
+}
+
+/// New wires of one frame, numbered on from the circuit's.
+pub struct NewWires {
+    first: usize,
+    pub wires: Vec<Wire>,
+}
+
+impl NewWires {
+    pub fn after(circuit: &Circuit) -> NewWires {
+        NewWires { first: circuit.wires.len(), wires: Vec::new() }
+    }
+
+    fn push(&mut self, place: Option<Place>, source: Source) -> usize {
+        self.wires.push(Wire { place, source });
+        self.first + self.wires.len() - 1
+    }
+
+    /// Makes an inner wire and gives its number.
+    pub fn inner(&mut self, source: Source) -> usize {
+        self.push(None, source)
+    }
+
+    /// Makes a wire that later frames may name.
+    pub fn open(&mut self, label: usize, stage: usize, source: Source) -> usize {
+        self.push(Some(Place { label, stage }), source)
+    }
+}

@@ -1,0 +1,101 @@
+//! Document 01 in the plainest Rust. It shares no code with the proved checker.
+pub mod check;
+pub mod circuit;
+pub mod count;
+pub mod evaluate;
+mod gadgets;
+pub mod reach;
+pub mod text;
+
+#[cfg(test)]
+mod cases;
+#[cfg(test)]
+mod slips;
+
+use crate::calls::{Answer, Calls};
+
+/// Most words of a table.
+pub const MOST_WORDS: usize = 8192;
+/// Most wires of a circuit.
+pub const MOST_WIRES: usize = 8192;
+/// Fewest words of a notes buffer: two for each possible wire.
+pub const NOTES_WORDS: usize = 2 * MOST_WIRES;
+/// Highest stage.
+pub const LAST_STAGE: usize = 255;
+
+/// What an accepted circuit is told of.
+#[derive(Clone, Copy, Debug, PartialEq, Eq)]
+pub struct Counts {
+    pub wires: usize,
+    pub randoms: usize,
+    pub latency: usize,
+}
+
+/// A refusal: the rule's number in 01's table, and where it was met.
+#[derive(Clone, Copy, Debug, PartialEq, Eq)]
+pub struct Refusal {
+    pub rule: u64,
+    pub frame: usize,
+    pub word: usize,
+}
+
+impl Refusal {
+    pub fn new(rule: u64, frame: usize, word: usize) -> Refusal {
+        Refusal { rule, frame, word }
+    }
+
+    /// A refusal that belongs to no frame.
+    pub fn nowhere(rule: u64) -> Refusal {
+        Refusal::new(rule, 0, 0)
+    }
+}
+
+pub type Verdict = Result<Counts, Refusal>;
+
+/// The numbers the C names give for a verdict.
+pub fn answer(verdict: Verdict) -> Answer {
+    match verdict {
+        Ok(c) => Answer::new(0, [c.wires, c.randoms, c.latency]),
+        Err(r) => Answer::new(r.rule, [r.frame, r.word, 0]),
+    }
+}
+
+/// This program behind the same four calls as the proved code.
+pub struct Reference;
+
+impl Calls for Reference {
+    fn check(&self, table: &[u16], notes: &mut [u16]) -> Answer {
+        answer(check::check(table, notes).map(|circuit| circuit.counts()))
+    }
+
+    fn evaluate(
+        &self,
+        table: &[u16],
+        notes: &mut [u16],
+        shares: &[u8],
+        tape: &[u8],
+        values: &mut [u8],
+    ) -> Answer {
+        answer(evaluate::evaluate(table, notes, shares, tape, values))
+    }
+
+    fn read_probes(
+        &self,
+        table: &[u16],
+        notes: &mut [u16],
+        shares: &[u8],
+        tape: &[u8],
+        values: &mut [u8],
+        probes: &[u16],
+        reading: &mut [u8],
+    ) -> Answer {
+        answer(reach::read_probes(table, notes, shares, tape, values, probes, reading))
+    }
+
+    fn read_text(&self, text: &[u8], table: &mut [u16]) -> Answer {
+        match text::read(text, table) {
+            Ok(words) => Answer::new(0, [words, 0, 0]),
+            Err(r) => Answer::new(r.rule, [r.frame, r.word, 0]),
+        }
+    }
+}

@@ -1,0 +1,196 @@
+//! The checker in one pass; the notes themselves hold the labels and stages it looks up.
+use super::{Found, Refused, Sizes};
+
+const INNER: u16 = 0xFFFF;
+
+struct Pass<'a> {
+    notes: &'a mut [u16; 16384],
+    d: usize,
+    pairs: usize,
+    wires: usize,
+    randoms: usize,
+}
+
+/// Rule and word inside a frame.
+type Fault = (u64, usize);
+
+pub fn check(table: &[u16], notes: &mut [u16]) -> Result<Found, Refused> {
+    if table.len() > 8192 {
+        return Err((1, 0, 0));
+    }
+    let Some(notes) = notes.first_chunk_mut::<16384>() else {
+        return Err((2, 0, 0));
+    };
+    let [0, d, ..] = *table else {
+        return Err((3, 0, 0));
+    };
+    let d = usize::from(d);
+    if d.wrapping_sub(2) > 6 {
+        return Err((4, 0, 1));
+    }
+    let mut pass = Pass { notes, d, pairs: d * (d - 1) / 2, wires: 0, randoms: 0 };
+    let sizes = Sizes::new(d);
+    let (mut inputs, mut latency, mut frame) = (0, 0, 1);
+    let mut rest = &table[2..];
+    while let [kind, ..] = *rest {
+        let length = match sizes.words.get(usize::from(kind)) {
+            None | Some(0) => return Err((5, frame, 0)),
+            Some(&length) => usize::from(length),
+        };
+        let Some((words, after)) = rest.split_at_checked(length) else {
+            return Err((6, frame, 0));
+        };
+        let made = usize::from(sizes.wires[usize::from(kind)]);
+        match pass.frame(kind, words, made) {
+            Ok(stage) if kind == 8 => latency = stage.max(latency),
+            Ok(_) => inputs += usize::from(kind == 1),
+            Err((rule, word)) => return Err((rule, frame, word)),
+        }
+        rest = after;
+        frame += 1;
+    }
+    let Pass { wires, randoms, .. } = pass;
+    Ok(Found { d, inputs, randoms, wires, latency: usize::from(latency) })
+}
+
+impl Pass<'_> {
+    /// One frame; gives the row's stage for OUT.
+    #[inline(always)]
+    fn frame(&mut self, kind: u16, words: &[u16], made: usize) -> Result<u16, Fault> {
+        match kind {
+            1 => self.input(words[1]),
+            2 => self.constant(words[1], words[2], words[3]),
+            3 => self.xor(words[1], words[2]),
+            4 | 5 => {
+                let (label, stage) = self.named(words[1], 1)?;
+                self.one(label, stage + (kind & 1))
+            }
+            6 => self.gadget(words[1], &words[2..], made, true),
+            7 => self.gadget(words[1], &words[2..], made, false),
+            _ => self.row(&words[1..], 1),
+        }
+    }
+
+    #[inline(always)]
+    fn named(&self, wire: u16, word: usize) -> Result<(u16, u16), Fault> {
+        let wire = usize::from(wire);
+        if wire >= self.wires {
+            return Err((8, word));
+        }
+        let label = self.notes[2 * wire];
+        if label == INNER {
+            return Err((9, word));
+        }
+        Ok((label, self.notes[2 * wire + 1]))
+    }
+
+    #[inline(always)]
+    fn row(&self, words: &[u16], first_word: usize) -> Result<u16, Fault> {
+        let stage = match words {
+            [] => 0,
+            [first, ..] => self.named(*first, first_word)?.1,
+        };
+        self.row_at(words, first_word, stage)?;
+        Ok(stage)
+    }
+
+    #[inline(always)]
+    fn row_at(&self, words: &[u16], first_word: usize, stage: u16) -> Result<(), Fault> {
+        for (i, &wire) in words.iter().enumerate() {
+            let (label, own_stage) = self.named(wire, first_word + i)?;
+            if usize::from(label) != i {
+                return Err((10, first_word + i));
+            }
+            if own_stage != stage {
+                return Err((11, first_word + i));
+            }
+        }
+        Ok(())
+    }
+
+    #[inline(always)]
+    fn room(&self, stage: u16, made: usize) -> Result<(), Fault> {
+        if stage > 255 {
+            return Err((13, 0));
+        }
+        if self.wires + made > 8192 {
+            return Err((14, 0));
+        }
+        Ok(())
+    }
+
+    #[inline(always)]
+    fn one(&mut self, label: u16, stage: u16) -> Result<u16, Fault> {
+        self.room(stage, 1)?;
+        self.notes[2 * self.wires] = label;
+        self.notes[2 * self.wires + 1] = stage;
+        self.wires += 1;
+        Ok(0)
+    }
+
+    #[inline(always)]
+    fn open_row(&mut self, stage: u16) {
+        let row = &mut self.notes[2 * self.wires..2 * (self.wires + self.d)];
+        for (label, note) in row.chunks_exact_mut(2).enumerate() {
+            note[0] = label as u16;
+            note[1] = stage;
+        }
+        self.wires += self.d;
+    }
+
+    #[inline(always)]
+    fn input(&mut self, stage: u16) -> Result<u16, Fault> {
+        if stage > 255 {
+            return Err((7, 1));
+        }
+        self.room(stage, self.d)?;
+        self.open_row(stage);
+        Ok(0)
+    }
+
+    #[inline(always)]
+    fn constant(&mut self, label: u16, value: u16, stage: u16) -> Result<u16, Fault> {
+        if usize::from(label) >= self.d {
+            return Err((7, 1));
+        }
+        if value > 1 {
+            return Err((7, 2));
+        }
+        if stage > 255 {
+            return Err((7, 3));
+        }
+        self.one(label, stage)
+    }
+
+    #[inline(always)]
+    fn xor(&mut self, x: u16, y: u16) -> Result<u16, Fault> {
+        let (label, stage) = self.named(x, 1)?;
+        let (other_label, other_stage) = self.named(y, 2)?;
+        if other_label != label {
+            return Err((10, 2));
+        }
+        if other_stage != stage {
+            return Err((11, 2));
+        }
+        self.one(label, stage)
+    }
+
+    #[inline(always)]
+    fn gadget(&mut self, first: u16, wires: &[u16], made: usize, and: bool) -> Result<u16, Fault> {
+        if usize::from(first) != self.randoms {
+            return Err((12, 1));
+        }
+        let (a, b) = wires.split_at(self.d);
+        let stage = self.row(a, 2)?;
+        if and {
+            self.row_at(b, 2 + self.d, stage.wrapping_sub(1))?;
+        }
+        self.room(stage + 1, made)?;
+        let outputs = self.wires + made - self.d;
+        self.notes[2 * self.wires..2 * outputs].fill(INNER);
+        self.wires = outputs;
+        self.open_row(stage + 1);
+        self.randoms += self.pairs;
+        Ok(0)
+    }
+}

@@ -1,0 +1,93 @@
+//! A tuned program for the same calls: single passes, no allocation. The benchmark's opponent.
+mod check;
+mod evaluate;
+mod reach;
+mod text;
+
+use crate::calls::{Answer, Calls};
+
+/// Rule, frame, word.
+type Refused = (u64, usize, usize);
+
+/// What a check found, and what the later passes need of it.
+#[derive(Clone, Copy)]
+struct Found {
+    d: usize,
+    inputs: usize,
+    randoms: usize,
+    wires: usize,
+    latency: usize,
+}
+
+fn answer(verdict: Result<Found, Refused>) -> Answer {
+    match verdict {
+        Ok(found) => Answer::new(0, [found.wires, found.randoms, found.latency]),
+        Err((rule, frame, word)) => Answer::new(rule, [frame, word, 0]),
+    }
+}
+
+pub struct Tuned;
+
+impl Calls for Tuned {
+    fn check(&self, table: &[u16], notes: &mut [u16]) -> Answer {
+        answer(check::check(table, notes))
+    }
+
+    fn evaluate(
+        &self,
+        table: &[u16],
+        notes: &mut [u16],
+        shares: &[u8],
+        tape: &[u8],
+        values: &mut [u8],
+    ) -> Answer {
+        answer(evaluate::evaluate(table, notes, shares, tape, values))
+    }
+
+    fn read_probes(
+        &self,
+        table: &[u16],
+        notes: &mut [u16],
+        shares: &[u8],
+        tape: &[u8],
+        values: &mut [u8],
+        probes: &[u16],
+        reading: &mut [u8],
+    ) -> Answer {
+        answer(reach::read_probes(table, notes, shares, tape, values, probes, reading))
+    }
+
+    fn read_text(&self, text: &[u8], table: &mut [u16]) -> Answer {
+        match text::read(text, table) {
+            Ok(words) => Answer::new(0, [words, 0, 0]),
+            Err((rule, line, word)) => Answer::new(rule, [line, word, 0]),
+        }
+    }
+}
+
+/// Words and wires of each kind of frame with d shares: 0 words where there is no such kind.
+#[derive(Clone, Copy)]
+struct Sizes {
+    words: [u8; 9],
+    wires: [u16; 9],
+}
+
+impl Sizes {
+    fn new(d: usize) -> Sizes {
+        let (words, wires) = (d as u8, d as u16);
+        Sizes {
+            words: [0, 2, 4, 3, 2, 2, 2 + 2 * words, 2 + words, 1 + words],
+            wires: [
+                0,
+                wires,
+                1,
+                1,
+                1,
+                1,
+                7 * wires * (wires - 1) + 4 * wires,
+                wires * (wires - 1) / 2 + 2 * wires,
+                0,
+            ],
+        }
+    }
+}
