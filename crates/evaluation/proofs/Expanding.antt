@@ -6,7 +6,7 @@ use Prim.Native.Nat.{ℕ, zero, suc, _+_, _*_, _-_, _≤_, _<_}
 use native.Mathlib.Omega.{arith}
 use lib.Dec.{leb, ltb}
 use lib.ListN.{length, take, drop, length-append, length-map, length-drop, drop-of-length-le}
-use lib.Seq.{sets, drop-drop}
+use lib.Seq.{drop-drop}
 use borrow.Author.Tests.{lt-ltb, le-ltb, le-leb, ltb-true, ltb-false}
 use Rattle.circuit.specs.Limits.{wireLimit, fewestShares, mostShares}
 use Rattle.circuit.specs.Lists.{nth}
@@ -27,10 +27,10 @@ use Rattle.checker.specs.declared.walk.Step.the-variants.{Next, Refused, End}
 use Rattle.checker.specs.declared.kinds.Shape.{Shape as ShapeCode}
 use Rattle.checker.specs.Walk.{kindCode, shapeCode, frameCode, operandsAt, behind, stepAt}
 use Rattle.evaluation.specs.Laying.{Laid}
-use Rattle.evaluation.specs.Gates.{headOf, headsOf, wordsOf}
+use Rattle.evaluation.specs.Gates.{headOf, headsOf, wordsOf, Holds}
 use Rattle.evaluation.specs.Frames.{frameHeads, frameWords, Sized, framed, Expandable, Expands}
 use Rattle.evaluation.proofs.Ranges.{map-append}
-use Rattle.evaluation.proofs.Lays.{drop-turn, laid-append, laid-same, laid-none}
+use Rattle.evaluation.proofs.Lays.{drop-turn, laid-append, laid-same, laid-none, laid-front}
 use Rattle.evaluation.proofs.Placing.{words-append}
 use Rattle.evaluation.proofs.Making.{made-heads, made-words, words-most, heads-count, brings-most}
 
@@ -230,16 +230,21 @@ module _ (table oldHeads oldFlat heads flat : List ℕ) (at wires used shares : 
       end-not : End ≡ Refused rule → ⊥
       end-not h = let z : _≡_ {A = ℕ} 0 1 = cc in omega arith
 
-  pub all-expanded : stepAt table (nth table 1) at ≡ End → Expands table oldHeads oldFlat heads flat shares
+  pub all-expanded : stepAt table (nth table 1) at ≡ End → wireLimit ≤ length oldHeads → 2 * wireLimit ≤ length oldFlat → Expands table heads flat shares
   unfolding frames
-  all-expanded h =
+  all-expanded h roomHeads roomFlat =
       let l : length table ≤ at = subst (λ (n : ℕ). stepAt table n at ≡ End → length table ≤ at) (x .order) (λ e. cases (ltb at (length table))
       (λ l. absurd (no-next _ _ _ (sym (found (ltb-true at (length table) l) .step-is) ∙ e))) (ltb-false at (length table))) h in
       let e : k ≡ framed table .circuit = ap (λ r. r .circuit) (sym (ap (frames k (x .frame) 0) (drop-of-length-le table l)) ∙ x .whole) in
       record {
-        heads-are = x .headsLaid .stored ∙ ap (λ c. sets oldHeads 0 (headsOf (c .wires))) e;
-        words-are = x .wordsLaid .stored ∙ ap (λ c. sets oldFlat 0 (wordsOf (c .wires))) e;
-        shares-are = x .brought ∙ ap (λ c. c .inputs * c .d) e;
+        holds = subst (λ (c : Circuit). Holds (c .wires) heads flat) e (record {
+          headsMore = drop (length (headsOf (k .wires))) oldHeads;
+          wordsMore = drop (length (wordsOf (k .wires))) oldFlat;
+          headsAre = laid-front (x .headsLaid) (omega (arith, x .headsLaid .behind, x .few));
+          wordsAre = laid-front (x .wordsLaid) (omega (arith, x .wordsLaid .behind, x .few, x .short));
+        });
+        sharesAre = x .brought ∙ ap (λ c. c .inputs * c .d) e;
+        few = omega (arith, x .few, x .fewer);
       }
     where
       no-next : (a : FrameCode) (b : ShapeCode) (e : Walk) → Next a b e ≡ End → ⊥

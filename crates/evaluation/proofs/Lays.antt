@@ -6,9 +6,9 @@ use Prim.Native.Nat.{ℕ, zero, suc, _+_, _-_, _*_, _≤_, _<_}
 use native.Mathlib.Omega.{arith}
 use lib.Dec.{eqb}
 use lib.ListN.{length, set, take, drop, length-set, length-append, length-take, length-drop, drop-of-length-le}
-use lib.Seq.{sets, length-sets, drop-cons}
+use lib.Seq.{sets, length-sets, sets-eq, drop-cons}
 use borrow.Author.Tests.{eq-eqb, ne-eqb}
-use Rattle.circuit.specs.Lists.{nth, range, keep, each}
+use Rattle.circuit.specs.Lists.{nth, range, keep, each, over}
 use Rattle.circuit.proofs.Base.{eqb-sym}
 use Rattle.evaluation.specs.Laying.{Laid, steps, repeated}
 
@@ -30,6 +30,15 @@ laid-length {f} {g} {at} {next} {xs} one = ap length (one .stored) ∙ length-se
 
 pub laid-same : {f g : List ℕ} {at next : ℕ} {xs ys : List ℕ} → xs ≡ ys → Laid f at xs g next → Laid f at ys g next
 laid-same {f} {g} {at} {next} e one = subst (λ (l : List ℕ). Laid f at l g next) e one
+
+-- words laid from the start of a sheet, with the rest of the sheet behind them
+pub sets-front : (f xs : List ℕ) → length xs ≤ length f → sets f 0 xs ≡ over xs f
+sets-front f xs h =
+    let e : 0 + length xs ≡ length xs = omega arith in
+    sets-eq xs f 0 (omega arith) ∙ ap (λ n. xs ++ drop n f) e
+
+pub laid-front : {f g : List ℕ} {next : ℕ} {xs : List ℕ} → Laid f 0 xs g next → length xs ≤ length f → g ≡ over xs f
+laid-front {f} {g} {next} {xs} one h = one .stored ∙ sets-front f xs h
 
 pub laid-none : (f : List ℕ) (at : ℕ) → Laid f at [] f at
 laid-none f at = record { stored = refl; behind = omega arith }

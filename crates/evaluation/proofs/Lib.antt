@@ -22,3 +22,6 @@ pub mod Placing
 pub mod Expanding
 -- Refusals
 pub mod Refusals
+-- The calls
+pub mod Answering
+pub mod Showing

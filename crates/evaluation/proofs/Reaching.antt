@@ -131,10 +131,14 @@ module _ (ws : List Wire) (early : Ordered ws) (probes marks : List ℕ) (w : �
       (λ k. rw (z, k, words-are g e) (moved e (set-high (nth marks w) (ltb-false (nth marks w) 1 k)))))
 
 -- at the end the marked wires are the stops read
-pub moving-end : (ws : List Wire) → Ordered ws → (probes marks : List ℕ) → Moving ws probes marks 0 → (x : ℕ) → isSet (nth marks x) ≡ mem x (stops ws probes)
-moving-end ws early probes marks h x = same-test (isSet (nth marks x)) (mem x (stops ws probes))
-    (λ m. h .into x x m (rw (alone x m) (in-head x [])))
-    (λ i. let s = h .from x i in subst (Marked marks) (sym (in-one x (s .wire) (subst (In x) (alone (s .wire) (s .marked)) (s .reads)))) (s .marked))
+pub moving-end : (ws : List Wire) → Ordered ws → (probes marks : List ℕ) → Moving ws probes marks 0 → (x : ℕ)
+    → (isSet (nth marks x) ≡ mem x (stops ws probes)) × (Marked marks x → x < length ws)
+moving-end ws early probes marks h x = (
+  same-test (isSet (nth marks x)) (mem x (stops ws probes))
+      (λ m. h .into x x m (rw (alone x m) (in-head x [])))
+      (λ i. let s = h .from x i in subst (Marked marks) (sym (in-one x (s .wire) (subst (In x) (alone (s .wire) (s .marked)) (s .reads)))) (s .marked)),
+  h .made x,
+)
   where
     alone : (y : ℕ) → Marked marks y → probe ws y ≡ y ∷ []
     alone y m = stop-reads ws early nothing y (h .made y m) (h .settled y (omega arith) m)

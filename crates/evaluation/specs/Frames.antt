@@ -5,19 +5,18 @@ use mathlib.Core.List.{List, [], _∷_, _++_}
 use Prim.Native.Nat.{ℕ, _+_, _*_, _-_, _≤_}
 use lib.Dec.{ltb}
 use lib.ListN.{length, drop}
-use lib.Seq.{sets}
 use Rattle.checker.specs.declared.walk.Gate.{Gate as GateCode}
 use Rattle.checker.specs.declared.walk.Gate.the-variants as gate
 use Rattle.checker.specs.declared.walk.Frame.{Frame as FrameCode}
 use Rattle.checker.specs.declared.walk.Frame.the-variants as frame
-use Rattle.circuit.specs.Limits.{fewestShares, mostShares}
+use Rattle.circuit.specs.Limits.{wireLimit, fewestShares, mostShares}
 use Rattle.circuit.specs.Lists.{nth}
 use Rattle.circuit.specs.Kinds.{pairs}
 use Rattle.circuit.specs.Circuit.{Circuit, empty}
 use Rattle.circuit.specs.Rules.{pass, Checked, frames}
 use Rattle.evaluation.specs.Laying.{steps, repeated}
 use Rattle.evaluation.specs.Layout.{wordA, wordB, andWords, refWords}
-use Rattle.evaluation.specs.Gates.{headsOf, wordsOf}
+use Rattle.evaluation.specs.Gates.{Holds}
 
 -- the head of a gate's wires, and how many there are
 abbrev pub headCode : GateCode → ℕ
@@ -78,8 +77,8 @@ pub record Expandable (table : List ℕ) : Type 0 where
   pub most : nth table 1 ≤ mostShares
   pub passes : framed table .judgement ≡ pass
 
--- the heads and words of all its wires, and how many shares it asks
-pub record Expands (table oldHeads oldWords heads words : List ℕ) (r : ℕ) : Type 0 where
-  pub heads-are : heads ≡ sets oldHeads 0 (headsOf (framed table .circuit .wires))
-  pub words-are : words ≡ sets oldWords 0 (wordsOf (framed table .circuit .wires))
-  pub shares-are : r ≡ framed table .circuit .inputs * framed table .circuit .d
+-- the gates of all its wires on two sheets, and how many shares it asks
+pub record Expands (table heads words : List ℕ) (r : ℕ) : Type 0 where
+  pub holds : Holds (framed table .circuit .wires) heads words
+  pub sharesAre : r ≡ framed table .circuit .inputs * framed table .circuit .d
+  pub few : r ≤ wireLimit

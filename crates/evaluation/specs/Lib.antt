@@ -5,3 +5,4 @@ pub mod Gates
 pub mod Frames
 pub mod Marks
 pub mod Refusing
+pub mod Calling

@@ -31,4 +31,4 @@ shownFrom marks values x count = map (λ y. shownAt (nth marks y) (nth values y)
 pub record Settles (heads words : List ℕ) (wires end : ℕ) (old new : List ℕ) : Type 0 where
   pub is : (ws : List Wire) → Holds ws heads words → length ws ≡ wires → Ordered ws → end ≡ length (wordsOf ws)
       → (probes : List ℕ) → ((x : ℕ) → isSet (nth old x) ≡ mem x probes) → ((x : ℕ) → mem x probes ≡ true → x < length ws)
-      → (x : ℕ) → isSet (nth new x) ≡ mem x (stops ws probes)
+      → (x : ℕ) → (isSet (nth new x) ≡ mem x (stops ws probes)) × (isSet (nth new x) ≡ true → x < length ws)

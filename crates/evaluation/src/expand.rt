@@ -148,7 +148,7 @@ fn frame_words(sheet: &mut [u16], frame: Frame, d: usize, ends: Ends, ops: &[u16
 // The gates of an accepted table, and how many shares its INs bring.
 pub(crate) fn expand(table: &[u16], heads: &mut [u16], words: &mut [u16]) -> usize
     requires { ⌜ Expandable (now table) × (8192 ≤ length (now heads)) × (16384 ≤ length (now words)) ⌝ }
-    ensures { λ r. ⌜ Expands (now (table .entry)) (now (heads .entry)) (now (words .entry)) (now (heads .exit)) (now (words .exit)) r ⌝ }
+    ensures { λ r. ⌜ Expands (now (table .entry)) (now (heads .exit)) (now (words .exit)) r ⌝ }
 {
     let d = table[1];
     let n = d as usize;

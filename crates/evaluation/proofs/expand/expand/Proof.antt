@@ -65,7 +65,7 @@ returns c =
     let l = c .before .before .before .loop in
     let table = a .table .now in
     let x = l .inv .2 in
-    all-expanded table (a .heads .now) (a .words .now) (l .heads) (l .words) (l .walk .at) (l .ends .wires) (l .ends .words) (l .ends .shares) (pre .0) x (subst (λ n. stepAt table n (l .walk .at) ≡ End) (l .inv .0) (sym (c .before .before .step .ensures) ∙ c .enum-told .given .1))
+    all-expanded table (a .heads .now) (a .words .now) (l .heads) (l .words) (l .walk .at) (l .ends .wires) (l .ends .words) (l .ends .shares) (pre .0) x (subst (λ n. stepAt table n (l .walk .at) ≡ End) (l .inv .0) (sym (c .before .before .step .ensures) ∙ c .enum-told .given .1)) (pre .1) (pre .2)
 
 -- src/expand.rt:168:17
 enum-told-2 : tie.Need-enum-told-2 Inv-loop μ-loop
