@@ -1,0 +1,21 @@
+-- A call of evaluation or readings judged, and its gates on two sheets.
+use mathlib.Core.Path.{_≡_}
+use mathlib.Core.List.{List}
+use Prim.Native.Nat.{ℕ}
+use lib.Dec.{leb}
+use lib.ListN.{length}
+use Rattle.circuit.specs.Limits.{wireLimit}
+use Rattle.circuit.specs.Rules.{pass, need, checked}
+use Rattle.checker.specs.declared.Verdict.{Verdict}
+use Rattle.checker.specs.Said.{said}
+use Rattle.netlist.specs.Calls.{sheetsRule, circuitOf, callAnswer, callNotes}
+use Rattle.evaluation.specs.Gates.{Holds}
+
+-- sheets of which the shortest has so many bytes
+abbrev pub Shortest : ℕ → List (List ℕ) → Type 0
+Shortest room sheets = sheetsRule sheets ≡ need (leb wireLimit room) 17 0 0
+
+pub record Judged (table notes shares tape probes : List ℕ) (room : ℕ) (newNotes heads words : List ℕ) (r : Verdict) : Type 0 where
+  pub answers : (sheets : List (List ℕ)) → Shortest room sheets → said r ≡ callAnswer table notes shares tape sheets probes
+  pub noted : newNotes ≡ callNotes table notes shares tape
+  pub holds : checked table (length notes) .judgement ≡ pass → Holds (circuitOf table notes shares tape .wires) heads words
