@@ -1,3 +1,5 @@
+use Rattle.netlist.specs.Values.{bits}
+use Rattle.secrecy.proofs.Accepted.{gadgets-compute}
 use Rattle.evaluation.proofs.Answering.{answer-pass, untouched, one-sheet, ordered, few-wires, parts, sheet-room}
 use Rattle.circuit.specs.Rules.{checked}
 use Rattle.circuit.specs.Answer.{accepted, refused, answer}
@@ -63,7 +65,7 @@ returns c =
     let answered : said (c .before .before .before .before .before .before .judge .result) ≡ answer k rule = j .answers sheets (one-sheet (a .values .now)) in
     let e = c .enum-told .given in
     let told : refused (e .0 .0) (e .0 .1 .0) (e .0 .1 .1 .0) ≡ answer k rule = sym (ap said (e .1)) ∙ answered in
-    (answered, (j .noted, untouched k rule (valueBytes (a .table .now) (a .notes .now) (a .shares .now) (a .tape .now)) (a .values .now) told))
+    (answered, (j .noted, (untouched k rule (valueBytes (a .table .now) (a .notes .now) (a .shares .now) (a .tape .now)) (a .values .now) told, λ h. gadgets-compute (a .table .now) N h (bits (a .shares .now)) (bits (a .tape .now)))))
 
 -- src/lib.rt:112:18
 slice-aggregate-fill : tie.Need-slice-aggregate-fill
@@ -114,7 +116,7 @@ returns-2 c =
     let (q, r, s) = parts (a .table .now) (a .notes .now) (a .shares .now) (a .tape .now) sheets [] p in
     let new = valueBytes (a .table .now) (a .notes .now) (a .shares .now) (a .tape .now) in (
       told,
-      (j .noted, c .before .before .fill .ensures .is (k .wires) (j .holds q) (sym wires) (ordered (a .table .now) N q) .0 ∙ ap (λ i. written i new (a .values .now)) (sym p)),
+      (j .noted, (c .before .before .fill .ensures .is (k .wires) (j .holds q) (sym wires) (ordered (a .table .now) N q) .0 ∙ ap (λ i. written i new (a .values .now)) (sym p), λ h. gadgets-compute (a .table .now) N h (bits (a .shares .now)) (bits (a .tape .now)))),
     )
 
 pub evaluate-spec : {M : Type 1} → statement M
