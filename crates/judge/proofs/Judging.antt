@@ -26,18 +26,19 @@ pub stopped : (text : List ℕ) (room notes rule line word : ℕ) → reader.ref
     → refused rule line word ≡ judgedText text room notes
 stopped text room notes rule line word e = refuses (readText text room .judgement) (readText text room .found) notes rule line word e
 
--- a text that the reader accepts, and the table before and after
-module _ (text : List ℕ) (room count : ℕ) (old new : List ℕ) (e : reader.accepted count ≡ reader.textAnswerOf text room) (t : new ≡ reader.tableAfter (readText text room) old) where
-  passed : (readText text room .judgement ≡ pass) × (count ≡ length (readText text room .found))
-  passed = passes (readText text room .judgement) (readText text room .found) count e
+-- a text that the reader accepts, with the table after it: the words counted are in the table, and the checker's verdict on
+-- them is the program's
+pub record Counted (text : List ℕ) (room count : ℕ) (table : List ℕ) : Type 0 where
+  pub inside : count ≤ length table
+  pub asked : (notes : ℕ) → verdictOf (take count table) notes ≡ judgedText text room notes
 
-  -- the words counted are in the table, and they are those found
-  pub inside : count ≤ length new
-  inside = rw t (simp length-append (omega (arith, passed .1)))
-
-  part : take count new ≡ readText text room .found
-  part = rw t (take-at (readText text room .found) (drop (length (readText text room .found)) old) count (sym (passed .1)))
-
-  -- the checker's verdict on them is the program's
-  pub asked : (notes : ℕ) → verdictOf (take count new) notes ≡ judgedText text room notes
-  asked notes = ap (λ (words : List ℕ). verdictOf words notes) part ∙ rw (passed .0)
+pub counted : (text : List ℕ) (room count : ℕ) (old new : List ℕ) → reader.accepted count ≡ reader.textAnswerOf text room
+    → new ≡ reader.tableAfter (readText text room) old → Counted text room count new
+counted text room count old new e t =
+    let found = readText text room .found in
+    let p = passes (readText text room .judgement) found count e in
+    let part : take count new ≡ found = rw t (take-at found (drop (length found) old) count (sym (p .1))) in
+    record {
+      inside = rw t (simp length-append (omega (arith, p .1)));
+      asked = λ notes. ap (λ (words : List ℕ). verdictOf words notes) part ∙ rw (p .0);
+    }

@@ -3,3 +3,4 @@ pub mod Runs
 pub mod Numbers
 pub mod Lengths
 pub mod Judging
+pub mod WorkedLines

@@ -47,6 +47,9 @@ last-digit n h = large n n h
 pub length-last : (n : ℕ) → 10 ≤ n → length (decimal n) ≡ length (decimal (n / 10)) + 1
 length-last n h = ap length (last-digit n h) ∙ length-append (decimal (n / 10)) (digit (n % 10) ∷ [])
 
+tenth-below : (k n : ℕ) → n < 10 ^ suc (suc k) → n / 10 < 10 ^ suc k
+tenth-below k n h = div-lt-iff-lt-mul {k = 10} {x = n} {y = 10 ^ suc k} (omega arith) .1 (omega (arith, pow-succ' 10 (suc k)))
+
 -- a number below a power of ten has no more digits than the power says
 pub few-digits : (k n : ℕ) → n < 10 ^ suc k → length (decimal n) ≤ suc k
 few-digits zero n h = rw (one-digit n h) (omega arith)
@@ -54,21 +57,22 @@ few-digits (suc k) n h =
     cases (ltb n 10)
     (λ e. rw (one-digit n (ltb-true n 10 e)) (omega arith))
     (λ e. let s : 10 ≤ n = ltb-false n 10 e in
-    let tenth : n / 10 < 10 ^ suc k = div-lt-iff-lt-mul (omega arith) .1 (omega (arith, pow-succ' 10 (suc k))) in
-    rw (last-digit n s) (simp length-append (omega (arith, few-digits k (n / 10) tenth))))
+    rw (last-digit n s) (simp length-append (omega (arith, few-digits k (n / 10) (tenth-below k n h)))))
 
 -- a number of 64 bits has at most twenty
 pub twenty-digits : (n : ℕ) → n < 2 ^ 64 → length (decimal n) ≤ 20
 twenty-digits n h = few-digits 19 n (omega arith)
 
--- a buffer in which the digits in front of the last stand, and the place behind them
-module _ (old : List ℕ) (at n next : ℕ) (new : List ℕ) (h : 10 ≤ n) (front : (next ≡ at + length (decimal (n / 10))) × (new ≡ sets old at (decimal (n / 10)))) where
-  pub last-place : next + 1 ≡ at + length (decimal n)
-  last-place = omega (arith, length-last n h, front .0)
+-- a buffer in which the digits in front of the last stand, and the place behind them: the last one completes the number
+pub record Front (old : List ℕ) (at n next : ℕ) (new : List ℕ) : Type 0 where
+  pub place : next + 1 ≡ at + length (decimal n)
+  pub room : length new ≡ length old
+  pub complete : set new next (digit (n % 10)) ≡ sets old at (decimal n)
 
-  pub same-room : length new ≡ length old
-  same-room = ap length (front .1) ∙ length-sets old at (decimal (n / 10))
-
-  -- the last digit completes the number
-  pub last-put : set new next (digit (n % 10)) ≡ sets old at (decimal n)
-  last-put = rw (front .1, front .0, last-digit n h) (one-run old at (decimal (n / 10)) (digit (n % 10) ∷ []))
+pub front : (old : List ℕ) (at n next : ℕ) (new : List ℕ) → 10 ≤ n
+    → (next ≡ at + length (decimal (n / 10))) × (new ≡ sets old at (decimal (n / 10))) → Front old at n next new
+front old at n next new h put = record {
+  place = omega (arith, length-last n h, put .0);
+  room = ap length (put .1) ∙ length-sets old at (decimal (n / 10));
+  complete = rw (put .1, put .0, last-digit n h) (one-run old at (decimal (n / 10)) (digit (n % 10) ∷ []));
+}

@@ -6,7 +6,7 @@ use lib.Seq.{length-sets}
 use denote.Ref.{now}
 use borrow.Author.Needs.{needs}
 use Rattle.judge.specs.Printed.{decimal}
-use Rattle.judge.proofs.Numbers.{one-digit, length-last, tenth-less, last-place, same-room, last-put}
+use Rattle.judge.proofs.Numbers.{one-digit, length-last, tenth-less, Front, front}
 use Prim.Native.Nat.{ℕ, _+_, _<_}
 use borrow.Fn.Kinds.{In}
 use borrow.Fn.PlainCycle.{Measures, is, falls, and}
@@ -73,7 +73,15 @@ put-number-put-number-requires : (t : ℕ) → put-number-lts.Need-put-number-re
   put-number-below t,
   put-number.Post,
 ) (put-number-at t) put-number.Post
-put-number-put-number-requires t c κs = let k = c .before .before .before in let h = c .before .if1 .left in (omega (arith, tenth-less (k .args .n) h, k .pre .0), omega (arith, length-last (k .args .n) h, k .pre .1))
+put-number-put-number-requires t c κs =
+    let k = c .before .before .before in
+    let h = c .before .if1 .left in
+    (omega (arith, tenth-less (k .args .n) h, k .pre .0), omega (arith, length-last (k .args .n) h, k .pre .1))
+
+-- behind the call of itself: the place of the last digit
+front-put : (t : ℕ) (c : put-number-lts.After-slice-known2 (put-number-below t, put-number.Post) (put-number-at t) put-number.Post)
+    → let k = c .before .before .before .before .before .before .args in Front (now (k .out)) (k .at) (k .n) (c .before .before .put-number .result) (c .before .before .put-number .last .1 .0)
+front-put t c = let k = c .before .before .before .before .before .before .args in front (now (k .out)) (k .at) (k .n) _ _ (c .before .before .before .before .if1 .left) (c .before .before .put-number .ensures)
 
 put-number-cast-out-2 : (t : ℕ) → put-number-lts.Need-cast-out-2 (
   put-number-below t,
@@ -91,25 +99,25 @@ put-number-slice-write-out-2 : (t : ℕ) → put-number-lts.Need-slice-write-out
   put-number-below t,
   put-number.Post,
 ) (put-number-at t) put-number.Post
-put-number-slice-write-out-2 t c = let k = c .before .before .before .before .before .before in omega (arith, last-place (now (k .args .out)) (k .args .at) (k .args .n) _ _ (c .before .before .before .before .if1 .left) (c .before .before .put-number .ensures), same-room (now (k .args .out)) (k .args .at) (k .args .n) _ _ (c .before .before .before .before .if1 .left) (c .before .before .put-number .ensures), k .pre .1)
+put-number-slice-write-out-2 t c = let f = front-put t c in omega (arith, f .place, f .room, c .before .before .before .before .before .before .pre .1)
 
 put-number-add-result-2 : (t : ℕ) → put-number-lts.Need-add-result-2 (
   put-number-below t,
   put-number.Post,
 ) (put-number-at t) put-number.Post
-put-number-add-result-2 t c = let k = c .before .before .before .before .before .before in record { fits = omega (arith, last-place (now (k .args .out)) (k .args .at) (k .args .n) _ _ (c .before .before .before .before .if1 .left) (c .before .before .put-number .ensures), k .pre .1) }
+put-number-add-result-2 t c = record { fits = omega (arith, front-put t c .place, c .before .before .before .before .before .before .pre .1) }
 
 put-number-same-length-2 : (t : ℕ) → put-number-lts.Need-same-length-2 (
   put-number-below t,
   put-number.Post,
 ) (put-number-at t) put-number.Post
-put-number-same-length-2 t c = let k = c .before .before .before .before .before .before in ap length (last-put (now (k .args .out)) (k .args .at) (k .args .n) _ _ (c .before .before .before .before .if1 .left) (c .before .before .put-number .ensures)) ∙ length-sets (now (k .args .out)) (k .args .at) (decimal (k .args .n))
+put-number-same-length-2 t c = let k = c .before .before .before .before .before .before .args in ap length (front-put t c .complete) ∙ length-sets (now (k .out)) (k .at) (decimal (k .n))
 
 put-number-returns-2 : (t : ℕ) → put-number-lts.Need-returns-2 (
   put-number-below t,
   put-number.Post,
 ) (put-number-at t) put-number.Post
-put-number-returns-2 t c = let k = c .before .before .before .before .before .before in (last-place (now (k .args .out)) (k .args .at) (k .args .n) _ _ (c .before .before .before .before .if1 .left) (c .before .before .put-number .ensures), last-put (now (k .args .out)) (k .args .at) (k .args .n) _ _ (c .before .before .before .before .if1 .left) (c .before .before .put-number .ensures))
+put-number-returns-2 t c = (front-put t c .place, front-put t c .complete)
 
 pub +put-number-spec : {M : Type 1} → statement M
 +put-number-spec = close μ-put-number λ t. put-number-lts.spec (

@@ -11,7 +11,7 @@ use Rattle.judge.proofs.line.put_field.Statement.{statement}
 use Rattle.judge.proofs.line.put_field.Tie as tie
 
 put-bytes-requires : tie.Need-put-bytes-requires
-put-bytes-requires c κs = omega (arith, length-append (now (c .before .before .before .args .name)) (decimal (c .before .before .before .args .n)), c .before .before .before .pre)
+put-bytes-requires c κs = let k = c .before .before .before in omega (arith, length-append (now (k .args .name)) (decimal (k .args .n)), k .pre)
 
 put-number-requires : tie.Need-put-number-requires
 put-number-requires c κs = let k = c .before .before .before .before .before .before .before .args in let e = c .before .before .before .put-bytes .ensures in

@@ -55,13 +55,20 @@ put-field-requires-2 : tie.Need-put-field-requires-2
 put-field-requires-2 c κs = let k = c .before .before .before in let r = first k in omega (arith, sizes (start k), start k .pre, r .place, run-length _ _ _ _ r)
 
 put-field-requires-3 : tie.Need-put-field-requires-3
-put-field-requires-3 c κs = let k = c .before .before .before in let r = second k in omega (arith, sizes (start2 k), start2 k .pre, r .place, length-append (one (start2 k)) (two (start2 k)), run-length _ _ _ _ r)
+put-field-requires-3 c κs =
+    let k = c .before .before .before in
+    let r = second k in
+    omega (arith, sizes (start2 k), start2 k .pre, r .place, length-append (one (start2 k)) (two (start2 k)), run-length _ _ _ _ r)
 
 slice-aggregate-put-bytes : tie.Need-slice-aggregate-put-bytes
 slice-aggregate-put-bytes c = search needs
 
 put-bytes-requires : tie.Need-put-bytes-requires
-put-bytes-requires c κs = let k = c .before .before .before .before in let r = third k in omega (arith, sizes (start3 k), start3 k .pre, r .place, length-append (one (start3 k) ++ two (start3 k)) (three (start3 k)), length-append (one (start3 k)) (two (start3 k)), run-length _ _ _ _ r)
+put-bytes-requires c κs =
+    let k = c .before .before .before .before in
+    let r = third k in
+    let s = start3 k in
+    omega (arith, sizes s, s .pre, r .place, length-append (one s ++ two s) (three s), length-append (one s) (two s), run-length _ _ _ _ r)
 
 same-length : tie.Need-same-length
 same-length c = search needs

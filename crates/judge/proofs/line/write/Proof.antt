@@ -20,7 +20,9 @@ slice-aggregate-put-line-3 : tie.Need-slice-aggregate-put-line-3
 slice-aggregate-put-line-3 c = search needs
 
 put-line-requires : tie.Need-put-line-requires
-put-line-requires c κs = le-trans (short-line acceptedWires _ random _ latency _ (search needs) (search needs) (search needs) (omega arith)) (c .before .before .before .before .before .before .before .before .pre)
+put-line-requires c κs =
+    le-trans (short-line acceptedWires _ random _ latency _ (search needs) (search needs) (search needs) (omega arith))
+    (c .before .before .before .before .before .before .before .before .pre)
 
 enum-known-verdict-2 : tie.Need-enum-known-verdict-2
 enum-known-verdict-2 c = search needs
@@ -35,7 +37,9 @@ slice-aggregate-put-line-6 : tie.Need-slice-aggregate-put-line-6
 slice-aggregate-put-line-6 c = search needs
 
 put-line-requires-2 : tie.Need-put-line-requires-2
-put-line-requires-2 c κs = le-trans (short-line refusedRule _ frame _ word _ (search needs) (search needs) (search needs) (omega arith)) (c .before .before .before .before .before .before .before .before .pre)
+put-line-requires-2 c κs =
+    le-trans (short-line refusedRule _ frame _ word _ (search needs) (search needs) (search needs) (omega arith))
+    (c .before .before .before .before .before .before .before .before .pre)
 
 same-length : tie.Need-same-length
 same-length c = search needs
