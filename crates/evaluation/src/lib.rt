@@ -6,7 +6,7 @@ ghost use lib.ListN.{length};
 ghost use Rattle.circuit.specs.Answer.{refused as refusedAnswer};
 ghost use Rattle.checker.specs.Said.{said};
 ghost use Rattle.netlist.specs.Calls.{written, callRule, callAnswer, callNotes, valueBytes, readingBytes};
-ghost use Rattle.evaluation.specs.Calling.{Judged, Shortest};
+ghost use Rattle.evaluation.specs.Calling.{Judged};
 use checker::Verdict;
 
 mod expand;
@@ -76,7 +76,7 @@ fn judge(
     verdict
 }
 
-// Writes the value of each wire of an accepted circuit.
+// Writes the value of each wire of an accepted circuit, from its shares and its tape. A refusal leaves the values as found.
 pub fn evaluate(
     table: &[u16],
     notes: &mut [u16],
@@ -122,7 +122,7 @@ fn smaller(one: usize, other: usize) -> usize
     if one <= other { one } else { other }
 }
 
-// Writes the value of each wire of an accepted circuit, and what the probes read.
+// Writes the value of each wire of an accepted circuit, and what the probes read. A refusal leaves both sheets as found.
 pub fn read_probes(
     table: &[u16],
     notes: &mut [u16],
