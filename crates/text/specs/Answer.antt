@@ -2,11 +2,11 @@
 use mathlib.Core.List.{List}
 use Prim.Native.Nat.{ℕ}
 use lib.ListN.{length}
-use Rattle.text.specs.declared.TextVerdict.{TextVerdict}
-use Rattle.text.specs.declared.TextVerdict.the-variants.{Accepted, Refused}
 use Rattle.circuit.specs.Lists.{over}
 use Rattle.circuit.specs.Rules.{Judgement, pass, refuse}
-use Rattle.text.specs.Reader.{Read}
+use Rattle.text.specs.declared.TextVerdict.{TextVerdict}
+use Rattle.text.specs.declared.TextVerdict.the-variants.{Accepted, Refused}
+use Rattle.text.specs.Reader.{Read, readText}
 
 pub data TextAnswer : Type 0 where
   accepted : (count : ℕ) → TextAnswer
@@ -24,3 +24,7 @@ answer found (refuse rule line word) = refused rule line word
 -- the table after a call: the words of the whole lines before a refusal, or of all; the rest untouched
 abbrev pub tableAfter : Read → List ℕ → List ℕ
 tableAfter read table = over (read .found) table
+
+-- the answer to a text, with a table that has room for `room` words
+abbrev pub textAnswerOf : (text : List ℕ) (room : ℕ) → TextAnswer
+textAnswerOf text room = answer (readText text room .found) (readText text room .judgement)

@@ -6,7 +6,9 @@ use lib.ListN.{length}
 use borrow.Author.Needs.{needs}
 use Rattle.circuit.specs.Rules.{checked}
 use Rattle.circuit.specs.Answer.{accepted, refused, answer}
+use Rattle.netlist.specs.Values.{bits}
 use Rattle.netlist.specs.Calls.{written, callRule, valueBytes}
+use Rattle.secrecy.proofs.Accepted.{gadgets-compute}
 use Rattle.checker.specs.Said.{said}
 use Rattle.evaluation.proofs.Answering.{answer-pass, untouched, one-sheet, ordered, few-wires, parts, sheet-room}
 use Rattle.evaluation.proofs.evaluate.Statement.{statement}
@@ -50,7 +52,7 @@ returns c =
     let answered : said (c .before .before .before .before .before .before .judge .result) ≡ answer k rule = j .answers sheets (one-sheet (a .values .now)) in
     let e = c .enum-told .given in
     let told : refused (e .0 .0) (e .0 .1 .0) (e .0 .1 .1 .0) ≡ answer k rule = sym (ap said (e .1)) ∙ answered in
-    (answered, (j .noted, untouched k rule (valueBytes (a .table .now) (a .notes .now) (a .shares .now) (a .tape .now)) (a .values .now) told))
+    (answered, (j .noted, (untouched k rule (valueBytes (a .table .now) (a .notes .now) (a .shares .now) (a .tape .now)) (a .values .now) told, λ h. gadgets-compute (a .table .now) N h (bits (a .shares .now)) (bits (a .tape .now)))))
 
 slice-aggregate-fill : tie.Need-slice-aggregate-fill
 slice-aggregate-fill c = search needs
@@ -95,7 +97,7 @@ returns-2 c =
     let (q, r, s) = parts (a .table .now) (a .notes .now) (a .shares .now) (a .tape .now) sheets [] p in
     let new = valueBytes (a .table .now) (a .notes .now) (a .shares .now) (a .tape .now) in (
       told,
-      (j .noted, c .before .before .fill .ensures .is (k .wires) (j .holds q) (sym wires) (ordered (a .table .now) N q) .0 ∙ ap (λ i. written i new (a .values .now)) (sym p)),
+      (j .noted, (c .before .before .fill .ensures .is (k .wires) (j .holds q) (sym wires) (ordered (a .table .now) N q) .0 ∙ ap (λ i. written i new (a .values .now)) (sym p), λ h. gadgets-compute (a .table .now) N h (bits (a .shares .now)) (bits (a .tape .now)))),
     )
 
 pub evaluate-spec : {M : Type 1} → statement M

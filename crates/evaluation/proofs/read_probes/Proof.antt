@@ -10,6 +10,7 @@ use Rattle.circuit.specs.Answer.{accepted, refused, answer}
 use Rattle.netlist.specs.Values.{bits, valuesOf}
 use Rattle.netlist.specs.Probes.{stops}
 use Rattle.netlist.specs.Calls.{written, callRule, valueBytes, readingBytes}
+use Rattle.secrecy.proofs.Accepted.{equal-counts}
 use Rattle.checker.specs.Said.{said}
 use Rattle.evaluation.proofs.Answering.{answer-pass, untouched, two-sheets, ordered, few-wires, parts, sheet-room, probes-made}
 use Rattle.evaluation.proofs.Showing.{values-length, marked-probes, reading-is}
@@ -48,7 +49,7 @@ returns c =
     let answered : said (c .before .before .before .before .before .before .judge .result) ≡ answer k rule = j .answers sheets (two-sheets (a .values .now) (a .reading .now) (c .before .before .before .before .before .before .before .before .before .before .smaller .result) (c .before .before .before .before .before .before .before .before .before .before .smaller .ensures)) in
     let e = c .enum-told .given in
     let told : refused (e .0 .0) (e .0 .1 .0) (e .0 .1 .1 .0) ≡ answer k rule = sym (ap said (e .1)) ∙ answered in
-    (answered, (j .noted, (untouched k rule (valueBytes (a .table .now) (a .notes .now) (a .shares .now) (a .tape .now)) (a .values .now) told, untouched k rule (readingBytes (a .table .now) (a .notes .now) (a .shares .now) (a .tape .now) (a .probes .now)) (a .reading .now) told)))
+    (answered, (j .noted, (untouched k rule (valueBytes (a .table .now) (a .notes .now) (a .shares .now) (a .tape .now)) (a .values .now) told, (untouched k rule (readingBytes (a .table .now) (a .notes .now) (a .shares .now) (a .tape .now) (a .probes .now)) (a .reading .now) told, λ h. equal-counts (a .table .now) N h (a .probes .now)))))
 
 slice-aggregate-fill : tie.Need-slice-aggregate-fill
 slice-aggregate-fill c = search needs
@@ -161,9 +162,12 @@ returns-2 c =
         j .noted,
         (
           valued ∙ ap (λ i. written i (valueBytes (a .table .now) (a .notes .now) (a .shares .now) (a .tape .now)) (a .values .now)) (sym p),
-          reading-is _ (stops (k .wires) (a .probes .now)) bs (a .values .now) _ (a .reading .now) _ (values-length (k .wires) (bits (a .shares .now)) (bits (a .tape .now)))
-              (c .before .before .before .before .before .before .before .settle .ensures .is (k .wires) (j .holds q) (sym wires) (ordered (a .table .now) N q) end (a .probes .now) (marked-probes wireLimit (a .probes .now) (c .before .before .before .before .before .before .before .before .before .before .before .before .mark .ensures) (λ y i. omega (arith, on y i))) on) roomR valued (c .before .before .show .ensures)
-              ∙ ap (λ i. written i (readingBytes (a .table .now) (a .notes .now) (a .shares .now) (a .tape .now) (a .probes .now)) (a .reading .now)) (sym p),
+          (
+            reading-is _ (stops (k .wires) (a .probes .now)) bs (a .values .now) _ (a .reading .now) _ (values-length (k .wires) (bits (a .shares .now)) (bits (a .tape .now)))
+                (c .before .before .before .before .before .before .before .settle .ensures .is (k .wires) (j .holds q) (sym wires) (ordered (a .table .now) N q) end (a .probes .now) (marked-probes wireLimit (a .probes .now) (c .before .before .before .before .before .before .before .before .before .before .before .before .mark .ensures) (λ y i. omega (arith, on y i))) on) roomR valued (c .before .before .show .ensures)
+                ∙ ap (λ i. written i (readingBytes (a .table .now) (a .notes .now) (a .shares .now) (a .tape .now) (a .probes .now)) (a .reading .now)) (sym p),
+            λ h. equal-counts (a .table .now) N h (a .probes .now),
+          ),
         ),
       ),
     )

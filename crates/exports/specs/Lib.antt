@@ -1,0 +1,2 @@
+-- What the C names answer.
+pub mod Numbers

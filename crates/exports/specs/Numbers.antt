@@ -1,0 +1,46 @@
+-- An answer as four numbers: the result is 0 where accepted, else the rule's number; then the answer's numbers in order.
+use mathlib.Core.Path.{_≡_}
+use Prim.Native.Nat.{ℕ}
+use Rattle.circuit.specs.Answer.{Answer, accepted, refused}
+use Rattle.text.specs.Answer.{TextAnswer, accepted as read, refused as unread}
+
+-- accepted: wires, random bits, latency; refused: frame, word, 0
+abbrev pub result : Answer → ℕ
+result (accepted wires randoms latency) = 0
+result (refused rule frame word) = rule
+
+abbrev pub first : Answer → ℕ
+first (accepted wires randoms latency) = wires
+first (refused rule frame word) = frame
+
+abbrev pub second : Answer → ℕ
+second (accepted wires randoms latency) = randoms
+second (refused rule frame word) = word
+
+abbrev pub third : Answer → ℕ
+third (accepted wires randoms latency) = latency
+third (refused rule frame word) = 0
+
+pub record Told (answer : Answer) (r a b c : ℕ) : Type 0 where
+  pub result-is : r ≡ result answer
+  pub first-is : a ≡ first answer
+  pub second-is : b ≡ second answer
+  pub third-is : c ≡ third answer
+
+-- text, accepted: words, 0; refused: line, word
+abbrev pub textResult : TextAnswer → ℕ
+textResult (read count) = 0
+textResult (unread rule line word) = rule
+
+abbrev pub textFirst : TextAnswer → ℕ
+textFirst (read count) = count
+textFirst (unread rule line word) = line
+
+abbrev pub textSecond : TextAnswer → ℕ
+textSecond (read count) = 0
+textSecond (unread rule line word) = word
+
+pub record TextTold (answer : TextAnswer) (r a b : ℕ) : Type 0 where
+  pub result-is : r ≡ textResult answer
+  pub first-is : a ≡ textFirst answer
+  pub second-is : b ≡ textSecond answer

@@ -1,0 +1,122 @@
+// The calls under C names, for programs in other languages. A slice passes as a pointer and a length. The result is 0 where
+// accepted, and the numbers are wires, random bits and latency (of a text: words, and 0); else it is the number of the first
+// rule broken, and the numbers are frame, word and 0 (of a text: line and word).
+ghost use mathlib.Core.Path.{_≡_};
+ghost use mathlib.Core.List.{[], _∷_};
+ghost use lib.ListN.{length};
+ghost use Rattle.circuit.specs.Rules.{checked};
+ghost use Rattle.circuit.specs.Answer.{verdictOf, notesAfter};
+ghost use Rattle.netlist.specs.Calls.{written, callRule, callAnswer, callNotes, valueBytes, readingBytes};
+ghost use Rattle.text.specs.Reader.{readText};
+ghost use Rattle.text.specs.Answer.{textAnswerOf, tableAfter};
+ghost use Rattle.checker.specs.Said.{said};
+ghost use Rattle.exports.specs.Numbers.{Told, TextTold};
+use checker::Verdict;
+use text::TextVerdict;
+
+// Puts a verdict's numbers where the caller wants them, and answers its result.
+fn put(verdict: Verdict, a: &mut u64, b: &mut u64, c: &mut u64) -> u64
+    ensures answered { λ r. ⌜ Told (said verdict) r (now (a .exit)) (now (b .exit)) (now (c .exit)) ⌝ }
+{
+    match verdict {
+        Verdict::Accepted {
+            wires,
+            randoms,
+            latency,
+        } => {
+            *a = wires as u64;
+            *b = randoms as u64;
+            *c = latency as u64;
+            0
+        }
+        Verdict::Refused { rule, frame, word } => {
+            *a = frame as u64;
+            *b = word as u64;
+            *c = 0;
+            rule as u64
+        }
+    }
+}
+
+// checker::check
+#[no_mangle]
+pub extern "C" fn masked_check(
+    table: &[u16],
+    notes: &mut [u16],
+    a: &mut u64,
+    b: &mut u64,
+    c: &mut u64,
+) -> u64
+    ensures answered { λ r. ⌜ Told (verdictOf (now (table .entry)) (length (now (notes .entry)))) r (now (a .exit)) (now (b .exit)) (now (c .exit)) ⌝ }
+    ensures noted { λ _. ⌜ now (notes .exit) ≡ notesAfter (checked (now (table .entry)) (length (now (notes .entry))) .circuit) (now (notes .entry)) ⌝ }
+{
+    let verdict = checker::check(table, notes);
+    put(verdict, a, b, c)
+}
+
+// text::read
+#[no_mangle]
+pub extern "C" fn masked_read_text(text: &[u8], table: &mut [u16], a: &mut u64, b: &mut u64) -> u64
+    ensures answered { λ r. ⌜ TextTold (textAnswerOf (now (text .entry)) (length (now (table .entry)))) r (now (a .exit)) (now (b .exit)) ⌝ }
+    ensures stored { λ _. ⌜ now (table .exit) ≡ tableAfter (readText (now (text .entry)) (length (now (table .entry)))) (now (table .entry)) ⌝ }
+{
+    let verdict = text::read(text, table);
+    match verdict {
+        TextVerdict::Accepted { words } => {
+            *a = words as u64;
+            *b = 0;
+            0
+        }
+        TextVerdict::Refused { rule, line, word } => {
+            *a = line as u64;
+            *b = word as u64;
+            rule as u64
+        }
+    }
+}
+
+// evaluation::evaluate
+#[no_mangle]
+pub extern "C" fn masked_evaluate(
+    table: &[u16],
+    notes: &mut [u16],
+    shares: &[u8],
+    tape: &[u8],
+    values: &mut [u8],
+    a: &mut u64,
+    b: &mut u64,
+    c: &mut u64,
+) -> u64
+    ensures answered { λ r. ⌜ Told (callAnswer (now (table .entry)) (now (notes .entry)) (now (shares .entry)) (now (tape .entry)) (now (values .entry) ∷ []) []) r (now (a .exit)) (now (b .exit)) (now (c .exit)) ⌝ }
+    ensures noted { λ _. ⌜ now (notes .exit) ≡ callNotes (now (table .entry)) (now (notes .entry)) (now (shares .entry)) (now (tape .entry)) ⌝ }
+    ensures valued { λ _. ⌜ now (values .exit) ≡ written (callRule (now (table .entry)) (now (notes .entry)) (now (shares .entry)) (now (tape .entry)) (now (values .entry) ∷ []) [])
+        (valueBytes (now (table .entry)) (now (notes .entry)) (now (shares .entry)) (now (tape .entry))) (now (values .entry)) ⌝ }
+{
+    let verdict = evaluation::evaluate(table, notes, shares, tape, values);
+    put(verdict, a, b, c)
+}
+
+// evaluation::read_probes
+#[no_mangle]
+pub extern "C" fn masked_read_probes(
+    table: &[u16],
+    notes: &mut [u16],
+    shares: &[u8],
+    tape: &[u8],
+    values: &mut [u8],
+    probes: &[u16],
+    reading: &mut [u8],
+    a: &mut u64,
+    b: &mut u64,
+    c: &mut u64,
+) -> u64
+    ensures answered { λ r. ⌜ Told (callAnswer (now (table .entry)) (now (notes .entry)) (now (shares .entry)) (now (tape .entry)) (now (values .entry) ∷ now (reading .entry) ∷ []) (now (probes .entry))) r (now (a .exit)) (now (b .exit)) (now (c .exit)) ⌝ }
+    ensures noted { λ _. ⌜ now (notes .exit) ≡ callNotes (now (table .entry)) (now (notes .entry)) (now (shares .entry)) (now (tape .entry)) ⌝ }
+    ensures valued { λ _. ⌜ now (values .exit) ≡ written (callRule (now (table .entry)) (now (notes .entry)) (now (shares .entry)) (now (tape .entry)) (now (values .entry) ∷ now (reading .entry) ∷ []) (now (probes .entry)))
+        (valueBytes (now (table .entry)) (now (notes .entry)) (now (shares .entry)) (now (tape .entry))) (now (values .entry)) ⌝ }
+    ensures shown { λ _. ⌜ now (reading .exit) ≡ written (callRule (now (table .entry)) (now (notes .entry)) (now (shares .entry)) (now (tape .entry)) (now (values .entry) ∷ now (reading .entry) ∷ []) (now (probes .entry)))
+        (readingBytes (now (table .entry)) (now (notes .entry)) (now (shares .entry)) (now (tape .entry)) (now (probes .entry))) (now (reading .entry)) ⌝ }
+{
+    let verdict = evaluation::read_probes(table, notes, shares, tape, values, probes, reading);
+    put(verdict, a, b, c)
+}

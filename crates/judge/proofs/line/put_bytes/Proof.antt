@@ -1,0 +1,72 @@
+-- `judge::line::put_bytes` meets its contract. The loop's invariant: what is stored in all is what is still to be stored from here on.
+use mathlib.Core.Path.{_≡_, refl, sym, ap, _∙_}
+use Prim.Native.Nat.{ℕ, _+_, _-_, _≤_}
+use native.Mathlib.Omega.{arith}
+use lib.ListN.{length, drop, getD, length-set}
+use lib.Seq.{sets}
+use denote.Ref.{now}
+use borrow.Author.Needs.{needs}
+use Rattle.judge.proofs.Runs.{run-turn, run-done}
+use Rattle.judge.proofs.line.put_bytes.Statement.{statement}
+use Rattle.judge.proofs.line.put_bytes.Tie as tie
+
+abbrev Inv-loop : tie.InvT-loop
+Inv-loop bytes out₀ at i₀ out i = (i ≤ length bytes) × (length out ≡ length out₀) × (sets out₀ at bytes ≡ sets out (at + i) (drop i bytes))
+
+abbrev μ-loop : tie.MeasureT-loop
+μ-loop bytes out₀ at i₀ out i = length bytes - i
+
+loop-holds : tie.Need-loop-holds Inv-loop μ-loop
+loop-holds c = (omega arith, refl, ap (λ (k : ℕ). sets (now (c .args .out)) k (now (c .args .bytes))) (omega arith))
+
+shared-slice-read-out : tie.Need-shared-slice-read-out Inv-loop μ-loop
+shared-slice-read-out c = search needs
+
+add-out : tie.Need-add-out Inv-loop μ-loop
+add-out c = search needs
+
+slice-write-out : tie.Need-slice-write-out Inv-loop μ-loop
+slice-write-out c = search needs
+
+add-i : tie.Need-add-i Inv-loop μ-loop
+add-i c = search needs
+
+loop-less : tie.Need-loop-less Inv-loop μ-loop
+loop-less c = search needs
+
+loop-again : tie.Need-loop-again Inv-loop μ-loop
+loop-again c =
+    let k = c .before .before .loop in
+    let s = c .before .before .before .args in
+    let h : k .i + 1 ≤ length (now (s .bytes)) = omega arith in
+    (omega arith, length-set (k .out) (s .at + k .i) (getD (now (s .bytes)) (k .i) 0) ∙ k .inv .1, k .inv .2 ∙ run-turn (k .out) (s .at) (k .i) (now (s .bytes)) (omega arith))
+
+add-result : tie.Need-add-result Inv-loop μ-loop
+add-result c = search needs
+
+same-length : tie.Need-same-length Inv-loop μ-loop
+same-length c = search needs
+
+returns : tie.Need-returns Inv-loop μ-loop
+returns c =
+    let k = c .before .loop in
+    let s = c .before .before .args in
+    let e : k .i ≡ length (now (s .bytes)) = omega arith in
+    (ap (λ (n : ℕ). s .at + n) e, sym (k .inv .2 ∙ run-done (k .out) (s .at) (k .i) (now (s .bytes)) e))
+
+pub put-bytes-spec : {M : Type 1} → statement M
+put-bytes-spec =
+    tie.close
+    (tie.spec
+    Inv-loop
+    μ-loop
+    loop-holds
+    shared-slice-read-out
+    add-out
+    slice-write-out
+    add-i
+    loop-less
+    loop-again
+    add-result
+    same-length
+    returns)

@@ -1,0 +1,8 @@
+-- What is proved of the definitions, for the code and of the texts that are accepted.
+pub mod Hex
+pub mod Scanning
+pub mod Splitting
+pub mod Reading
+pub mod Progress
+pub mod Accepted
+pub mod Spared

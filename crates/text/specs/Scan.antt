@@ -1,0 +1,68 @@
+-- For the contracts of the private functions: a line by its count of words. The promise of `read` names none of this.
+use mathlib.Core.Bool.{Bool, true, false, cond, _&&_}
+use mathlib.Core.List.{List, [], _∷_}
+use Prim.Native.Nat.{ℕ, zero, suc, _+_}
+use lib.Dec.{leb, ltb, eqb}
+use lib.ListN.{drop}
+use Rattle.circuit.specs.Circuit.{empty}
+use Rattle.circuit.specs.Rules.{Judgement, pass, refuse, need, _then_, wordRule}
+use Rattle.circuit.specs.Kinds.{order, kindOf, words}
+use Rattle.text.specs.declared.digits.Word.{Word}
+use Rattle.text.specs.Lines.{lineFeed, space, isDigit, digit, areDigits, word}
+use Rattle.text.specs.Reader.{roomRule}
+
+-- the value of a digit; 16 for another byte
+abbrev pub digitCode : ℕ → ℕ
+digitCode b = cond (isDigit b) (digit b) 16
+
+abbrev pub wordCode : Bool → ℕ → Word
+wordCode good value = record { good = good; value = value }
+
+-- whether bytes begin with a word, and its value; 0 where they do not
+unfoldable pub wordIn : List ℕ → Word
+wordIn [] = wordCode false 0
+wordIn (a ∷ []) = wordCode false 0
+wordIn (a ∷ b ∷ []) = wordCode false 0
+wordIn (a ∷ b ∷ c ∷ []) = wordCode false 0
+wordIn (a ∷ b ∷ c ∷ e ∷ rest) = cond (areDigits a b c e) (wordCode true (word a b c e)) (wordCode false 0)
+
+-- how many words the first line of some bytes has, its first being the n-th; 0 where the line is not of the form
+unfoldable pub countFrom : ℕ → List ℕ → ℕ
+countFrom n [] = 0
+countFrom n (a ∷ []) = 0
+countFrom n (a ∷ b ∷ []) = 0
+countFrom n (a ∷ b ∷ c ∷ []) = 0
+countFrom n (a ∷ b ∷ c ∷ e ∷ []) = 0
+countFrom n (a ∷ b ∷ c ∷ e ∷ s ∷ rest) =
+    cond (areDigits a b c e)
+    (cond (eqb s lineFeed) n (cond (eqb s space) (countFrom (suc n) rest) 0))
+    0
+
+-- so many words in a row, five bytes apart
+unfoldable pub wordsAt : ℕ → List ℕ → List ℕ
+wordsAt zero bytes = []
+wordsAt (suc n) bytes = wordIn bytes .value ∷ wordsAt n (drop 5 bytes)
+
+-- the judgement on a line by the number of the rule that it breaks, 0 for none
+abbrev pub ruled : (rule line word : ℕ) → Judgement
+ruled zero line word = pass
+ruled (suc r) line word = refuse (suc r) line word
+
+-- the word at which the first line breaks a rule: its d, word 1, breaks 4
+abbrev pub headWord : ℕ → ℕ
+headWord rule = cond (eqb rule 4) 1 0
+
+-- the rules of the first line in numbers: the text's length, the count of words, the first two
+abbrev pub headByCount : (room size count kind d : ℕ) → Judgement
+headByCount room size count kind d = need (ltb 0 size) 3 0 0
+    then (need (ltb 0 count) 20 0 0
+    then need (eqb count 2 && eqb kind 0) 3 0 0
+    then wordRule (empty 0) 0 [] order 1 d)
+    then roomRule room 0 count
+
+-- the rules of line n in numbers, behind so many words
+abbrev pub frameByCount : (room d n stored kind count : ℕ) → Judgement
+frameByCount room d n stored kind count = (need (ltb 0 count) 20 n 0
+    then need (leb 1 kind && leb kind 8) 5 n 0
+    then need (eqb count (suc (words d (kindOf kind)))) 6 n 0)
+    then roomRule room n (stored + count)
