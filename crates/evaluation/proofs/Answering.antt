@@ -1,20 +1,20 @@
 -- A call's judgement, rule by rule.
 use mathlib.Core.Path.{_≡_, refl, sym, ap, ap₂, subst, _∙_}
-use mathlib.Core.Bool.{Bool, true, false, false≢true}
+use mathlib.Core.Bool.{true, false, false≢true}
 use mathlib.Core.List.{List, [], _∷_, _++_}
-use Prim.Native.Nat.{ℕ, zero, suc, _+_, _*_, _≤_, _<_, min}
+use Prim.Native.Nat.{ℕ, suc, _+_, _*_, _≤_, _<_, min}
 use native.Mathlib.Omega.{arith}
 use lib.Dec.{leb, ltb, eqb}
-use lib.ListN.{length, drop}
+use lib.ListN.{length}
 use borrow.Author.Tests.{eq-eqb, ne-eqb, eqb-true, lt-ltb, le-ltb, le-leb, lt-leb, leb-true, leb-false, ltb-true}
 use Rattle.circuit.specs.Limits.{wireLimit}
 use Rattle.circuit.specs.Lists.{nth, mem}
 use Rattle.circuit.specs.Circuit.{Circuit, size, empty}
 use Rattle.circuit.specs.Rules.{Judgement, pass, refuse, need, _then_, Checked, onward, headRule, checked}
-use Rattle.circuit.specs.Answer.{Answer, accepted, refused, answer, verdictOf}
+use Rattle.circuit.specs.Answer.{accepted, refused, answer, verdictOf}
 use Rattle.circuit.proofs.Base.{cases, or-cases, In}
-use Rattle.circuit.proofs.Judging.{never, then-pass, need-then, need-pass}
-use Rattle.circuit.proofs.Exact.{Accepted, sound, accepted-size}
+use Rattle.circuit.proofs.Judging.{never, then-pass, need-then}
+use Rattle.circuit.proofs.Exact.{sound, accepted-size}
 use Rattle.netlist.specs.Calls.{written, bytesRule, probesRule, sheetsRule, circuitOf, callRule}
 use Rattle.netlist.proofs.Earlier.{accepted-early}
 use Rattle.evaluation.specs.Gates.{Holds, Ordered}

@@ -1,18 +1,17 @@
 -- Bits and bytes: what a byte says, sums modulo 2, and the value of a gate by its head.
 use mathlib.Core.Path.{_≡_, refl, sym, ap, _∙_}
 use mathlib.Core.Bool.{Bool, true, false, cond, not, _&&_}
-use mathlib.Core.List.{List, [], _∷_}
+use mathlib.Core.List.{List}
 use Prim.Native.Nat.{ℕ, zero, suc, _+_, _-_, _*_, _≤_, _<_}
 use native.Mathlib.Omega.{arith}
 use lib.Dec.{eqb}
 use lib.ListN.{length, drop, List·getD-eq-default, List·getD-map, drop-of-length-le}
 use lib.Seq.{getD-drop}
-use borrow.Author.Tests.{eq-eqb, ne-eqb, le-leb}
 use Rattle.circuit.specs.Lists.{_⊕_, nth}
 use Rattle.circuit.specs.Circuit.{isSet}
 use Rattle.circuit.proofs.Base.{no-flip, xor-assoc}
 use Rattle.netlist.specs.Values.{bits, byte, at, total}
-use Rattle.evaluation.specs.Gates.{unlikeOf, bitOf}
+use Rattle.evaluation.specs.Gates.{unlikeOf}
 use Rattle.evaluation.proofs.Lays.{drop-turn}
 
 pub bits-at : (values : List ℕ) (i : ℕ) → at (bits values) i ≡ isSet (nth values i)

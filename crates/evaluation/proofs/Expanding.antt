@@ -1,28 +1,26 @@
 -- The gates of a table, frame by frame: the sheets hold the circuit so far, and the walk goes on as the checker's does.
-use mathlib.Core.Path.{_≡_, refl, sym, ap, ap₂, subst, subst₂, _∙_}
-use mathlib.Core.Bool.{Bool, true, false, cond, _&&_}
-use mathlib.Core.List.{List, [], _∷_, _++_}
-use Prim.Native.Nat.{ℕ, zero, suc, _+_, _*_, _-_, _≤_, _<_}
+use mathlib.Core.Path.{_≡_, refl, sym, ap, ap₂, subst, _∙_}
+use mathlib.Core.Bool.{true, _&&_}
+use mathlib.Core.List.{List, _∷_, _++_}
+use Prim.Native.Nat.{ℕ, suc, _+_, _*_, _≤_, _<_}
 use native.Mathlib.Omega.{arith}
 use lib.Dec.{leb, ltb}
-use lib.ListN.{length, take, drop, length-append, length-map, length-drop, drop-of-length-le}
+use lib.ListN.{length, take, drop, length-map, length-drop, drop-of-length-le}
 use lib.Seq.{drop-drop}
 use borrow.Author.Tests.{lt-ltb, le-ltb, le-leb, ltb-true, ltb-false}
-use Rattle.circuit.specs.Limits.{wireLimit, fewestShares, mostShares}
+use Rattle.circuit.specs.Limits.{wireLimit, fewestShares}
 use Rattle.circuit.specs.Lists.{nth}
 use Rattle.circuit.specs.Wires.{Wire}
-use Rattle.circuit.specs.Kinds.{Kind, HEAD, IN, CON, XOR, NOT, REG, AND, REF, OUT, kindOf, shape, words}
+use Rattle.circuit.specs.Kinds.{Kind, HEAD, kindOf, shape, words}
 use Rattle.circuit.specs.Circuit.{Circuit, size, empty, made, extend}
-use Rattle.circuit.specs.Rules.{Judgement, pass, refuse, frameRule, Checked, frames}
+use Rattle.circuit.specs.Rules.{Judgement, pass, refuse, frameRule, frames}
 use Rattle.circuit.specs.Composition.{Fits, fit-IN, fit-CON, fit-XOR, fit-NOT, fit-REG, fit-AND, fit-REF, fit-OUT, kindWord}
 use Rattle.circuit.proofs.Base.{cases, and-both}
 use Rattle.circuit.proofs.Steps.{frames-pass, frames-refuse}
-use Rattle.circuit.proofs.Building.{size-extend}
 use Rattle.circuit.proofs.Judging.{never}
 use Rattle.circuit.proofs.Fitting.{Passed, frame-pass}
 use Rattle.checker.specs.declared.walk.Frame.{Frame as FrameCode}
 use Rattle.checker.specs.declared.walk.Walk.{Walk}
-use Rattle.checker.specs.declared.walk.Step.{Step}
 use Rattle.checker.specs.declared.walk.Step.the-variants.{Next, Refused, End}
 use Rattle.checker.specs.declared.kinds.Shape.{Shape as ShapeCode}
 use Rattle.checker.specs.Walk.{kindCode, shapeCode, frameCode, operandsAt, behind, stepAt}

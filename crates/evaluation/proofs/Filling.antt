@@ -1,12 +1,12 @@
 -- The values of wires, wire by wire: the sheet holds the values so far, and the rest is evaluated from them.
 use mathlib.Core.Path.{_≡_, refl, sym, ap, ap₂, subst, _∙_}
 use mathlib.Core.Bool.{Bool, true, false, cond}
-use mathlib.Core.List.{List, [], _∷_, _++_, map, append-assoc}
-use Prim.Native.Nat.{ℕ, zero, suc, _+_, _≤_, _<_}
+use mathlib.Core.List.{List, [], _∷_, _++_, append-assoc}
+use Prim.Native.Nat.{ℕ, suc, _+_, _≤_, _<_}
 use native.Mathlib.Omega.{arith}
-use lib.ListN.{length, getD, set, take, drop, length-append, length-map, List·getD-append, List·getD-map}
+use lib.ListN.{length, set, take, drop, length-append, length-map, List·getD-append, List·getD-map}
 use lib.Seq.{drop-cons, drop-drop, getD-drop, set-at, take-at, drop-at}
-use Rattle.circuit.specs.Lists.{nth, each, over}
+use Rattle.circuit.specs.Lists.{nth, over}
 use Rattle.circuit.specs.Circuit.{isSet}
 use Rattle.circuit.specs.Wires.{Wire, Gate}
 use Rattle.circuit.proofs.Base.{Every, every-imp, AllFrom}

@@ -1,12 +1,12 @@
 -- The heads of AND's and REF's wires are those of the layout.
-use mathlib.Core.Path.{_≡_, refl, sym, ap, ap₂, _∙_}
+use mathlib.Core.Path.{_≡_, refl, ap, ap₂, _∙_}
 use mathlib.Core.List.{List, [], _∷_, _++_, map}
-use Prim.Native.Nat.{ℕ, zero, suc, _+_, _*_, _-_, _<_}
+use Prim.Native.Nat.{ℕ, _+_, _*_, _-_, _<_}
 use native.Mathlib.Omega.{arith}
-use lib.ListN.{length, length-append, length-map}
+use lib.ListN.{length-append, length-map}
 use Rattle.circuit.specs.Lists.{each}
-use Rattle.circuit.specs.Wires.{Gate, Wire, named, inner, _placed_}
-use Rattle.circuit.specs.Gadgets.{Part, r, M, U, W, c, s, S, labels, above, others, sorted, gate, delay, inAND, inREF, index, gadget}
+use Rattle.circuit.specs.Wires.{Gate, named, inner, _placed_}
+use Rattle.circuit.specs.Gadgets.{Part, r, U, W, c, s, S, labels, above, others, sorted, gate, delay, inAND, inREF, index, gadget}
 use Rattle.circuit.specs.Kinds.{pairs}
 use Rattle.circuit.proofs.Base.{map-two}
 use Rattle.circuit.proofs.Parts.{label-lt, cell1, cell2, cell3, sec1, sec2, sec3, fresh1}

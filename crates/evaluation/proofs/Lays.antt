@@ -1,15 +1,14 @@
 -- Words laid one after the other: what is left to lay, at each turn of a loop.
 use mathlib.Core.Path.{_≡_, refl, sym, ap, ap₂, subst, _∙_}
-use mathlib.Core.Bool.{Bool, true, false, not}
-use mathlib.Core.List.{List, [], _∷_, _++_, append-assoc}
-use Prim.Native.Nat.{ℕ, zero, suc, _+_, _-_, _*_, _≤_, _<_}
+use mathlib.Core.Bool.{Bool, not}
+use mathlib.Core.List.{List, [], _∷_, _++_}
+use Prim.Native.Nat.{ℕ, suc, _+_, _-_, _≤_, _<_}
 use native.Mathlib.Omega.{arith}
 use lib.Dec.{eqb}
-use lib.ListN.{length, set, take, drop, length-set, length-append, length-take, length-drop, drop-of-length-le}
+use lib.ListN.{length, set, take, drop, length-append, length-take, length-drop}
 use lib.Seq.{sets, length-sets, sets-eq, drop-cons}
 use borrow.Author.Tests.{eq-eqb, ne-eqb}
 use Rattle.circuit.specs.Lists.{nth, range, keep, each, over}
-use Rattle.circuit.proofs.Base.{eqb-sym}
 use Rattle.evaluation.specs.Laying.{Laid, steps, repeated}
 
 -- one list, then another

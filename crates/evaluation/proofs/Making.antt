@@ -1,25 +1,24 @@
 -- The heads and the words of every frame's wires: what the code lays is what the definitions make.
-use mathlib.Core.Path.{_≡_, refl, sym, ap, ap₂, _∙_}
-use mathlib.Core.Bool.{Bool, true, false, cond}
+use mathlib.Core.Path.{_≡_, refl, sym, ap, _∙_}
+use mathlib.Core.Bool.{cond}
 use mathlib.Core.List.{List, [], _∷_, _++_, map}
-use Prim.Native.Nat.{ℕ, zero, suc, _+_, _*_, _-_, _≤_, _<_}
+use Prim.Native.Nat.{ℕ, zero, suc, _+_, _*_, _-_, _≤_}
 use native.Mathlib.Omega.{arith}
 use lib.Dec.{ltb}
 use lib.ListN.{length, length-append, length-map}
 use borrow.Author.Tests.{le-ltb}
-use Rattle.circuit.specs.Lists.{nth, range, each}
+use Rattle.circuit.specs.Lists.{nth, each}
 use Rattle.circuit.specs.Wires.{Wire, constant, named, input, _placed_}
 use Rattle.circuit.specs.Gadgets.{labels, others}
 use Rattle.circuit.specs.Kinds.{Kind, HEAD, IN, CON, XOR, NOT, REG, AND, REF, OUT, pairs, shape}
 use Rattle.circuit.specs.Circuit.{Circuit, size, isSet, newStage, made}
-use Rattle.circuit.proofs.Parts.{label-lt}
-use Rattle.circuit.proofs.Sizes.{range-length, pairs-twice, made-size}
+use Rattle.circuit.proofs.Sizes.{pairs-twice, made-size}
 use Rattle.checker.specs.Walk.{kindCode, frameCode}
 use Rattle.evaluation.specs.Laying.{steps, repeated}
 use Rattle.evaluation.specs.Gates.{headOf, wordsIn, headsOf, wordsOf}
 use Rattle.evaluation.specs.Layout.{pairSite, ownWords, ownsWords, cellWords, rowWords, rowsWords, outWords, outsWords, andWords, masksWords, sumWords, sumsWords, refWords, wordA, wordB}
 use Rattle.evaluation.specs.Frames.{frameHeads, frameWords}
-use Rattle.evaluation.proofs.Ranges.{others-count, each-length, all-each, each-count, each-map, steps-of, steps-length}
+use Rattle.evaluation.proofs.Ranges.{others-count, each-length, all-each, each-count, each-map, steps-length}
 use Rattle.evaluation.proofs.Wording.{progress, and-words, ref-words}
 use Rattle.evaluation.proofs.Heading.{alike, and-heads, ref-heads}
 

@@ -1,13 +1,13 @@
 -- Marks and the reading sheet, turn by turn.
-use mathlib.Core.Path.{_≡_, refl, sym, ap, ap₂, _∙_}
+use mathlib.Core.Path.{_≡_, refl, ap, _∙_}
 use mathlib.Core.Bool.{Bool, true, false, cond}
-use mathlib.Core.List.{List, [], _∷_, map}
+use mathlib.Core.List.{List, [], _∷_}
 use Prim.Native.Nat.{ℕ, suc, _+_, _-_, _≤_, _<_}
 use native.Mathlib.Omega.{arith}
 use lib.Dec.{ltb}
 use lib.ListN.{length, set, drop, length-set, drop-of-length-le}
 use lib.Seq.{sets}
-use Rattle.circuit.specs.Lists.{nth, range}
+use Rattle.circuit.specs.Lists.{nth}
 use Rattle.evaluation.specs.Marks.{markAll, passed, shownAt, shownFrom}
 use Rattle.evaluation.proofs.Lays.{drop-turn}
 

@@ -1,5 +1,5 @@
 -- The head and the words of each wire on sheets that hold a circuit, and the marks moved on at it.
-use mathlib.Core.Path.{_≡_, refl, sym, ap, ap₂, subst, subst₂, _∙_}
+use mathlib.Core.Path.{_≡_, sym, ap, ap₂, subst, subst₂, _∙_}
 use mathlib.Core.List.{List, [], _∷_, _++_}
 use Prim.Native.Nat.{ℕ, zero, suc, _+_, _-_, _≤_, _<_}
 use native.Mathlib.Omega.{arith}
@@ -7,7 +7,7 @@ use lib.ListN.{length, getD, take, drop, length-append}
 use lib.Seq.{drop-cons, drop-drop, take-suc}
 use Rattle.circuit.specs.Lists.{nth, each}
 use Rattle.circuit.specs.Wires.{Wire}
-use Rattle.evaluation.specs.Gates.{headOf, wordsIn, headsOf, wordsOf, Holds, Ordered, countOf}
+use Rattle.evaluation.specs.Gates.{headOf, wordsIn, wordsOf, Holds, Ordered, countOf}
 use Rattle.evaluation.specs.Marks.{passed}
 use Rattle.evaluation.proofs.Ranges.{each-append}
 use Rattle.evaluation.proofs.Heads.{count-is}

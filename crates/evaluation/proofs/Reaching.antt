@@ -1,8 +1,8 @@
 -- Marks on probed wires, moved on from the last wire to the first, end on the stops that the probes read.
-use mathlib.Core.Path.{_≡_, refl, sym, ap, subst, _∙_}
-use mathlib.Core.Bool.{Bool, true, false, cond, false≢true, true≢false}
+use mathlib.Core.Path.{_≡_, refl, sym, subst, _∙_}
+use mathlib.Core.Bool.{Bool, true, false, false≢true}
 use mathlib.Core.List.{List, [], _∷_, _++_}
-use Prim.Native.Nat.{ℕ, zero, suc, _+_, _≤_, _<_}
+use Prim.Native.Nat.{ℕ, suc, _+_, _≤_, _<_}
 use native.Mathlib.Omega.{arith}
 use lib.Dec.{eqb, ltb}
 use lib.ListN.{length, getD, set}
@@ -10,7 +10,7 @@ use borrow.Author.Tests.{eqb-true, eqb-false, ltb-true, ltb-false}
 use Rattle.circuit.specs.Lists.{nth, mem, each}
 use Rattle.circuit.specs.Circuit.{isSet}
 use Rattle.circuit.specs.Wires.{Wire, Gate, constant, inner, _placed_}
-use Rattle.circuit.proofs.Base.{cases, clash, or-cases, or-left, lt-ne, eqb-refl, In, in-head, in-tail, in-each, every-in, Every}
+use Rattle.circuit.proofs.Base.{cases, or-cases, or-left, lt-ne, In, in-head, in-tail, in-each, every-in, Every}
 use Rattle.circuit.proofs.Numbered.{all-get}
 use Rattle.netlist.specs.Probes.{isStop, operands, stops}
 use Rattle.netlist.proofs.Reading.{probe, stop-reads, gate-reads}
@@ -18,8 +18,7 @@ use Rattle.evaluation.specs.Gates.{headOf, wordsIn, Ordered}
 use Rattle.evaluation.specs.Marks.{markAll, passed}
 use Rattle.evaluation.proofs.Bits.{set-low, set-high}
 use Rattle.evaluation.proofs.Heads.{stop-is, words-are}
-use Rattle.evaluation.proofs.Marking.{mark-length}
-use Rattle.evaluation.proofs.Marked.{Marked, marked-lt, mark-keep, mark-new, mark-cases, clear-cases, clear-other}
+use Rattle.evaluation.proofs.Marked.{Marked, mark-keep, mark-new, mark-cases, clear-cases, clear-other}
 
 -- lists
 in-left : (s : ℕ) (xs ys : List ℕ) → In s xs → In s (xs ++ ys)

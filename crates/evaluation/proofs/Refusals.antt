@@ -1,15 +1,13 @@
 -- Rules 18 and 19, byte by byte and probe by probe.
-use mathlib.Core.Path.{_≡_, refl, sym, ap, _∙_}
-use mathlib.Core.Bool.{true, false}
-use mathlib.Core.List.{List, [], _∷_, _++_}
+use mathlib.Core.Path.{_≡_, ap, _∙_}
+use mathlib.Core.List.{List, _∷_}
 use Prim.Native.Nat.{ℕ, suc, _+_, _≤_, _<_}
 use native.Mathlib.Omega.{arith}
-use lib.Dec.{leb, ltb}
 use lib.ListN.{length, drop, drop-of-length-le}
 use borrow.Author.Tests.{lt-ltb, le-ltb, le-leb, lt-leb}
 use Rattle.circuit.specs.Lists.{nth}
 use Rattle.circuit.specs.Circuit.{Circuit, size}
-use Rattle.circuit.specs.Rules.{Judgement, pass, refuse}
+use Rattle.circuit.specs.Rules.{Judgement}
 use Rattle.netlist.specs.Calls.{bytesRule, probesRule}
 use Rattle.evaluation.specs.Refusing.{refusal}
 use Rattle.evaluation.proofs.Lays.{drop-turn}

@@ -1,13 +1,13 @@
 -- The reading sheet: marks on the stops that probes read show the values of wires.
 use mathlib.Core.Path.{_≡_, refl, sym, ap, ap₂, subst, _∙_}
-use mathlib.Core.Bool.{Bool, true, false, cond, false≢true, true≢false}
+use mathlib.Core.Bool.{Bool, true, false, cond, false≢true}
 use mathlib.Core.List.{List, [], _∷_, _++_, map}
-use Prim.Native.Nat.{ℕ, zero, suc, _+_, _≤_, _<_}
+use Prim.Native.Nat.{ℕ, _+_, _≤_, _<_}
 use native.Mathlib.Omega.{arith}
 use lib.Dec.{ltb}
-use lib.ListN.{length, getD, drop, set, replicate, length-append, length-map, length-replicate, getD-replicate, List·getD-append, List·getD-eq-default, List·getD-map}
+use lib.ListN.{length, drop, replicate, length-append, length-map, length-replicate, getD-replicate, List·getD-append, List·getD-eq-default, List·getD-map}
 use lib.Seq.{sets}
-use borrow.Author.Tests.{lt-ltb, le-ltb, ltb-true, ltb-false}
+use borrow.Author.Tests.{ltb-true, ltb-false}
 use Rattle.circuit.specs.Limits.{wireLimit}
 use Rattle.circuit.specs.Lists.{nth, range, mem, over}
 use Rattle.circuit.specs.Circuit.{isSet}

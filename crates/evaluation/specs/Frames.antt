@@ -12,7 +12,7 @@ use Rattle.checker.specs.declared.walk.Frame.the-variants as frame
 use Rattle.circuit.specs.Limits.{wireLimit, fewestShares, mostShares}
 use Rattle.circuit.specs.Lists.{nth}
 use Rattle.circuit.specs.Kinds.{pairs}
-use Rattle.circuit.specs.Circuit.{Circuit, empty}
+use Rattle.circuit.specs.Circuit.{empty}
 use Rattle.circuit.specs.Rules.{pass, Checked, frames}
 use Rattle.evaluation.specs.Laying.{steps, repeated}
 use Rattle.evaluation.specs.Layout.{wordA, wordB, andWords, refWords}

@@ -13,7 +13,7 @@ use checker::walk::Gate;
 use checker::walk::Step;
 use checker::walk::Walk;
 
-// The head of the wires that a gate makes, and how many there are.
+// The head of the wires that a gate makes.
 fn head(gate: Gate) -> u16
     ensures { λ r. ⌜ r ≡ headCode gate ⌝ }
 {
@@ -34,6 +34,7 @@ fn head(gate: Gate) -> u16
     }
 }
 
+// How many wires a gate makes.
 fn times(gate: Gate, d: usize) -> usize
     ensures { λ r. ⌜ r ≡ timesOf gate d ⌝ }
 {
@@ -54,7 +55,7 @@ fn times(gate: Gate, d: usize) -> usize
     }
 }
 
-// The heads of AND's wires, and of REF's.
+// The heads of AND's wires: r and R, then B, m and M, then the six for each two shares, then the outputs.
 fn and_heads(sheet: &mut [u16], at: usize, d: usize) -> usize
     requires { ⌜ (at + length (andHeads d) ≤ length (now sheet)) × (0 < d) × (d ≤ 8) ⌝ }
     ensures { λ r. ⌜ Laid (now (sheet .entry)) at (andHeads d) (now (sheet .exit)) r ⌝ }
@@ -69,6 +70,7 @@ fn and_heads(sheet: &mut [u16], at: usize, d: usize) -> usize
     repeat(sheet, fourth, &out, d)
 }
 
+// The heads of REF's wires: the random bits, the sums and the outputs.
 fn ref_heads(sheet: &mut [u16], at: usize, d: usize) -> usize
     requires { ⌜ (at + length (refHeads d) ≤ length (now sheet)) × (0 < d) × (d ≤ 8) ⌝ }
     ensures { λ r. ⌜ Laid (now (sheet .entry)) at (refHeads d) (now (sheet .exit)) r ⌝ }

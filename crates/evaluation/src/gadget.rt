@@ -44,7 +44,7 @@ fn cell_row(d: usize, i: usize) -> usize
     d * (d - 1) + 3 * d + 6 * (i * (d - 1))
 }
 
-// AND's words of B, m and M for one share, and for each.
+// AND's words of B, m and M for one share.
 fn own(sheet: &mut [u16], at: usize, first: usize, d: usize, i: usize, ops: &[u16]) -> usize
     requires { ⌜ (at + 4 ≤ length (now sheet)) × Small first d (now ops) × (i < d) ⌝ }
     ensures { λ r. ⌜ Laid (now (sheet .entry)) at (ownWords d first (wordA (now (ops .entry))) (wordB d (now (ops .entry))) i) (now (sheet .exit)) r ⌝ }
@@ -54,6 +54,7 @@ fn own(sheet: &mut [u16], at: usize, first: usize, d: usize, i: usize, ops: &[u1
     copy(sheet, at, &words)
 }
 
+// The same for each share.
 fn owns(sheet: &mut [u16], at: usize, first: usize, d: usize, ops: &[u16]) -> usize
     requires { ⌜ (at + length (ownsWords d first (wordA (now ops)) (wordB d (now ops))) ≤ length (now sheet)) × Small first d (now ops) ⌝ }
     ensures { λ r. ⌜ Laid (now (sheet .entry)) at (ownsWords d first (wordA (now (ops .entry))) (wordB d (now (ops .entry)))) (now (sheet .exit)) r ⌝ }
@@ -67,7 +68,7 @@ fn owns(sheet: &mut [u16], at: usize, first: usize, d: usize, ops: &[u16]) -> us
     place
 }
 
-// AND's words of u, U, v, V, w and W for two shares, for one and each other, and for each.
+// AND's words of u, U, v, V, w and W for two different shares.
 fn cell(
     sheet: &mut [u16],
     at: usize,
@@ -96,6 +97,7 @@ fn cell(
     copy(sheet, at, &words)
 }
 
+// The same for a share and each other.
 fn row(sheet: &mut [u16], at: usize, first: usize, d: usize, i: usize, ops: &[u16]) -> usize
     requires { ⌜ (at + length (rowWords d first (wordA (now ops)) (wordB d (now ops)) i) ≤ length (now sheet)) × Small first d (now ops) × (i < d) ⌝ }
     ensures { λ r. ⌜ Laid (now (sheet .entry)) at (rowWords d first (wordA (now (ops .entry))) (wordB d (now (ops .entry))) i) (now (sheet .exit)) r ⌝ }
@@ -111,6 +113,7 @@ fn row(sheet: &mut [u16], at: usize, first: usize, d: usize, i: usize, ops: &[u1
     place
 }
 
+// The same for each share.
 fn rows(sheet: &mut [u16], at: usize, first: usize, d: usize, ops: &[u16]) -> usize
     requires { ⌜ (at + length (rowsWords d first (wordA (now ops)) (wordB d (now ops))) ≤ length (now sheet)) × Small first d (now ops) ⌝ }
     ensures { λ r. ⌜ Laid (now (sheet .entry)) at (rowsWords d first (wordA (now (ops .entry))) (wordB d (now (ops .entry)))) (now (sheet .exit)) r ⌝ }
@@ -124,7 +127,7 @@ fn rows(sheet: &mut [u16], at: usize, first: usize, d: usize, ops: &[u16]) -> us
     place
 }
 
-// AND's words of one output, and of each.
+// AND's words of one output: M, then every U, then every W.
 fn out(sheet: &mut [u16], at: usize, first: usize, d: usize, i: usize) -> usize
     requires { ⌜ (at + length (outWords d first i) ≤ length (now sheet)) × (first ≤ 8192) × (d ≤ 8) × (i < d) ⌝ }
     ensures { λ r. ⌜ Laid (now (sheet .entry)) at (outWords d first i) (now (sheet .exit)) r ⌝ }
@@ -136,6 +139,7 @@ fn out(sheet: &mut [u16], at: usize, first: usize, d: usize, i: usize) -> usize
     progression(sheet, third, start + 5, 6, d - 1)
 }
 
+// The same for each output.
 fn outs(sheet: &mut [u16], at: usize, first: usize, d: usize) -> usize
     requires { ⌜ (at + length (outsWords d first) ≤ length (now sheet)) × (first ≤ 8192) × (d ≤ 8) ⌝ }
     ensures { λ r. ⌜ Laid (now (sheet .entry)) at (outsWords d first) (now (sheet .exit)) r ⌝ }
@@ -160,7 +164,7 @@ pub(crate) fn and(sheet: &mut [u16], at: usize, first: usize, d: usize, ops: &[u
     outs(sheet, fourth, first, d)
 }
 
-// REF's words of the random bits that one share takes, of its sum, and of each sum.
+// The random bits that one share of REF takes.
 fn masks(sheet: &mut [u16], at: usize, first: usize, d: usize, i: usize) -> usize
     requires { ⌜ (at + length (masksWords d first i) ≤ length (now sheet)) × (first ≤ 8192) × (d ≤ 8) × (i < d) ⌝ }
     ensures { λ r. ⌜ Laid (now (sheet .entry)) at (masksWords d first i) (now (sheet .exit)) r ⌝ }
@@ -177,6 +181,7 @@ fn masks(sheet: &mut [u16], at: usize, first: usize, d: usize, i: usize) -> usiz
     place
 }
 
+// REF's words of one sum: the share's wire, then its random bits.
 fn sum(sheet: &mut [u16], at: usize, first: usize, d: usize, i: usize, ops: &[u16]) -> usize
     requires { ⌜ (at + length (sumWords d first (wordA (now ops)) i) ≤ length (now sheet)) × (first ≤ 8192) × (d ≤ 8) × (i < d) × (length (now ops) ≡ 1 + d) ⌝ }
     ensures { λ r. ⌜ Laid (now (sheet .entry)) at (sumWords d first (wordA (now (ops .entry))) i) (now (sheet .exit)) r ⌝ }
@@ -186,6 +191,7 @@ fn sum(sheet: &mut [u16], at: usize, first: usize, d: usize, i: usize, ops: &[u1
     masks(sheet, second, first, d, i)
 }
 
+// The same for each share.
 fn sums(sheet: &mut [u16], at: usize, first: usize, d: usize, ops: &[u16]) -> usize
     requires { ⌜ (at + length (sumsWords d first (wordA (now ops))) ≤ length (now sheet)) × (first ≤ 8192) × (d ≤ 8) × (length (now ops) ≡ 1 + d) ⌝ }
     ensures { λ r. ⌜ Laid (now (sheet .entry)) at (sumsWords d first (wordA (now (ops .entry)))) (now (sheet .exit)) r ⌝ }

@@ -10,7 +10,7 @@ ghost use Rattle.netlist.specs.Calls.{circuitOf, written, callRule, callAnswer,
 ghost use Rattle.netlist.specs.Values.{bits, valuesOf};
 ghost use Rattle.netlist.specs.Counts.{EqualCounts};
 ghost use Rattle.secrecy.specs.Gadgets.{Computes};
-ghost use Rattle.evaluation.specs.Calling.{Judged, Shortest};
+ghost use Rattle.evaluation.specs.Calling.{Judged};
 use checker::Verdict;
 
 mod expand;
@@ -80,7 +80,7 @@ fn judge(
     verdict
 }
 
-// Writes the value of each wire of an accepted circuit.
+// Writes the value of each wire of an accepted circuit, from its shares and its tape. A refusal leaves the values as found.
 pub fn evaluate(
     table: &[u16],
     notes: &mut [u16],
@@ -128,7 +128,7 @@ fn smaller(one: usize, other: usize) -> usize
     if one <= other { one } else { other }
 }
 
-// Writes the value of each wire of an accepted circuit, and what the probes read.
+// Writes the value of each wire of an accepted circuit, and what the probes read. A refusal leaves both sheets as found.
 pub fn read_probes(
     table: &[u16],
     notes: &mut [u16],

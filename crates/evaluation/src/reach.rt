@@ -1,13 +1,13 @@
 // What probes read: marks go from a wire to those it takes, until they stand on stops.
 ghost use mathlib.Core.Path.{_≡_};
-ghost use Prim.Native.Nat.{_+_, _-_, _*_, _≤_, _<_};
+ghost use Prim.Native.Nat.{_-_, _≤_, _<_};
 ghost use lib.ListN.{length, set};
 ghost use lib.Seq.{sets};
 ghost use Rattle.evaluation.specs.Marks.{markAll, passed, shownAt, shownFrom, Settles};
 use super::sheet::part;
 use super::values::count;
 
-// A mark on a wire, and on each wire of a list.
+// A mark on a wire; none where there is no such wire.
 fn mark_one(marks: &mut [u8], wire: usize)
     ensures { λ _. ⌜ now (marks .exit) ≡ set (now (marks .entry)) wire 1 ⌝ }
 {
@@ -16,6 +16,7 @@ fn mark_one(marks: &mut [u8], wire: usize)
     }
 }
 
+// A mark on each wire of a list.
 pub(crate) fn mark(marks: &mut [u8], wires: &[u16])
     ensures { λ _. ⌜ now (marks .exit) ≡ markAll (now (marks .entry)) (now (wires .entry)) ⌝ }
 {

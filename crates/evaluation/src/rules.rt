@@ -1,6 +1,4 @@
 // Rules 18 and 19, each by the first place where it is broken.
-ghost use mathlib.Core.Path.{_≡_};
-ghost use Prim.Native.Nat.{ℕ, _≤_};
 ghost use lib.ListN.{length};
 ghost use Rattle.evaluation.specs.Refusing.{OverFirst, MissingFirst};
 

@@ -12,7 +12,7 @@ pub(crate) fn word_at(words: &[u16], i: usize) -> u16
     if i < words.len() { words[i] } else { 0 }
 }
 
-// The words from a place to another, as far as there are any.
+// So many words from a place on, as far as there are any.
 pub(crate) fn part(words: &[u16], from: usize, count: usize) -> &[u16]
     ensures { λ r. ⌜ now r ≡ take count (drop from (now (words .entry))) ⌝ }
 {

@@ -1,6 +1,6 @@
 // The value of each wire, from the first to the last.
 ghost use mathlib.Core.Path.{_≡_};
-ghost use Prim.Native.Nat.{_+_, _-_, _*_, _≤_, _<_};
+ghost use Prim.Native.Nat.{_-_, _*_, _≤_, _<_};
 ghost use lib.ListN.{length, drop};
 ghost use Rattle.netlist.specs.Values.{bits, byte, at, total};
 ghost use Rattle.evaluation.specs.Gates.{countOf, drawnOf, bitOf, unlikeOf, Fills};

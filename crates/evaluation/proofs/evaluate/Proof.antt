@@ -1,59 +1,46 @@
-use Rattle.netlist.specs.Values.{bits}
-use Rattle.secrecy.proofs.Accepted.{gadgets-compute}
-use Rattle.evaluation.proofs.Answering.{answer-pass, untouched, one-sheet, ordered, few-wires, parts, sheet-room}
-use Rattle.circuit.specs.Rules.{checked}
-use Rattle.circuit.specs.Answer.{accepted, refused, answer}
-use Rattle.checker.specs.Said.{said}
-use Rattle.netlist.specs.Calls.{written, callRule, valueBytes}
-use lib.ListN.{length}
+-- `evaluation::evaluate` meets its contract.
 use mathlib.Core.List.{[], _∷_}
 use mathlib.Core.Path.{_≡_, sym, ap, _∙_}
 use native.Mathlib.Omega.{arith}
+use lib.ListN.{length}
 use borrow.Author.Needs.{needs}
+use Rattle.circuit.specs.Rules.{checked}
+use Rattle.circuit.specs.Answer.{accepted, refused, answer}
+use Rattle.netlist.specs.Values.{bits}
+use Rattle.netlist.specs.Calls.{written, callRule, valueBytes}
+use Rattle.secrecy.proofs.Accepted.{gadgets-compute}
+use Rattle.checker.specs.Said.{said}
+use Rattle.evaluation.proofs.Answering.{answer-pass, untouched, one-sheet, ordered, few-wires, parts, sheet-room}
 use Rattle.evaluation.proofs.evaluate.Statement.{statement}
 use Rattle.evaluation.proofs.evaluate.Tie as tie
-use Rattle.evaluation.proofs.evaluate.Reads as reads
-use Rattle.evaluation.proofs.evaluate.Lts as lts
-use Rattle.evaluation.proofs.judge.Reads as judge-reads
-use Rattle.evaluation.proofs.values.fill.Reads as fill-reads
 
--- src/lib.rt:94:16
 sub-none : tie.Need-sub-none
 sub-none c = search needs
 
--- src/lib.rt:94:16
 part-none-start : tie.Need-part-none-start
 part-none-start c = search needs
 
--- src/lib.rt:94:16
 part-none-end : tie.Need-part-none-end
 part-none-end c = search needs
 
--- src/lib.rt:102:9
 slice-aggregate-judge : tie.Need-slice-aggregate-judge
 slice-aggregate-judge c = search needs
 
--- src/lib.rt:103:9
 slice-aggregate-judge-2 : tie.Need-slice-aggregate-judge-2
 slice-aggregate-judge-2 c = search needs
 
--- src/lib.rt:95:9
 judge-requires : tie.Need-judge-requires
 judge-requires c κs = search needs
 
--- src/lib.rt:106:9
 enum-known-verdict : tie.Need-enum-known-verdict
 enum-known-verdict c = search needs
 
--- src/lib.rt:110:9
 enum-told : tie.Need-enum-told
 enum-told c = search needs
 
--- src/lib.rt:110:9
 same-length : tie.Need-same-length
 same-length c = search needs
 
--- src/lib.rt:110:9
 returns : tie.Need-returns
 returns c =
     let a = c .before .before .before .before .before .before .before .before .before .before .before .before .before .before .before .before .args in
@@ -67,15 +54,12 @@ returns c =
     let told : refused (e .0 .0) (e .0 .1 .0) (e .0 .1 .1 .0) ≡ answer k rule = sym (ap said (e .1)) ∙ answered in
     (answered, (j .noted, (untouched k rule (valueBytes (a .table .now) (a .notes .now) (a .shares .now) (a .tape .now)) (a .values .now) told, λ h. gadgets-compute (a .table .now) N h (bits (a .shares .now)) (bits (a .tape .now)))))
 
--- src/lib.rt:112:18
 slice-aggregate-fill : tie.Need-slice-aggregate-fill
 slice-aggregate-fill c = search needs
 
--- src/lib.rt:112:26
 slice-aggregate-fill-2 : tie.Need-slice-aggregate-fill-2
 slice-aggregate-fill-2 c = search needs
 
--- src/lib.rt:112:5
 fill-requires : tie.Need-fill-requires
 fill-requires c κs =
     let a = c .before .before .before .before .before .before .before .before .before .before .before .before .before .before .before .before .before .before .before .before .args in
@@ -92,15 +76,12 @@ fill-requires c κs =
     let few = few-wires (a .table .now) N q in
     (omega (arith, c .before .before .before .before .before .before .before .heads2 .given), omega (arith, sheet-room (a .values .now) [] r .0))
 
--- src/lib.rt:79:1
 same-length-2 : tie.Need-same-length-2
 same-length-2 c = search needs
 
--- src/lib.rt:79:1
 same-length-3 : tie.Need-same-length-3
 same-length-3 c = search needs
 
--- src/lib.rt:79:1
 returns-2 : tie.Need-returns-2
 returns-2 c =
     let a = c .before .before .before .before .before .before .before .before .before .before .before .before .before .before .before .before .before .before .before .before .before .before .before .args in

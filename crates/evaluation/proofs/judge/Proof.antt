@@ -1,39 +1,28 @@
-use Rattle.evaluation.proofs.Answering.{answer-pass, refused-first, no-pass, expandable, framed-is, holds-same, rule15, rule16, rule17, rule18-shares, rule18-tape, rule19, all-pass}
+-- `evaluation::judge` meets its contract.
+use mathlib.Core.Path.{_≡_, sym, ap, subst, _∙_}
+use Prim.Native.Nat.{ℕ, _*_}
+use lib.ListN.{length}
+use borrow.Author.Needs.{needs}
 use Rattle.circuit.specs.Rules.{checked}
 use Rattle.circuit.specs.Answer.{accepted, refused, answer, verdictOf}
 use Rattle.checker.specs.Said.{said}
 use Rattle.evaluation.specs.Refusing.{MissingFirst}
-use lib.ListN.{length}
-use Prim.Native.Nat.{ℕ, _*_}
-use mathlib.Core.Path.{_≡_, sym, ap, subst, _∙_}
-use borrow.Author.Needs.{needs}
+use Rattle.evaluation.proofs.Answering.{answer-pass, refused-first, no-pass, expandable, framed-is, holds-same, rule15, rule16, rule17, rule18-shares, rule18-tape, rule19, all-pass}
 use Rattle.evaluation.proofs.judge.Statement.{statement}
 use Rattle.evaluation.proofs.judge.Tie as tie
-use Rattle.evaluation.proofs.judge.Reads as reads
-use Rattle.evaluation.proofs.judge.Lts as lts
-use Rattle.checker.proofs.check.Reads as check-reads
-use Rattle.evaluation.proofs.expand.expand.Reads as expand-reads
-use Rattle.evaluation.proofs.refusal.Reads as refusal-reads
-use Rattle.evaluation.proofs.rules.first_missing.Reads as first-missing-reads
-use Rattle.evaluation.proofs.rules.first_over.Reads as first-over-reads
 
--- src/lib.rt:45:9
 check-requires : tie.Need-check-requires
 check-requires c κs = search needs
 
--- src/lib.rt:47:9
 enum-known-verdict : tie.Need-enum-known-verdict
 enum-known-verdict c = search needs
 
--- src/lib.rt:51:9
 enum-told : tie.Need-enum-told
 enum-told c = search needs
 
--- src/lib.rt:51:9
 same-length : tie.Need-same-length
 same-length c = search needs
 
--- src/lib.rt:51:9
 returns : tie.Need-returns
 returns c =
     let a = c .before .before .before .before .before .before .before .before .before .before .before .before .before .args in
@@ -47,7 +36,6 @@ returns c =
       holds = λ p. absurd (no-pass k told p);
     }
 
--- src/lib.rt:53:9
 expand-requires : tie.Need-expand-requires
 expand-requires c κs =
     let a = c .before .before .before .before .before .before .before .before .before .before .before .before .before .before .before .before .args in
@@ -58,23 +46,18 @@ expand-requires c κs =
     let (p, wires, randoms) = answer-pass k (checked (a .table .now) N .judgement) told in
     (expandable (a .table .now) N p, c .before .before .before .before .before .before .before .before .before .before .before .before .before .before .before .before .pre .0, c .before .before .before .before .before .before .before .before .before .before .before .before .before .before .before .before .pre .1)
 
--- src/lib.rt:55:9
 refusal-requires : tie.Need-refusal-requires
 refusal-requires c κs = search needs
 
--- src/lib.rt:55:9
 same-length-2 : tie.Need-same-length-2
 same-length-2 c = search needs
 
--- src/lib.rt:55:9
 same-length-3 : tie.Need-same-length-3
 same-length-3 c = search needs
 
--- src/lib.rt:55:9
 same-length-4 : tie.Need-same-length-4
 same-length-4 c = search needs
 
--- src/lib.rt:55:9
 returns-2 : tie.Need-returns-2
 returns-2 c =
     let a = c .before .before .before .before .before .before .before .before .before .before .before .before .before .before .before .before .before .before .before .before .before .before .before .args in
@@ -91,23 +74,18 @@ returns-2 c =
       holds = λ _. holds-same (a .table .now) N p (c .before .before .before .before .before .before .expand .ensures .holds);
     }
 
--- src/lib.rt:58:9
 refusal-requires-2 : tie.Need-refusal-requires-2
 refusal-requires-2 c κs = search needs
 
--- src/lib.rt:58:9
 same-length-5 : tie.Need-same-length-5
 same-length-5 c = search needs
 
--- src/lib.rt:58:9
 same-length-6 : tie.Need-same-length-6
 same-length-6 c = search needs
 
--- src/lib.rt:58:9
 same-length-7 : tie.Need-same-length-7
 same-length-7 c = search needs
 
--- src/lib.rt:58:9
 returns-3 : tie.Need-returns-3
 returns-3 c =
     let a = c .before .before .before .before .before .before .before .before .before .before .before .before .before .before .before .before .before .before .before .before .before .before .before .before .args in
@@ -125,23 +103,18 @@ returns-3 c =
       holds = λ _. holds-same (a .table .now) N p (c .before .before .before .before .before .before .before .expand .ensures .holds);
     }
 
--- src/lib.rt:61:9
 refusal-requires-3 : tie.Need-refusal-requires-3
 refusal-requires-3 c κs = search needs
 
--- src/lib.rt:61:9
 same-length-8 : tie.Need-same-length-8
 same-length-8 c = search needs
 
--- src/lib.rt:61:9
 same-length-9 : tie.Need-same-length-9
 same-length-9 c = search needs
 
--- src/lib.rt:61:9
 same-length-10 : tie.Need-same-length-10
 same-length-10 c = search needs
 
--- src/lib.rt:61:9
 returns-4 : tie.Need-returns-4
 returns-4 c =
     let a = c .before .before .before .before .before .before .before .before .before .before .before .before .before .before .before .before .before .before .before .before .before .before .before .before .before .args in
@@ -160,27 +133,21 @@ returns-4 c =
       holds = λ _. holds-same (a .table .now) N p (c .before .before .before .before .before .before .before .before .expand .ensures .holds);
     }
 
--- src/lib.rt:63:9
 first-over-requires : tie.Need-first-over-requires
 first-over-requires c κs = search needs
 
--- src/lib.rt:65:9
 refusal-requires-4 : tie.Need-refusal-requires-4
 refusal-requires-4 c κs = search needs
 
--- src/lib.rt:65:9
 same-length-11 : tie.Need-same-length-11
 same-length-11 c = search needs
 
--- src/lib.rt:65:9
 same-length-12 : tie.Need-same-length-12
 same-length-12 c = search needs
 
--- src/lib.rt:65:9
 same-length-13 : tie.Need-same-length-13
 same-length-13 c = search needs
 
--- src/lib.rt:65:9
 returns-5 : tie.Need-returns-5
 returns-5 c =
     let a = c .before .before .before .before .before .before .before .before .before .before .before .before .before .before .before .before .before .before .before .before .before .before .before .before .before .before .before .args in
@@ -199,31 +166,24 @@ returns-5 c =
       holds = λ _. holds-same (a .table .now) N p (c .before .before .before .before .before .before .before .before .before .before .expand .ensures .holds);
     }
 
--- src/lib.rt:67:9
 first-over-requires-2 : tie.Need-first-over-requires-2
 first-over-requires-2 c κs = search needs
 
--- src/lib.rt:69:28
 add-refusal : tie.Need-add-refusal
 add-refusal c = search needs
 
--- src/lib.rt:69:9
 refusal-requires-5 : tie.Need-refusal-requires-5
 refusal-requires-5 c κs = search needs
 
--- src/lib.rt:69:9
 same-length-14 : tie.Need-same-length-14
 same-length-14 c = search needs
 
--- src/lib.rt:69:9
 same-length-15 : tie.Need-same-length-15
 same-length-15 c = search needs
 
--- src/lib.rt:69:9
 same-length-16 : tie.Need-same-length-16
 same-length-16 c = search needs
 
--- src/lib.rt:69:9
 returns-6 : tie.Need-returns-6
 returns-6 c =
     let a = c .before .before .before .before .before .before .before .before .before .before .before .before .before .before .before .before .before .before .before .before .before .before .before .before .before .before .before .before .before .args in
@@ -242,27 +202,21 @@ returns-6 c =
       holds = λ _. holds-same (a .table .now) N p (c .before .before .before .before .before .before .before .before .before .before .before .before .expand .ensures .holds);
     }
 
--- src/lib.rt:71:9
 first-missing-requires : tie.Need-first-missing-requires
 first-missing-requires c κs = search needs
 
--- src/lib.rt:73:9
 refusal-requires-6 : tie.Need-refusal-requires-6
 refusal-requires-6 c κs = search needs
 
--- src/lib.rt:73:9
 same-length-17 : tie.Need-same-length-17
 same-length-17 c = search needs
 
--- src/lib.rt:73:9
 same-length-18 : tie.Need-same-length-18
 same-length-18 c = search needs
 
--- src/lib.rt:73:9
 same-length-19 : tie.Need-same-length-19
 same-length-19 c = search needs
 
--- src/lib.rt:73:9
 returns-7 : tie.Need-returns-7
 returns-7 c =
     let a = c .before .before .before .before .before .before .before .before .before .before .before .before .before .before .before .before .before .before .before .before .before .before .before .before .before .before .before .before .before .before .before .args in
@@ -281,19 +235,15 @@ returns-7 c =
       holds = λ _. holds-same (a .table .now) N p (c .before .before .before .before .before .before .before .before .before .before .before .before .before .before .expand .ensures .holds);
     }
 
--- src/lib.rt:32:1
 same-length-20 : tie.Need-same-length-20
 same-length-20 c = search needs
 
--- src/lib.rt:32:1
 same-length-21 : tie.Need-same-length-21
 same-length-21 c = search needs
 
--- src/lib.rt:32:1
 same-length-22 : tie.Need-same-length-22
 same-length-22 c = search needs
 
--- src/lib.rt:32:1
 returns-8 : tie.Need-returns-8
 returns-8 c =
     let a = c .before .before .before .before .before .before .before .before .before .before .before .before .before .before .before .before .before .before .before .before .before .before .before .before .before .before .before .before .before .before .args in

@@ -1,59 +1,43 @@
-use Rattle.secrecy.proofs.Accepted.{equal-counts}
-use Rattle.evaluation.proofs.Answering.{answer-pass, untouched, two-sheets, ordered, few-wires, parts, sheet-room, probes-made}
-use Rattle.evaluation.proofs.Showing.{values-length, marked-probes, reading-is}
-use Rattle.circuit.specs.Limits.{wireLimit}
-use Rattle.circuit.specs.Rules.{checked}
-use Rattle.circuit.specs.Answer.{accepted, refused, answer}
-use Rattle.checker.specs.Said.{said}
-use Rattle.netlist.specs.Values.{bits, valuesOf}
-use Rattle.netlist.specs.Probes.{stops}
-use Rattle.netlist.specs.Calls.{written, callRule, valueBytes, readingBytes}
-use lib.ListN.{length}
-use Prim.Native.Nat.{ℕ}
+-- `evaluation::read_probes` meets its contract.
 use mathlib.Core.List.{[], _∷_}
 use mathlib.Core.Path.{_≡_, sym, ap, _∙_}
 use native.Mathlib.Omega.{arith}
+use lib.ListN.{length}
 use borrow.Author.Needs.{needs}
+use Rattle.circuit.specs.Limits.{wireLimit}
+use Rattle.circuit.specs.Rules.{checked}
+use Rattle.circuit.specs.Answer.{accepted, refused, answer}
+use Rattle.netlist.specs.Values.{bits, valuesOf}
+use Rattle.netlist.specs.Probes.{stops}
+use Rattle.netlist.specs.Calls.{written, callRule, valueBytes, readingBytes}
+use Rattle.secrecy.proofs.Accepted.{equal-counts}
+use Rattle.checker.specs.Said.{said}
+use Rattle.evaluation.proofs.Answering.{answer-pass, untouched, two-sheets, ordered, few-wires, parts, sheet-room, probes-made}
+use Rattle.evaluation.proofs.Showing.{values-length, marked-probes, reading-is}
 use Rattle.evaluation.proofs.read_probes.Statement.{statement}
 use Rattle.evaluation.proofs.read_probes.Tie as tie
-use Rattle.evaluation.proofs.read_probes.Reads as reads
-use Rattle.evaluation.proofs.read_probes.Lts as lts
-use Rattle.evaluation.proofs.judge.Reads as judge-reads
-use Rattle.evaluation.proofs.reach.mark.Reads as mark-reads
-use Rattle.evaluation.proofs.reach.settle.Reads as settle-reads
-use Rattle.evaluation.proofs.reach.show.Reads as show-reads
-use Rattle.evaluation.proofs.smaller.Reads as smaller-reads
-use Rattle.evaluation.proofs.values.fill.Reads as fill-reads
 
--- src/lib.rt:142:9
 smaller-requires : tie.Need-smaller-requires
 smaller-requires c κs = search needs
 
--- src/lib.rt:150:9
 slice-aggregate-judge : tie.Need-slice-aggregate-judge
 slice-aggregate-judge c = search needs
 
--- src/lib.rt:151:9
 slice-aggregate-judge-2 : tie.Need-slice-aggregate-judge-2
 slice-aggregate-judge-2 c = search needs
 
--- src/lib.rt:143:9
 judge-requires : tie.Need-judge-requires
 judge-requires c κs = search needs
 
--- src/lib.rt:154:9
 enum-known-verdict : tie.Need-enum-known-verdict
 enum-known-verdict c = search needs
 
--- src/lib.rt:158:9
 enum-told : tie.Need-enum-told
 enum-told c = search needs
 
--- src/lib.rt:158:9
 same-length : tie.Need-same-length
 same-length c = search needs
 
--- src/lib.rt:158:9
 returns : tie.Need-returns
 returns c =
     let a = c .before .before .before .before .before .before .before .before .before .before .before .before .before .before .before .before .before .before .args in
@@ -67,15 +51,12 @@ returns c =
     let told : refused (e .0 .0) (e .0 .1 .0) (e .0 .1 .1 .0) ≡ answer k rule = sym (ap said (e .1)) ∙ answered in
     (answered, (j .noted, (untouched k rule (valueBytes (a .table .now) (a .notes .now) (a .shares .now) (a .tape .now)) (a .values .now) told, (untouched k rule (readingBytes (a .table .now) (a .notes .now) (a .shares .now) (a .tape .now) (a .probes .now)) (a .reading .now) told, λ h. equal-counts (a .table .now) N h (a .probes .now)))))
 
--- src/lib.rt:160:28
 slice-aggregate-fill : tie.Need-slice-aggregate-fill
 slice-aggregate-fill c = search needs
 
--- src/lib.rt:160:36
 slice-aggregate-fill-2 : tie.Need-slice-aggregate-fill-2
 slice-aggregate-fill-2 c = search needs
 
--- src/lib.rt:160:9
 fill-requires : tie.Need-fill-requires
 fill-requires c κs =
     let a = c .before .before .before .before .before .before .before .before .before .before .before .before .before .before .before .before .before .before .before .before .before .before .args in
@@ -94,27 +75,21 @@ fill-requires c κs =
     let few = few-wires (a .table .now) N q in
     (omega (arith, c .before .before .before .before .before .before .before .heads2 .given), omega arith)
 
--- src/lib.rt:162:17
 slice-aggregate-mark : tie.Need-slice-aggregate-mark
 slice-aggregate-mark c = search needs
 
--- src/lib.rt:162:5
 mark-requires : tie.Need-mark-requires
 mark-requires c κs = search needs
 
--- src/lib.rt:163:19
 slice-aggregate-settle : tie.Need-slice-aggregate-settle
 slice-aggregate-settle c = search needs
 
--- src/lib.rt:163:27
 slice-aggregate-settle-2 : tie.Need-slice-aggregate-settle-2
 slice-aggregate-settle-2 c = search needs
 
--- src/lib.rt:163:47
 slice-aggregate-settle-3 : tie.Need-slice-aggregate-settle-3
 slice-aggregate-settle-3 c = search needs
 
--- src/lib.rt:163:5
 settle-requires : tie.Need-settle-requires
 settle-requires c κs =
     let a = c .before .before .before .before .before .before .before .before .before .before .before .before .before .before .before .before .before .before .before .before .before .before .before .before .before .before .before .before .before .before .before .args in
@@ -133,11 +108,9 @@ settle-requires c κs =
     let few = few-wires (a .table .now) N q in
     (omega (arith, c .before .before .before .before .before .before .before .before .before .before .before .before .before .before .before .before .heads2 .given), omega (arith, c .before .before .before .marks2 .given))
 
--- src/lib.rt:164:17
 slice-aggregate-show : tie.Need-slice-aggregate-show
 slice-aggregate-show c = search needs
 
--- src/lib.rt:164:5
 show-requires : tie.Need-show-requires
 show-requires c κs =
     let a = c .before .before .before .before .before .before .before .before .before .before .before .before .before .before .before .before .before .before .before .before .before .before .before .before .before .before .before .before .before .before .before .before .before .before .before .before .args in
@@ -156,19 +129,15 @@ show-requires c κs =
     let few = few-wires (a .table .now) N q in
     (omega (arith, c .before .before .before .marks4 .given), omega arith, omega arith)
 
--- src/lib.rt:124:1
 same-length-2 : tie.Need-same-length-2
 same-length-2 c = search needs
 
--- src/lib.rt:124:1
 same-length-3 : tie.Need-same-length-3
 same-length-3 c = search needs
 
--- src/lib.rt:124:1
 same-length-4 : tie.Need-same-length-4
 same-length-4 c = search needs
 
--- src/lib.rt:124:1
 returns-2 : tie.Need-returns-2
 returns-2 c =
     let a = c .before .before .before .before .before .before .before .before .before .before .before .before .before .before .before .before .before .before .before .before .before .before .before .before .before .before .before .before .before .before .before .before .before .before .before .before .before .before .before .args in

@@ -1,43 +1,34 @@
-use Rattle.evaluation.proofs.Lays.{laid-append, room-first, room-next}
-use Rattle.evaluation.specs.Laying.{repeated}
-use Rattle.evaluation.specs.Frames.{andHeads}
-use Rattle.circuit.specs.Kinds.{pairs}
-use Rattle.evaluation.proofs.Bounds.{eights}
-use Prim.Native.Nat.{_≤_, _-_, _+_, _*_}
+-- `evaluation::expand::and_heads` meets its contract.
 use mathlib.Core.List.{[], _∷_, _++_}
+use Prim.Native.Nat.{_-_, _+_, _*_}
 use native.Mathlib.Omega.{arith}
 use borrow.Author.Needs.{needs}
+use Rattle.circuit.specs.Kinds.{pairs}
+use Rattle.evaluation.specs.Laying.{repeated}
+use Rattle.evaluation.specs.Frames.{andHeads}
+use Rattle.evaluation.proofs.Lays.{laid-append, room-first, room-next}
+use Rattle.evaluation.proofs.Bounds.{eights}
 use Rattle.evaluation.proofs.expand.and_heads.Statement.{statement}
 use Rattle.evaluation.proofs.expand.and_heads.Tie as tie
-use Rattle.evaluation.proofs.expand.and_heads.Reads as reads
-use Rattle.evaluation.proofs.expand.and_heads.Lts as lts
-use Rattle.evaluation.proofs.sheet.repeat.Reads as repeat-reads
 
--- src/expand.rt:65:21
 mul-t11 : tie.Need-mul-t11
 mul-t11 c = search needs
 
--- src/expand.rt:65:17
 add-t12 : tie.Need-add-t12
 add-t12 c = search needs
 
--- src/expand.rt:65:16
 cast-t13 : tie.Need-cast-t13
 cast-t13 c = search needs
 
--- src/expand.rt:66:36
 slice-aggregate-repeat : tie.Need-slice-aggregate-repeat
 slice-aggregate-repeat c = search needs
 
--- src/expand.rt:66:49
 sub-repeat : tie.Need-sub-repeat
 sub-repeat c = search needs
 
--- src/expand.rt:66:44
 mul-repeat : tie.Need-mul-repeat
 mul-repeat c = record { fits = omega (arith, eights (c .before .before .before .args .d) (c .before .before .before .args .d - 1) (omega arith) (omega arith)) }
 
--- src/expand.rt:66:9
 repeat-requires : tie.Need-repeat-requires
 unfolding andHeads
 repeat-requires c κs =
@@ -47,11 +38,9 @@ repeat-requires c κs =
     let h2 = room-first (a .at) ((repeated (pairs (a .d)) (3 ∷ 4 ∷ [])) ++ (repeated (a .d) (4 ∷ 6 ∷ 4 ∷ []))) (repeated (a .d * (a .d - 1)) (7 ∷ 4 ∷ 10 ∷ 4 ∷ 6 ∷ 4 ∷ [])) h3 in
     room-first (a .at) (repeated (pairs (a .d)) (3 ∷ 4 ∷ [])) (repeated (a .d) (4 ∷ 6 ∷ 4 ∷ [])) h2
 
--- src/expand.rt:67:39
 slice-aggregate-repeat-2 : tie.Need-slice-aggregate-repeat-2
 slice-aggregate-repeat-2 c = search needs
 
--- src/expand.rt:67:9
 repeat-requires-2 : tie.Need-repeat-requires-2
 unfolding andHeads
 repeat-requires-2 c κs =
@@ -61,19 +50,15 @@ repeat-requires-2 c κs =
     let h2 = room-first (a .at) ((repeated (pairs (a .d)) (3 ∷ 4 ∷ [])) ++ (repeated (a .d) (4 ∷ 6 ∷ 4 ∷ []))) (repeated (a .d * (a .d - 1)) (7 ∷ 4 ∷ 10 ∷ 4 ∷ 6 ∷ 4 ∷ [])) h3 in
     room-next (repeated (a .d) (4 ∷ 6 ∷ 4 ∷ [])) (c .before .before .before .before .repeat .ensures) h2
 
--- src/expand.rt:68:39
 slice-aggregate-repeat-3 : tie.Need-slice-aggregate-repeat-3
 slice-aggregate-repeat-3 c = search needs
 
--- src/expand.rt:68:51
 sub-repeat-2 : tie.Need-sub-repeat-2
 sub-repeat-2 c = search needs
 
--- src/expand.rt:68:46
 mul-repeat-2 : tie.Need-mul-repeat-2
 mul-repeat-2 c = record { fits = omega (arith, eights (c .before .before .before .before .before .before .before .before .before .before .before .before .before .args .d) (c .before .before .before .before .before .before .before .before .before .before .before .before .before .args .d - 1) (omega arith) (omega arith)) }
 
--- src/expand.rt:68:9
 repeat-requires-3 : tie.Need-repeat-requires-3
 unfolding andHeads
 repeat-requires-3 c κs =
@@ -83,11 +68,9 @@ repeat-requires-3 c κs =
     let h2 = room-first (a .at) ((repeated (pairs (a .d)) (3 ∷ 4 ∷ [])) ++ (repeated (a .d) (4 ∷ 6 ∷ 4 ∷ []))) (repeated (a .d * (a .d - 1)) (7 ∷ 4 ∷ 10 ∷ 4 ∷ 6 ∷ 4 ∷ [])) h3 in
     room-next (repeated (a .d * (a .d - 1)) (7 ∷ 4 ∷ 10 ∷ 4 ∷ 6 ∷ 4 ∷ [])) (laid-append (c .before .before .before .before .before .before .before .before .before .repeat .ensures) (c .before .before .before .before .repeat2 .ensures)) h3
 
--- src/expand.rt:69:27
 slice-aggregate-repeat-4 : tie.Need-slice-aggregate-repeat-4
 slice-aggregate-repeat-4 c = search needs
 
--- src/expand.rt:69:5
 repeat-requires-4 : tie.Need-repeat-requires-4
 unfolding andHeads
 repeat-requires-4 c κs =
@@ -97,11 +80,9 @@ repeat-requires-4 c κs =
     let h2 = room-first (a .at) ((repeated (pairs (a .d)) (3 ∷ 4 ∷ [])) ++ (repeated (a .d) (4 ∷ 6 ∷ 4 ∷ []))) (repeated (a .d * (a .d - 1)) (7 ∷ 4 ∷ 10 ∷ 4 ∷ 6 ∷ 4 ∷ [])) h3 in
     room-next (repeated (a .d) ((7 + 2 * a .d) ∷ [])) (laid-append (laid-append (c .before .before .before .before .before .before .before .before .before .before .before .before .before .before .repeat .ensures) (c .before .before .before .before .before .before .before .before .before .repeat2 .ensures)) (c .before .before .before .before .repeat3 .ensures)) h4
 
--- src/expand.rt:58:1
 same-length : tie.Need-same-length
 same-length c = search needs
 
--- src/expand.rt:58:1
 returns : tie.Need-returns
 unfolding andHeads
 returns c = laid-append (laid-append (laid-append (c .before .before .before .before .before .before .before .before .before .before .before .before .before .before .before .before .before .repeat .ensures) (c .before .before .before .before .before .before .before .before .before .before .before .before .repeat2 .ensures)) (c .before .before .before .before .before .before .before .repeat3 .ensures)) (c .before .before .repeat4 .ensures)

@@ -1,23 +1,18 @@
-use Rattle.evaluation.proofs.Lays.{laid-length, laid-same}
-use Rattle.evaluation.proofs.Expanding.{Expanding, expanding-start, frame-taken, no-refusal, all-expanded}
-use Rattle.evaluation.specs.Frames.{frameWords, Sized}
-use Rattle.checker.specs.Walk.{operandsAt, stepAt}
-use Rattle.checker.specs.declared.walk.Step.the-variants.{Next, Refused, End}
-use Rattle.circuit.specs.Lists.{nth}
-use lib.ListN.{length}
+-- `evaluation::expand::expand` meets its contract.
 use mathlib.Core.List.{List}
 use mathlib.Core.Path.{_≡_, refl, sym, ap, subst, _∙_}
-use Prim.Native.Nat.{_≤_, _<_, _-_, _+_, _*_, ℕ}
-use borrow.Author.Needs.{needs}
+use Prim.Native.Nat.{_≤_, _-_, _+_, ℕ}
 use native.Mathlib.Omega.{arith}
+use lib.ListN.{length}
+use borrow.Author.Needs.{needs}
+use Rattle.circuit.specs.Lists.{nth}
+use Rattle.checker.specs.Walk.{operandsAt, stepAt}
+use Rattle.checker.specs.declared.walk.Step.the-variants.{Next, Refused, End}
+use Rattle.evaluation.specs.Frames.{frameWords, Sized}
+use Rattle.evaluation.proofs.Lays.{laid-length, laid-same}
+use Rattle.evaluation.proofs.Expanding.{Expanding, expanding-start, frame-taken, no-refusal, all-expanded}
 use Rattle.evaluation.proofs.expand.expand.Statement.{statement}
 use Rattle.evaluation.proofs.expand.expand.Tie as tie
-use Rattle.evaluation.proofs.expand.expand.Reads as reads
-use Rattle.evaluation.proofs.expand.expand.Lts as lts
-use Rattle.checker.proofs.walk.Walk.operands.Reads as operands-reads
-use Rattle.checker.proofs.walk.Walk.step.Reads as step-reads
-use Rattle.evaluation.proofs.expand.frame_heads.Reads as frame-heads-reads
-use Rattle.evaluation.proofs.expand.frame_words.Reads as frame-words-reads
 
 abbrev Inv-loop : tie.InvT-loop
 Inv-loop table heads₀ words₀ d n walk₀ ends₀ heads words walk ends =
@@ -27,37 +22,29 @@ Inv-loop table heads₀ words₀ d n walk₀ ends₀ heads words walk ends =
 abbrev μ-loop : tie.MeasureT-loop
 μ-loop table heads₀ words₀ d n walk₀ ends₀ heads words walk ends = length table - walk .at
 
--- src/expand.rt:153:13
 shared-slice-read-d : tie.Need-shared-slice-read-d Inv-loop μ-loop
 shared-slice-read-d c = omega (arith, c .before .before .before .before .pre .0 .headed)
 
--- src/expand.rt:154:13
 cast-n : tie.Need-cast-n Inv-loop μ-loop
 cast-n c = record { fits = omega (arith, c .before .before .before .before .pre .0 .most) }
 
--- src/expand.rt:161:5
 loop-holds : tie.Need-loop-holds Inv-loop μ-loop
 loop-holds c =
     let a = c .before .before .before .before .args in
     (refl, omega (arith, c .before .before .before .before .pre .0 .headed), expanding-start (a .table .now) (a .heads .now) (a .words .now))
 
--- src/expand.rt:162:13
 step-requires : tie.Need-step-requires Inv-loop μ-loop
 step-requires c κs = search needs
 
--- src/expand.rt:165:17
 enum-told : tie.Need-enum-told Inv-loop μ-loop
 enum-told c = search needs
 
--- src/expand.rt:165:17
 same-length : tie.Need-same-length Inv-loop μ-loop
 same-length c = laid-length (c .before .before .before .loop .inv .2 .headsLaid)
 
--- src/expand.rt:165:17
 same-length-2 : tie.Need-same-length-2 Inv-loop μ-loop
 same-length-2 c = laid-length (c .before .before .before .loop .inv .2 .wordsLaid)
 
--- src/expand.rt:165:17
 returns : tie.Need-returns Inv-loop μ-loop
 returns c =
     let a = c .before .before .before .before .before .before .before .before .args in
@@ -67,19 +54,15 @@ returns c =
     let x = l .inv .2 in
     all-expanded table (a .heads .now) (a .words .now) (l .heads) (l .words) (l .walk .at) (l .ends .wires) (l .ends .words) (l .ends .shares) (pre .0) x (subst (λ n. stepAt table n (l .walk .at) ≡ End) (l .inv .0) (sym (c .before .before .step .ensures) ∙ c .enum-told .given .1)) (pre .1) (pre .2)
 
--- src/expand.rt:168:17
 enum-told-2 : tie.Need-enum-told-2 Inv-loop μ-loop
 enum-told-2 c = search needs
 
--- src/expand.rt:168:17
 same-length-3 : tie.Need-same-length-3 Inv-loop μ-loop
 same-length-3 c = laid-length (c .before .before .before .loop .inv .2 .headsLaid)
 
--- src/expand.rt:168:17
 same-length-4 : tie.Need-same-length-4 Inv-loop μ-loop
 same-length-4 c = laid-length (c .before .before .before .loop .inv .2 .wordsLaid)
 
--- src/expand.rt:168:17
 returns-2 : tie.Need-returns-2 Inv-loop μ-loop
 returns-2 c =
     let a = c .before .before .before .before .before .before .before .before .args in
@@ -89,15 +72,12 @@ returns-2 c =
     let x = l .inv .2 in
     absurd (no-refusal table (a .heads .now) (a .words .now) (l .heads) (l .words) (l .walk .at) (l .ends .wires) (l .ends .words) (l .ends .shares) (pre .0) x (c .enum-told2 .given .0 .0) (subst (λ n. stepAt table n (l .walk .at) ≡ Refused (c .enum-told2 .given .0 .0)) (l .inv .0) (sym (c .before .before .step .ensures) ∙ c .enum-told2 .given .1)))
 
--- src/expand.rt:171:17
 enum-known-step : tie.Need-enum-known-step Inv-loop μ-loop
 enum-known-step c = search needs
 
--- src/expand.rt:175:21
 operands-requires : tie.Need-operands-requires Inv-loop μ-loop
 operands-requires c κs = search needs
 
--- src/expand.rt:176:21
 frame-heads-requires : tie.Need-frame-heads-requires Inv-loop μ-loop
 frame-heads-requires c κs =
     let a = c .before .before .before .before .before .before .before .before .before .before .before .args in
@@ -110,7 +90,6 @@ frame-heads-requires c κs =
     let t = frame-taken table (a .heads .now) (a .words .now) (l .heads) (l .words) (l .walk .at) (l .ends .wires) (l .ends .words) (l .ends .shares) (pre .0) x (g .0 .0) (g .0 .1 .0) (g .0 .1 .1 .0) e in
     (omega (arith, t .room, laid-length (x .headsLaid), pre .1), omega (arith, pre .0 .least), omega (arith, pre .0 .most))
 
--- src/expand.rt:177:21
 frame-words-requires : tie.Need-frame-words-requires Inv-loop μ-loop
 frame-words-requires c κs =
     let a = c .before .before .before .before .before .before .before .before .before .before .before .before .before .before .before .args in
@@ -130,7 +109,6 @@ frame-words-requires c κs =
       subst (Sized (g .0 .0) (nth table 1)) (sym o) (t .sized),
     )
 
--- src/expand.rt:181:43
 mul-t21 : tie.Need-mul-t21 Inv-loop μ-loop
 mul-t21 c =
     let a = c .before .before .before .before .before .before .before .before .before .before .before .before .before .before .before .before .before .before .before .args in
@@ -143,7 +121,6 @@ mul-t21 c =
     let t = frame-taken table (a .heads .now) (a .words .now) (l .heads) (l .words) (l .walk .at) (l .ends .wires) (l .ends .words) (l .ends .shares) (pre .0) x (g .0 .0) (g .0 .1 .0) (g .0 .1 .1 .0) e in
     record { fits = omega (arith, t .brings) }
 
--- src/expand.rt:181:29
 add-t22 : tie.Need-add-t22 Inv-loop μ-loop
 add-t22 c =
     let a = c .before .before .before .before .before .before .before .before .before .before .before .before .before .before .before .before .before .before .before .before .args in
@@ -156,7 +133,6 @@ add-t22 c =
     let t = frame-taken table (a .heads .now) (a .words .now) (l .heads) (l .words) (l .walk .at) (l .ends .wires) (l .ends .words) (l .ends .shares) (pre .0) x (g .0 .0) (g .0 .1 .0) (g .0 .1 .1 .0) e in
     record { fits = omega (arith, t .brings) }
 
--- src/expand.rt:161:5
 loop-less : tie.Need-loop-less Inv-loop μ-loop
 loop-less c =
     let a = c .before .before .before .before .before .before .before .before .before .before .before .before .before .before .before .before .before .before .before .before .args in
@@ -169,7 +145,6 @@ loop-less c =
     let t = frame-taken table (a .heads .now) (a .words .now) (l .heads) (l .words) (l .walk .at) (l .ends .wires) (l .ends .words) (l .ends .shares) (pre .0) x (g .0 .0) (g .0 .1 .0) (g .0 .1 .1 .0) e in
     omega (arith, t .later, t .ends)
 
--- src/expand.rt:161:5
 loop-again : tie.Need-loop-again Inv-loop μ-loop
 loop-again c =
     let a = c .before .before .before .before .before .before .before .before .before .before .before .before .before .before .before .before .before .before .before .before .args in

@@ -1,72 +1,56 @@
-use Rattle.evaluation.proofs.Lays.{laid-same}
-use Rattle.evaluation.specs.Frames.{frameWords, Sized}
+-- `evaluation::expand::frame_words` meets its contract.
+use mathlib.Core.Path.{sym, ap, subst}
+use Prim.Native.Nat.{_≤_, _+_}
 use lib.ListN.{length}
-use Prim.Native.Nat.{_≤_, _-_, _+_, _*_}
-use mathlib.Core.Path.{_≡_, sym, ap, subst}
 use borrow.Author.Needs.{needs}
+use Rattle.evaluation.specs.Frames.{frameWords, Sized}
+use Rattle.evaluation.proofs.Lays.{laid-same}
 use Rattle.evaluation.proofs.expand.frame_words.Statement.{statement}
 use Rattle.evaluation.proofs.expand.frame_words.Tie as tie
-use Rattle.evaluation.proofs.expand.frame_words.Reads as reads
-use Rattle.evaluation.proofs.expand.frame_words.Lts as lts
-use Rattle.evaluation.proofs.expand.gate_words.Reads as gate-words-reads
-use Rattle.evaluation.proofs.gadget.and.Reads as and-reads
-use Rattle.evaluation.proofs.gadget.refresh.Reads as refresh-reads
 
--- src/expand.rt:142:21
 enum-known-frame : tie.Need-enum-known-frame
 enum-known-frame c = search needs
 
--- src/expand.rt:142:30
 gate-words-requires : tie.Need-gate-words-requires
 gate-words-requires c κs =
     let a = c .before .before .before .before .before .before .args in
     (subst (λ f. a .ends .words + length (frameWords f (a .d) (a .ends .wires) (a .ends .shares) (a .ops .now)) ≤ length (a .sheet .now)) (c .before .before .frame .given .1) (c .before .before .before .before .before .before .pre .0), search needs, search needs)
 
--- src/expand.rt:143:35
 enum-told : tie.Need-enum-told
 enum-told c = search needs
 
--- src/expand.rt:143:23
 and-requires : tie.Need-and-requires
 and-requires c κs =
     let a = c .before .before .before .before .before .args in
     (subst (λ f. a .ends .words + length (frameWords f (a .d) (a .ends .wires) (a .ends .shares) (a .ops .now)) ≤ length (a .sheet .now)) (c .before .enum-told .given .1) (c .before .before .before .before .before .pre .0), (search needs, search needs, subst (λ f. Sized f (a .d) (a .ops .now)) (c .before .enum-told .given .1) (c .before .before .before .before .before .pre .5)), search needs)
 
--- src/expand.rt:144:39
 enum-told-2 : tie.Need-enum-told-2
 enum-told-2 c = search needs
 
--- src/expand.rt:144:23
 refresh-requires : tie.Need-refresh-requires
 refresh-requires c κs =
     let a = c .before .before .before .before .before .args in
     (subst (λ f. a .ends .words + length (frameWords f (a .d) (a .ends .wires) (a .ends .shares) (a .ops .now)) ≤ length (a .sheet .now)) (c .before .enum-told2 .given .1) (c .before .before .before .before .before .pre .0), search needs, search needs, subst (λ f. Sized f (a .d) (a .ops .now)) (c .before .enum-told2 .given .1) (c .before .before .before .before .before .pre .5), search needs)
 
--- src/expand.rt:135:1
 same-length : tie.Need-same-length
 same-length c = search needs
 
--- src/expand.rt:135:1
 returns : tie.Need-returns
 returns c =
     let a = c .before .before .before .before .before .before .before .before .before .args in
     laid-same (ap (λ f. frameWords f (a .d) (a .ends .wires) (a .ends .shares) (a .ops .now)) (sym (c .before .before .before .before .before .frame .given .1))) (c .before .before .gate-words .ensures)
 
--- src/expand.rt:135:1
 same-length-2 : tie.Need-same-length-2
 same-length-2 c = search needs
 
--- src/expand.rt:135:1
 returns-2 : tie.Need-returns-2
 returns-2 c =
     let a = c .before .before .before .before .before .before .before .before .args in
     laid-same (ap (λ f. frameWords f (a .d) (a .ends .wires) (a .ends .shares) (a .ops .now)) (sym (c .before .before .before .before .enum-told .given .1))) (c .before .before .and .ensures)
 
--- src/expand.rt:135:1
 same-length-3 : tie.Need-same-length-3
 same-length-3 c = search needs
 
--- src/expand.rt:135:1
 returns-3 : tie.Need-returns-3
 returns-3 c =
     let a = c .before .before .before .before .before .before .before .before .args in

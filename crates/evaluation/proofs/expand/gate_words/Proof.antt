@@ -1,113 +1,87 @@
-use Rattle.evaluation.proofs.Lays.{laid-same, laid-none}
-use Rattle.evaluation.specs.Frames.{gateWords}
+-- `evaluation::expand::gate_words` meets its contract.
+use mathlib.Core.Path.{sym, ap, subst}
+use Prim.Native.Nat.{_≤_, _+_}
 use lib.ListN.{length}
-use Prim.Native.Nat.{_≤_, _-_, _+_, _*_}
-use mathlib.Core.Path.{_≡_, sym, ap, subst}
 use borrow.Author.Needs.{needs}
+use Rattle.evaluation.specs.Frames.{gateWords}
+use Rattle.evaluation.proofs.Lays.{laid-same, laid-none}
 use Rattle.evaluation.proofs.expand.gate_words.Statement.{statement}
 use Rattle.evaluation.proofs.expand.gate_words.Tie as tie
-use Rattle.evaluation.proofs.expand.gate_words.Reads as reads
-use Rattle.evaluation.proofs.expand.gate_words.Lts as lts
-use Rattle.evaluation.proofs.sheet.copy.Reads as copy-reads
-use Rattle.evaluation.proofs.sheet.progression.Reads as progression-reads
 
--- src/expand.rt:105:46
 enum-told : tie.Need-enum-told
 enum-told c = search needs
 
--- src/expand.rt:105:34
 progression-requires : tie.Need-progression-requires
 progression-requires c κs =
     let a = c .before .before .before .before .args in
     (subst (λ g. a .at + length (gateWords g (a .d) (a .shares)) ≤ length (a .sheet .now)) (c .before .enum-told .given .1) (c .before .before .before .before .pre .0), search needs, search needs, search needs)
 
--- src/expand.rt:110:14
 enum-told-2 : tie.Need-enum-told-2
 enum-told-2 c = search needs
 
--- src/expand.rt:111:21
 enum-known-gate : tie.Need-enum-known-gate
 enum-known-gate c = search needs
 
--- src/expand.rt:113:29
 slice-aggregate-copy : tie.Need-slice-aggregate-copy
 slice-aggregate-copy c = search needs
 
--- src/expand.rt:113:13
 copy-requires : tie.Need-copy-requires
 copy-requires c κs =
     let a = c .before .before .before .before .before .before .args in
     subst (λ g. a .at + length (gateWords g (a .d) (a .shares)) ≤ length (a .sheet .now)) (c .before .before .before .gate .given .1) (c .before .before .before .before .before .before .pre .0)
 
--- src/expand.rt:115:21
 enum-known-gate-2 : tie.Need-enum-known-gate-2
 enum-known-gate-2 c = search needs
 
--- src/expand.rt:117:29
 slice-aggregate-copy-2 : tie.Need-slice-aggregate-copy-2
 slice-aggregate-copy-2 c = search needs
 
--- src/expand.rt:117:13
 copy-requires-2 : tie.Need-copy-requires-2
 copy-requires-2 c κs =
     let a = c .before .before .before .before .before .before .args in
     subst (λ g. a .at + length (gateWords g (a .d) (a .shares)) ≤ length (a .sheet .now)) (c .before .before .before .gate2 .given .1) (c .before .before .before .before .before .before .pre .0)
 
--- src/expand.rt:119:21
 enum-known-gate-3 : tie.Need-enum-known-gate-3
 enum-known-gate-3 c = search needs
 
--- src/expand.rt:121:29
 slice-aggregate-copy-3 : tie.Need-slice-aggregate-copy-3
 slice-aggregate-copy-3 c = search needs
 
--- src/expand.rt:121:13
 copy-requires-3 : tie.Need-copy-requires-3
 copy-requires-3 c κs =
     let a = c .before .before .before .before .before .before .args in
     subst (λ g. a .at + length (gateWords g (a .d) (a .shares)) ≤ length (a .sheet .now)) (c .before .before .before .gate3 .given .1) (c .before .before .before .before .before .before .pre .0)
 
--- src/expand.rt:123:22
 enum-told-3 : tie.Need-enum-told-3
 enum-told-3 c = search needs
 
--- src/expand.rt:100:1
 same-length : tie.Need-same-length
 same-length c = search needs
 
--- src/expand.rt:100:1
 returns : tie.Need-returns
 returns c = laid-same (ap (λ g. gateWords g (c .before .before .before .before .before .before .before .args .d) (c .before .before .before .before .before .before .before .args .shares)) (sym (c .before .before .before .before .enum-told .given .1))) (c .before .before .progression .ensures)
 
--- src/expand.rt:100:1
 returns-2 : tie.Need-returns-2
 returns-2 c = laid-same (ap (λ g. gateWords g (c .before .before .before .args .d) (c .before .before .before .args .shares)) (sym (c .enum-told2 .given .1))) (laid-none (c .before .before .before .args .sheet .now) (c .before .before .before .args .at))
 
--- src/expand.rt:100:1
 same-length-2 : tie.Need-same-length-2
 same-length-2 c = search needs
 
--- src/expand.rt:100:1
 returns-3 : tie.Need-returns-3
 returns-3 c = laid-same (ap (λ g. gateWords g (c .before .before .before .before .before .before .before .before .before .args .d) (c .before .before .before .before .before .before .before .before .before .args .shares)) (sym (c .before .before .before .before .before .before .gate .given .1))) (c .before .before .copy .ensures)
 
--- src/expand.rt:100:1
 same-length-3 : tie.Need-same-length-3
 same-length-3 c = search needs
 
--- src/expand.rt:100:1
 returns-4 : tie.Need-returns-4
 returns-4 c = laid-same (ap (λ g. gateWords g (c .before .before .before .before .before .before .before .before .before .args .d) (c .before .before .before .before .before .before .before .before .before .args .shares)) (sym (c .before .before .before .before .before .before .gate2 .given .1))) (c .before .before .copy2 .ensures)
 
--- src/expand.rt:100:1
 same-length-4 : tie.Need-same-length-4
 same-length-4 c = search needs
 
--- src/expand.rt:100:1
 returns-5 : tie.Need-returns-5
 returns-5 c = laid-same (ap (λ g. gateWords g (c .before .before .before .before .before .before .before .before .before .args .d) (c .before .before .before .before .before .before .before .before .before .args .shares)) (sym (c .before .before .before .before .before .before .gate3 .given .1))) (c .before .before .copy3 .ensures)
 
--- src/expand.rt:100:1
 returns-6 : tie.Need-returns-6
 returns-6 c = laid-same (ap (λ g. gateWords g (c .before .before .before .args .d) (c .before .before .before .args .shares)) (sym (c .enum-told3 .given .1))) (laid-none (c .before .before .before .args .sheet .now) (c .before .before .before .args .at))
 

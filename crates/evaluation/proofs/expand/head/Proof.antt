@@ -1,59 +1,45 @@
+-- `evaluation::expand::head` meets its contract.
 use borrow.Author.Tests.{lt-ltb, le-ltb}
 use borrow.Author.Needs.{needs}
 use Rattle.evaluation.proofs.expand.head.Statement.{statement}
 use Rattle.evaluation.proofs.expand.head.Tie as tie
-use Rattle.evaluation.proofs.expand.head.Reads as reads
-use Rattle.evaluation.proofs.expand.head.Lts as lts
 
--- src/expand.rt:21:34
 enum-told : tie.Need-enum-told
 enum-told c = search needs
 
--- src/expand.rt:24:13
 enum-known-gate : tie.Need-enum-known-gate
 enum-known-gate c = search needs
 
--- src/expand.rt:30:14
 enum-told-2 : tie.Need-enum-told-2
 enum-told-2 c = search needs
 
--- src/expand.rt:31:34
 enum-told-3 : tie.Need-enum-told-3
 enum-told-3 c = search needs
 
--- src/expand.rt:32:34
 enum-told-4 : tie.Need-enum-told-4
 enum-told-4 c = search needs
 
--- src/expand.rt:33:22
 enum-told-5 : tie.Need-enum-told-5
 enum-told-5 c = search needs
 
--- src/expand.rt:17:1
 returns : tie.Need-returns
 returns c = search needs
 
--- src/expand.rt:17:1
 returns-2 : tie.Need-returns-2
 returns-2 c = rw (c .before .before .gate .given .1, lt-ltb _ _ (c .if1 .taken))
 
--- src/expand.rt:17:1
 returns-3 : tie.Need-returns-3
 returns-3 c = rw (c .before .before .gate .given .1, le-ltb _ _ (c .if1 .left))
 
--- src/expand.rt:17:1
 returns-4 : tie.Need-returns-4
 returns-4 c = search needs
 
--- src/expand.rt:17:1
 returns-5 : tie.Need-returns-5
 returns-5 c = search needs
 
--- src/expand.rt:17:1
 returns-6 : tie.Need-returns-6
 returns-6 c = search needs
 
--- src/expand.rt:17:1
 returns-7 : tie.Need-returns-7
 returns-7 c = search needs
 

@@ -1,39 +1,31 @@
-use Rattle.evaluation.proofs.Lays.{laid-append, room-first, room-next}
-use Rattle.evaluation.specs.Laying.{repeated}
-use Rattle.evaluation.specs.Frames.{refHeads}
-use Rattle.circuit.specs.Kinds.{pairs}
-use Rattle.evaluation.proofs.Bounds.{eights}
-use Prim.Native.Nat.{_≤_, _-_, _+_, _*_}
+-- `evaluation::expand::ref_heads` meets its contract.
 use mathlib.Core.List.{[], _∷_, _++_}
+use Prim.Native.Nat.{_-_, _+_}
 use native.Mathlib.Omega.{arith}
 use borrow.Author.Needs.{needs}
+use Rattle.circuit.specs.Kinds.{pairs}
+use Rattle.evaluation.specs.Laying.{repeated}
+use Rattle.evaluation.specs.Frames.{refHeads}
+use Rattle.evaluation.proofs.Lays.{laid-append, room-first, room-next}
+use Rattle.evaluation.proofs.Bounds.{eights}
 use Rattle.evaluation.proofs.expand.ref_heads.Statement.{statement}
 use Rattle.evaluation.proofs.expand.ref_heads.Tie as tie
-use Rattle.evaluation.proofs.expand.ref_heads.Reads as reads
-use Rattle.evaluation.proofs.expand.ref_heads.Lts as lts
-use Rattle.evaluation.proofs.sheet.repeat.Reads as repeat-reads
 
--- src/expand.rt:77:17
 add-t9 : tie.Need-add-t9
 add-t9 c = search needs
 
--- src/expand.rt:77:16
 cast-t10 : tie.Need-cast-t10
 cast-t10 c = search needs
 
--- src/expand.rt:79:36
 slice-aggregate-repeat : tie.Need-slice-aggregate-repeat
 slice-aggregate-repeat c = search needs
 
--- src/expand.rt:79:49
 sub-repeat : tie.Need-sub-repeat
 sub-repeat c = search needs
 
--- src/expand.rt:79:44
 mul-repeat : tie.Need-mul-repeat
 mul-repeat c = record { fits = omega (arith, eights (c .before .before .before .args .d) (c .before .before .before .args .d - 1) (omega arith) (omega arith)) }
 
--- src/expand.rt:79:9
 repeat-requires : tie.Need-repeat-requires
 unfolding refHeads
 repeat-requires c κs =
@@ -42,11 +34,9 @@ repeat-requires c κs =
     let h2 = room-first (a .at) ((repeated (pairs (a .d)) (3 ∷ [])) ++ (repeated (a .d) ((8 + a .d) ∷ []))) (repeated (a .d) (4 ∷ [])) h3 in
     room-first (a .at) (repeated (pairs (a .d)) (3 ∷ [])) (repeated (a .d) ((8 + a .d) ∷ [])) h2
 
--- src/expand.rt:80:39
 slice-aggregate-repeat-2 : tie.Need-slice-aggregate-repeat-2
 slice-aggregate-repeat-2 c = search needs
 
--- src/expand.rt:80:9
 repeat-requires-2 : tie.Need-repeat-requires-2
 unfolding refHeads
 repeat-requires-2 c κs =
@@ -55,11 +45,9 @@ repeat-requires-2 c κs =
     let h2 = room-first (a .at) ((repeated (pairs (a .d)) (3 ∷ [])) ++ (repeated (a .d) ((8 + a .d) ∷ []))) (repeated (a .d) (4 ∷ [])) h3 in
     room-next (repeated (a .d) ((8 + a .d) ∷ [])) (c .before .before .before .before .repeat .ensures) h2
 
--- src/expand.rt:81:26
 slice-aggregate-repeat-3 : tie.Need-slice-aggregate-repeat-3
 slice-aggregate-repeat-3 c = search needs
 
--- src/expand.rt:81:5
 repeat-requires-3 : tie.Need-repeat-requires-3
 unfolding refHeads
 repeat-requires-3 c κs =
@@ -68,11 +56,9 @@ repeat-requires-3 c κs =
     let h2 = room-first (a .at) ((repeated (pairs (a .d)) (3 ∷ [])) ++ (repeated (a .d) ((8 + a .d) ∷ []))) (repeated (a .d) (4 ∷ [])) h3 in
     room-next (repeated (a .d) (4 ∷ [])) (laid-append (c .before .before .before .before .before .before .before .before .before .repeat .ensures) (c .before .before .before .before .repeat2 .ensures)) h3
 
--- src/expand.rt:72:1
 same-length : tie.Need-same-length
 same-length c = search needs
 
--- src/expand.rt:72:1
 returns : tie.Need-returns
 unfolding refHeads
 returns c = laid-append (laid-append (c .before .before .before .before .before .before .before .before .before .before .before .before .repeat .ensures) (c .before .before .before .before .before .before .before .repeat2 .ensures)) (c .before .before .repeat3 .ensures)

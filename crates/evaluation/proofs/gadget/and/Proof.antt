@@ -1,30 +1,22 @@
-use Rattle.evaluation.proofs.Lays.{laid-append, room-first, room-next}
-use Rattle.evaluation.specs.Layout.{andWords, ownsWords, rowsWords, outsWords, wordA, wordB}
-use Rattle.evaluation.specs.Laying.{steps}
-use Rattle.circuit.specs.Kinds.{pairs}
-use Rattle.evaluation.proofs.Bounds.{eights}
-use Prim.Native.Nat.{_≤_, _-_, _+_, _*_}
+-- `evaluation::gadget::and` meets its contract.
 use mathlib.Core.List.{_++_}
+use Prim.Native.Nat.{_-_}
 use native.Mathlib.Omega.{arith}
 use borrow.Author.Needs.{needs}
+use Rattle.circuit.specs.Kinds.{pairs}
+use Rattle.evaluation.specs.Layout.{andWords, ownsWords, rowsWords, outsWords, wordA, wordB}
+use Rattle.evaluation.specs.Laying.{steps}
+use Rattle.evaluation.proofs.Lays.{laid-append, room-first, room-next}
+use Rattle.evaluation.proofs.Bounds.{eights}
 use Rattle.evaluation.proofs.gadget.and.Statement.{statement}
 use Rattle.evaluation.proofs.gadget.and.Tie as tie
-use Rattle.evaluation.proofs.gadget.and.Reads as reads
-use Rattle.evaluation.proofs.gadget.and.Lts as lts
-use Rattle.evaluation.proofs.gadget.outs.Reads as outs-reads
-use Rattle.evaluation.proofs.gadget.owns.Reads as owns-reads
-use Rattle.evaluation.proofs.gadget.rows.Reads as rows-reads
-use Rattle.evaluation.proofs.sheet.progression.Reads as progression-reads
 
--- src/gadget.rt:157:56
 sub-progression : tie.Need-sub-progression
 sub-progression c = search needs
 
--- src/gadget.rt:157:51
 mul-progression : tie.Need-mul-progression
 mul-progression c = record { fits = omega (arith, eights (c .before .before .before .args .d) (c .before .before .before .args .d - 1) (omega arith) (omega arith)) }
 
--- src/gadget.rt:157:9
 progression-requires : tie.Need-progression-requires
 unfolding andWords
 progression-requires c κs =
@@ -34,7 +26,6 @@ progression-requires c κs =
     let h2 = room-first (a .at) ((steps (a .first) 2 (pairs (a .d))) ++ (ownsWords (a .d) (a .first) (wordA (a .ops .now)) (wordB (a .d) (a .ops .now)))) (rowsWords (a .d) (a .first) (wordA (a .ops .now)) (wordB (a .d) (a .ops .now))) h3 in
     (room-first (a .at) (steps (a .first) 2 (pairs (a .d))) (ownsWords (a .d) (a .first) (wordA (a .ops .now)) (wordB (a .d) (a .ops .now))) h2, search needs, search needs, omega (arith, eights (c .before .before .before .args .d) (c .before .before .before .args .d - 1) (omega arith) (omega arith)))
 
--- src/gadget.rt:158:9
 owns-requires : tie.Need-owns-requires
 unfolding andWords
 owns-requires c κs =
@@ -44,7 +35,6 @@ owns-requires c κs =
     let h2 = room-first (a .at) ((steps (a .first) 2 (pairs (a .d))) ++ (ownsWords (a .d) (a .first) (wordA (a .ops .now)) (wordB (a .d) (a .ops .now)))) (rowsWords (a .d) (a .first) (wordA (a .ops .now)) (wordB (a .d) (a .ops .now))) h3 in
     (room-next (ownsWords (a .d) (a .first) (wordA (a .ops .now)) (wordB (a .d) (a .ops .now))) (c .before .before .before .progression .ensures) h2, (search needs, search needs, search needs))
 
--- src/gadget.rt:159:9
 rows-requires : tie.Need-rows-requires
 unfolding andWords
 rows-requires c κs =
@@ -54,7 +44,6 @@ rows-requires c κs =
     let h2 = room-first (a .at) ((steps (a .first) 2 (pairs (a .d))) ++ (ownsWords (a .d) (a .first) (wordA (a .ops .now)) (wordB (a .d) (a .ops .now)))) (rowsWords (a .d) (a .first) (wordA (a .ops .now)) (wordB (a .d) (a .ops .now))) h3 in
     (room-next (rowsWords (a .d) (a .first) (wordA (a .ops .now)) (wordB (a .d) (a .ops .now))) (laid-append (c .before .before .before .before .before .before .before .progression .ensures) (c .before .before .before .owns .ensures)) h3, (search needs, search needs, search needs))
 
--- src/gadget.rt:160:5
 outs-requires : tie.Need-outs-requires
 unfolding andWords
 outs-requires c κs =
@@ -64,11 +53,9 @@ outs-requires c κs =
     let h2 = room-first (a .at) ((steps (a .first) 2 (pairs (a .d))) ++ (ownsWords (a .d) (a .first) (wordA (a .ops .now)) (wordB (a .d) (a .ops .now)))) (rowsWords (a .d) (a .first) (wordA (a .ops .now)) (wordB (a .d) (a .ops .now))) h3 in
     (room-next (outsWords (a .d) (a .first)) (laid-append (laid-append (c .before .before .before .before .before .before .before .before .before .before .before .progression .ensures) (c .before .before .before .before .before .before .before .owns .ensures)) (c .before .before .before .rows .ensures)) h4, search needs, search needs)
 
--- src/gadget.rt:153:1
 same-length : tie.Need-same-length
 same-length c = search needs
 
--- src/gadget.rt:153:1
 returns : tie.Need-returns
 unfolding andWords
 returns c = laid-append (laid-append (laid-append (c .before .before .before .before .before .before .before .before .before .before .before .before .before .before .progression .ensures) (c .before .before .before .before .before .before .before .before .before .before .owns .ensures)) (c .before .before .before .before .before .before .rows .ensures)) (c .before .before .outs .ensures)

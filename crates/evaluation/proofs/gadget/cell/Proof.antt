@@ -1,140 +1,103 @@
-use Rattle.evaluation.proofs.Cells.{cell-same}
-use Rattle.evaluation.specs.Layout.{wordA, wordB}
+-- `evaluation::gadget::cell` meets its contract.
 use borrow.Author.Needs.{needs}
+use Rattle.evaluation.specs.Layout.{wordA, wordB}
+use Rattle.evaluation.proofs.Cells.{cell-same}
 use Rattle.evaluation.proofs.gadget.cell.Statement.{statement}
 use Rattle.evaluation.proofs.gadget.cell.Tie as tie
-use Rattle.evaluation.proofs.gadget.cell.Reads as reads
-use Rattle.evaluation.proofs.gadget.cell.Lts as lts
-use Rattle.evaluation.proofs.gadget.cell_row.Reads as cell-row-reads
-use Rattle.evaluation.proofs.gadget.pair_site.Reads as pair-site-reads
-use Rattle.evaluation.proofs.gadget.slot.Reads as slot-reads
-use Rattle.evaluation.proofs.sheet.copy.Reads as copy-reads
 
--- src/gadget.rt:83:25
 pair-site-requires : tie.Need-pair-site-requires
 pair-site-requires c κs = search needs
 
--- src/gadget.rt:83:21
 mul-r : tie.Need-mul-r
 mul-r c = search needs
 
--- src/gadget.rt:83:13
 add-r : tie.Need-add-r
 add-r c = search needs
 
--- src/gadget.rt:84:22
 cell-row-requires : tie.Need-cell-row-requires
 cell-row-requires c κs = search needs
 
--- src/gadget.rt:84:43
 slot-requires : tie.Need-slot-requires
 slot-requires c κs = search needs
 
--- src/gadget.rt:84:39
 mul-u : tie.Need-mul-u
 mul-u c = search needs
 
--- src/gadget.rt:84:22
 add-u : tie.Need-add-u
 add-u c = search needs
 
--- src/gadget.rt:84:13
 add-u-2 : tie.Need-add-u-2
 add-u-2 c = search needs
 
--- src/gadget.rt:86:13
 add-t11 : tie.Need-add-t11
 add-t11 c = search needs
 
--- src/gadget.rt:86:9
 mul-t14 : tie.Need-mul-t14
 mul-t14 c = search needs
 
--- src/gadget.rt:86:9
 shared-slice-read-t16 : tie.Need-shared-slice-read-t16
 shared-slice-read-t16 c = search needs
 
--- src/gadget.rt:87:10
 add-t13 : tie.Need-add-t13
 add-t13 c = search needs
 
--- src/gadget.rt:87:9
 cast-t17 : tie.Need-cast-t17
 cast-t17 c = search needs
 
--- src/gadget.rt:88:9
 cast-t18 : tie.Need-cast-t18
 cast-t18 c = search needs
 
--- src/gadget.rt:89:13
 add-t12 : tie.Need-add-t12
 add-t12 c = search needs
 
--- src/gadget.rt:89:13
 add-t19 : tie.Need-add-t19
 add-t19 c = search needs
 
--- src/gadget.rt:89:9
 mul-t20 : tie.Need-mul-t20
 mul-t20 c = search needs
 
--- src/gadget.rt:89:9
 shared-slice-read-t22 : tie.Need-shared-slice-read-t22
 shared-slice-read-t22 c = search needs
 
--- src/gadget.rt:90:9
 cast-t23 : tie.Need-cast-t23
 cast-t23 c = search needs
 
--- src/gadget.rt:91:10
 add-t24 : tie.Need-add-t24
 add-t24 c = search needs
 
--- src/gadget.rt:91:9
 cast-t25 : tie.Need-cast-t25
 cast-t25 c = search needs
 
--- src/gadget.rt:92:13
 add-t26 : tie.Need-add-t26
 add-t26 c = search needs
 
--- src/gadget.rt:92:9
 mul-t27 : tie.Need-mul-t27
 mul-t27 c = search needs
 
--- src/gadget.rt:92:9
 shared-slice-read-t29 : tie.Need-shared-slice-read-t29
 shared-slice-read-t29 c = search needs
 
--- src/gadget.rt:93:10
 add-t30 : tie.Need-add-t30
 add-t30 c = search needs
 
--- src/gadget.rt:93:9
 cast-t31 : tie.Need-cast-t31
 cast-t31 c = search needs
 
--- src/gadget.rt:94:10
 add-t32 : tie.Need-add-t32
 add-t32 c = search needs
 
--- src/gadget.rt:94:9
 cast-t33 : tie.Need-cast-t33
 cast-t33 c = search needs
 
--- src/gadget.rt:96:21
 slice-aggregate-copy : tie.Need-slice-aggregate-copy
 slice-aggregate-copy c = search needs
 
--- src/gadget.rt:96:5
 copy-requires : tie.Need-copy-requires
 copy-requires c κs = search needs
 
--- src/gadget.rt:71:1
 same-length : tie.Need-same-length
 same-length c = search needs
 
--- src/gadget.rt:71:1
 returns : tie.Need-returns
 returns c =
     let a = c .before .before .before .before .before .before .before .before .before .before .before .before .before .args in

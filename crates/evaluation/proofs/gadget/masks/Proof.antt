@@ -1,18 +1,15 @@
-use Rattle.evaluation.proofs.Lays.{Left, laid-same, left-start, left-turn, left-same, left-end, left-room, from, apart, row-start, row-turn, row-skip, row-end}
-use Rattle.evaluation.specs.Layout.{masksWords, pairSite}
-use Rattle.circuit.specs.Lists.{each, keep}
-use Prim.Native.Nat.{_≤_, _-_, _+_, _*_, ℕ}
+-- `evaluation::gadget::masks` meets its contract.
 use mathlib.Core.Logic.{⊎-elim}
 use mathlib.Core.Path.{sym, ap, subst₂}
 use mathlib.Core.List.{List, [], _∷_}
-use borrow.Author.Needs.{needs}
+use Prim.Native.Nat.{_≤_, _-_, _+_, ℕ}
 use native.Mathlib.Omega.{arith}
+use borrow.Author.Needs.{needs}
+use Rattle.circuit.specs.Lists.{each, keep}
+use Rattle.evaluation.specs.Layout.{masksWords, pairSite}
+use Rattle.evaluation.proofs.Lays.{Left, laid-same, left-start, left-turn, left-same, left-end, left-room, from, apart, row-start, row-turn, row-skip, row-end}
 use Rattle.evaluation.proofs.gadget.masks.Statement.{statement}
 use Rattle.evaluation.proofs.gadget.masks.Tie as tie
-use Rattle.evaluation.proofs.gadget.masks.Reads as reads
-use Rattle.evaluation.proofs.gadget.masks.Lts as lts
-use Rattle.evaluation.proofs.gadget.pair_site.Reads as pair-site-reads
-use Rattle.evaluation.proofs.sheet.copy.Reads as copy-reads
 
 abbrev Inv-loop : tie.InvT-loop
 Inv-loop sheet₀ at first d i place₀ j₀ sheet place j = (j ≤ d) × Left sheet₀ at (masksWords d first i) sheet place (each (keep (apart i) (from d j)) (λ m. (first + pairSite d i m) ∷ []))
@@ -20,7 +17,6 @@ Inv-loop sheet₀ at first d i place₀ j₀ sheet place j = (j ≤ d) × Left s
 abbrev μ-loop : tie.MeasureT-loop
 μ-loop sheet₀ at first d i place₀ j₀ sheet place j = d - j
 
--- src/gadget.rt:170:5
 loop-holds : tie.Need-loop-holds Inv-loop μ-loop
 unfolding masksWords
 loop-holds c =
@@ -28,23 +24,18 @@ loop-holds c =
     let g : ℕ → List ℕ = λ m. (a .first + pairSite (a .d) (a .i) m) ∷ [] in
     (search needs, left-start (a .sheet .now) (a .at) (masksWords (a .d) (a .first) (a .i)) (each (keep (apart (a .i)) (from (a .d) 0)) g) (row-start (a .d) (a .i) g))
 
--- src/gadget.rt:172:35
 pair-site-requires : tie.Need-pair-site-requires Inv-loop μ-loop
 pair-site-requires c κs = search needs
 
--- src/gadget.rt:172:27
 add-t11 : tie.Need-add-t11 Inv-loop μ-loop
 add-t11 c = search needs
 
--- src/gadget.rt:172:26
 cast-t12 : tie.Need-cast-t12 Inv-loop μ-loop
 cast-t12 c = search needs
 
--- src/gadget.rt:173:40
 slice-aggregate-copy : tie.Need-slice-aggregate-copy Inv-loop μ-loop
 slice-aggregate-copy c = search needs
 
--- src/gadget.rt:173:13
 copy-requires : tie.Need-copy-requires Inv-loop μ-loop
 copy-requires c κs =
     let a = c .before .before .before .before .before .before .before .args in
@@ -52,15 +43,12 @@ copy-requires c κs =
     let j = c .before .before .before .before .before .loop .j in
     left-room (g j) (each (keep (apart (a .i)) (from (a .d) (j + 1))) g) (c .before .before .before .before .before .loop .inv .1) (row-turn (a .d) (a .i) j g (c .before .before .before .before .loop-test .taken) (c .before .before .before .if1 .taken)) (c .before .before .before .before .before .before .before .pre .0)
 
--- src/gadget.rt:175:9
 add-j : tie.Need-add-j Inv-loop μ-loop
 add-j c = search needs
 
--- src/gadget.rt:170:5
 loop-less : tie.Need-loop-less Inv-loop μ-loop
 loop-less c = search needs
 
--- src/gadget.rt:170:5
 loop-again : tie.Need-loop-again Inv-loop μ-loop
 loop-again c =
     let a = c .before .before .before .before .args in
@@ -74,11 +62,9 @@ loop-again c =
           (c .if1 .came),
     )
 
--- src/gadget.rt:164:1
 same-length : tie.Need-same-length Inv-loop μ-loop
 same-length c = c .before .loop .inv .1 .size
 
--- src/gadget.rt:164:1
 returns : tie.Need-returns Inv-loop μ-loop
 returns c = left-end (c .before .loop .inv .1) (row-end (c .before .before .before .args .d) (c .before .before .before .args .i) (c .before .loop .j) _ (c .loop-test .left))
 

@@ -1,61 +1,46 @@
-use Rattle.evaluation.proofs.Lays.{laid-same, laid-append, room-first, room-next}
-use Rattle.evaluation.specs.Layout.{outWords, cellRow}
-use Rattle.evaluation.specs.Laying.{steps}
-use Rattle.evaluation.proofs.Bounds.{eights}
-use Prim.Native.Nat.{_≤_, _-_, _+_, _*_}
-use mathlib.Core.List.{[], _∷_, _++_}
+-- `evaluation::gadget::out` meets its contract.
+use mathlib.Core.List.{[], _∷_}
 use mathlib.Core.Path.{ap}
+use Prim.Native.Nat.{_-_, _+_, _*_}
 use native.Mathlib.Omega.{arith}
 use borrow.Author.Needs.{needs}
+use Rattle.evaluation.specs.Layout.{outWords, cellRow}
+use Rattle.evaluation.specs.Laying.{steps}
+use Rattle.evaluation.proofs.Lays.{laid-same, laid-append, room-first, room-next}
+use Rattle.evaluation.proofs.Bounds.{eights}
 use Rattle.evaluation.proofs.gadget.out.Statement.{statement}
 use Rattle.evaluation.proofs.gadget.out.Tie as tie
-use Rattle.evaluation.proofs.gadget.out.Reads as reads
-use Rattle.evaluation.proofs.gadget.out.Lts as lts
-use Rattle.evaluation.proofs.gadget.cell_row.Reads as cell-row-reads
-use Rattle.evaluation.proofs.sheet.copy.Reads as copy-reads
-use Rattle.evaluation.proofs.sheet.progression.Reads as progression-reads
 
--- src/gadget.rt:132:30
 sub-t10 : tie.Need-sub-t10
 sub-t10 c = search needs
 
--- src/gadget.rt:132:25
 mul-t11 : tie.Need-mul-t11
 mul-t11 c = record { fits = omega (arith, eights (c .before .args .d) (c .before .args .d - 1) (omega arith) (omega arith)) }
 
--- src/gadget.rt:132:17
 add-t12 : tie.Need-add-t12
 add-t12 c = record { fits = omega (arith, eights (c .before .args .d) (c .before .args .d - 1) (omega arith) (omega arith)) }
 
--- src/gadget.rt:132:39
 mul-t13 : tie.Need-mul-t13
 mul-t13 c = search needs
 
--- src/gadget.rt:132:17
 add-t14 : tie.Need-add-t14
 add-t14 c = record { fits = omega (arith, eights (c .before .args .d) (c .before .args .d - 1) (omega arith) (omega arith)) }
 
--- src/gadget.rt:132:17
 add-t15 : tie.Need-add-t15
 add-t15 c = record { fits = omega (arith, eights (c .before .args .d) (c .before .args .d - 1) (omega arith) (omega arith)) }
 
--- src/gadget.rt:132:16
 cast-t16 : tie.Need-cast-t16
 cast-t16 c = omega (arith, eights (c .before .args .d) (c .before .args .d - 1) (omega arith) (omega arith))
 
--- src/gadget.rt:133:25
 cell-row-requires : tie.Need-cell-row-requires
 cell-row-requires c κs = search needs
 
--- src/gadget.rt:133:17
 add-start : tie.Need-add-start
 add-start c = search needs
 
--- src/gadget.rt:134:34
 slice-aggregate-copy : tie.Need-slice-aggregate-copy
 slice-aggregate-copy c = search needs
 
--- src/gadget.rt:134:9
 copy-requires : tie.Need-copy-requires
 unfolding outWords
 copy-requires c κs =
@@ -67,15 +52,12 @@ copy-requires c κs =
     let h2 = room-first (a .at) (x ∷ one) two h in
     room-first (a .at) (x ∷ []) one h2
 
--- src/gadget.rt:135:44
 add-progression : tie.Need-add-progression
 add-progression c = search needs
 
--- src/gadget.rt:135:58
 sub-progression : tie.Need-sub-progression
 sub-progression c = search needs
 
--- src/gadget.rt:135:9
 progression-requires : tie.Need-progression-requires
 unfolding outWords
 progression-requires c κs =
@@ -89,15 +71,12 @@ progression-requires c κs =
     let up = ap (λ n. steps (a .first + n + 1) 6 (a .d - 1)) (e .0) in
     (rw up (room-next one (c .before .before .before .copy .ensures) h2), search needs, search needs, search needs)
 
--- src/gadget.rt:136:31
 add-progression-2 : tie.Need-add-progression-2
 add-progression-2 c = search needs
 
--- src/gadget.rt:136:45
 sub-progression-2 : tie.Need-sub-progression-2
 sub-progression-2 c = search needs
 
--- src/gadget.rt:136:5
 progression-requires-2 : tie.Need-progression-requires-2
 unfolding outWords
 progression-requires-2 c κs =
@@ -112,11 +91,9 @@ progression-requires-2 c κs =
     let down = ap (λ n. steps (a .first + n + 5) 6 (a .d - 1)) (e .0) in
     (rw down (room-next two (laid-append (c .before .before .before .before .before .before .before .copy .ensures) (laid-same up (c .before .before .before .progression .ensures))) h), search needs, search needs, search needs)
 
--- src/gadget.rt:128:1
 same-length : tie.Need-same-length
 same-length c = search needs
 
--- src/gadget.rt:128:1
 returns : tie.Need-returns
 unfolding outWords
 returns c =

@@ -1,55 +1,43 @@
-use borrow.Author.Tests.{lt-ltb, le-ltb}
-use Prim.Native.Nat.{_+_, _-_}
+-- `evaluation::gadget::pair_site` meets its contract.
 use mathlib.Core.Path.{ap}
+use Prim.Native.Nat.{_+_, _-_}
 use native.Mathlib.Omega.{arith}
+use borrow.Author.Tests.{lt-ltb, le-ltb}
 use borrow.Author.Needs.{needs}
 use Rattle.evaluation.proofs.gadget.pair_site.Statement.{statement}
 use Rattle.evaluation.proofs.gadget.pair_site.Tie as tie
-use Rattle.evaluation.proofs.gadget.pair_site.Reads as reads
-use Rattle.evaluation.proofs.gadget.pair_site.Lts as lts
-use Rattle.evaluation.proofs.gadget.row_start.Reads as row-start-reads
 
--- src/gadget.rt:24:16
 row-start-requires : tie.Need-row-start-requires
 row-start-requires c κs = search needs
 
--- src/gadget.rt:24:35
 sub-result : tie.Need-sub-result
 sub-result c = search needs
 
--- src/gadget.rt:24:35
 sub-result-2 : tie.Need-sub-result-2
 sub-result-2 c = search needs
 
--- src/gadget.rt:24:16
 add-result : tie.Need-add-result
 add-result c = search needs
 
--- src/gadget.rt:24:9
 returns : tie.Need-returns
 returns c =
     let a = c .before .before .args in
     (rw (lt-ltb (a .i) (a .j) (c .before .if1 .taken)) (ap (λ n. n + (a .j - a .i - 1)) (c .row-start .ensures .0)), omega (arith, c .row-start .ensures .1))
 
--- src/gadget.rt:27:16
 row-start-requires-2 : tie.Need-row-start-requires-2
 row-start-requires-2 c κs = search needs
 
--- src/gadget.rt:27:35
 sub-result-3 : tie.Need-sub-result-3
 sub-result-3 c = search needs
 
--- src/gadget.rt:27:16
 add-result-2 : tie.Need-add-result-2
 add-result-2 c = search needs
 
--- src/gadget.rt:27:9
 returns-2 : tie.Need-returns-2
 returns-2 c =
     let a = c .before .before .before .args in
     (rw (le-ltb (a .i) (a .j) (c .before .before .if1 .left), lt-ltb (a .j) (a .i) (c .before .if2 .taken)) (ap (λ n. n + (a .i - a .j - 1)) (c .row-start2 .ensures .0)), omega (arith, c .row-start2 .ensures .1))
 
--- src/gadget.rt:19:1
 returns-3 : tie.Need-returns-3
 returns-3 c =
     let a = c .before .before .args in

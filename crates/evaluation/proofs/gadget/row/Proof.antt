@@ -1,17 +1,15 @@
-use Rattle.evaluation.proofs.Lays.{Left, left-start, left-turn, left-same, left-end, left-room, from, apart, row-start, row-turn, row-skip, row-end}
-use Rattle.evaluation.specs.Layout.{rowWords, cellWords, wordA, wordB}
-use Rattle.circuit.specs.Lists.{each, keep}
-use Prim.Native.Nat.{_≤_, _-_, _+_, _*_, ℕ}
+-- `evaluation::gadget::row` meets its contract.
 use mathlib.Core.Logic.{⊎-elim}
 use mathlib.Core.Path.{sym, subst₂}
 use mathlib.Core.List.{List}
-use borrow.Author.Needs.{needs}
+use Prim.Native.Nat.{_≤_, _-_, _+_, ℕ}
 use native.Mathlib.Omega.{arith}
+use borrow.Author.Needs.{needs}
+use Rattle.circuit.specs.Lists.{each, keep}
+use Rattle.evaluation.specs.Layout.{rowWords, cellWords, wordA, wordB}
+use Rattle.evaluation.proofs.Lays.{Left, left-start, left-turn, left-same, left-end, left-room, from, apart, row-start, row-turn, row-skip, row-end}
 use Rattle.evaluation.proofs.gadget.row.Statement.{statement}
 use Rattle.evaluation.proofs.gadget.row.Tie as tie
-use Rattle.evaluation.proofs.gadget.row.Reads as reads
-use Rattle.evaluation.proofs.gadget.row.Lts as lts
-use Rattle.evaluation.proofs.gadget.cell.Reads as cell-reads
 
 abbrev Inv-loop : tie.InvT-loop
 Inv-loop sheet₀ at first d i ops place₀ j₀ sheet place j = (j ≤ d) × Left sheet₀ at (rowWords d first (wordA ops) (wordB d ops) i) sheet place (each (keep (apart i) (from d j)) (cellWords d first (wordA ops) (wordB d ops) i))
@@ -19,7 +17,6 @@ Inv-loop sheet₀ at first d i ops place₀ j₀ sheet place j = (j ≤ d) × Le
 abbrev μ-loop : tie.MeasureT-loop
 μ-loop sheet₀ at first d i ops place₀ j₀ sheet place j = d - j
 
--- src/gadget.rt:105:5
 loop-holds : tie.Need-loop-holds Inv-loop μ-loop
 unfolding rowWords
 loop-holds c =
@@ -27,7 +24,6 @@ loop-holds c =
     let g = cellWords (a .d) (a .first) (wordA (a .ops .now)) (wordB (a .d) (a .ops .now)) (a .i) in
     (search needs, left-start (a .sheet .now) (a .at) (rowWords (a .d) (a .first) (wordA (a .ops .now)) (wordB (a .d) (a .ops .now)) (a .i)) (each (keep (apart (a .i)) (from (a .d) 0)) g) (row-start (a .d) (a .i) g))
 
--- src/gadget.rt:107:13
 cell-requires : tie.Need-cell-requires Inv-loop μ-loop
 unfolding cellWords
 cell-requires c κs =
@@ -36,15 +32,12 @@ cell-requires c κs =
     let j = c .before .before .before .loop .j in
     (left-room (g j) (each (keep (apart (a .i)) (from (a .d) (j + 1))) g) (c .before .before .before .loop .inv .1) (row-turn (a .d) (a .i) j g (c .before .before .loop-test .taken) (c .before .if1 .taken)) (c .before .before .before .before .before .before .pre .0), (search needs, search needs, search needs), search needs, search needs)
 
--- src/gadget.rt:109:9
 add-j : tie.Need-add-j Inv-loop μ-loop
 add-j c = search needs
 
--- src/gadget.rt:105:5
 loop-less : tie.Need-loop-less Inv-loop μ-loop
 loop-less c = search needs
 
--- src/gadget.rt:105:5
 loop-again : tie.Need-loop-again Inv-loop μ-loop
 loop-again c =
     let a = c .before .before .before .before .before .args in
@@ -58,11 +51,9 @@ loop-again c =
           (c .if1 .came),
     )
 
--- src/gadget.rt:99:1
 same-length : tie.Need-same-length Inv-loop μ-loop
 same-length c = c .before .loop .inv .1 .size
 
--- src/gadget.rt:99:1
 returns : tie.Need-returns Inv-loop μ-loop
 returns c = left-end (c .before .loop .inv .1) (row-end (c .before .before .before .before .args .d) (c .before .before .before .before .args .i) (c .before .loop .j) _ (c .loop-test .left))
 

@@ -1,21 +1,16 @@
-use borrow.Author.Tests.{lt-ltb, le-ltb}
-use mathlib.Core.Path.{refl}
+-- `evaluation::gadget::slot` meets its contract.
 use native.Mathlib.Omega.{arith}
+use borrow.Author.Tests.{lt-ltb, le-ltb}
 use borrow.Author.Needs.{needs}
 use Rattle.evaluation.proofs.gadget.slot.Statement.{statement}
 use Rattle.evaluation.proofs.gadget.slot.Tie as tie
-use Rattle.evaluation.proofs.gadget.slot.Reads as reads
-use Rattle.evaluation.proofs.gadget.slot.Lts as lts
 
--- src/gadget.rt:36:16
 sub-result : tie.Need-sub-result
 sub-result c = search needs
 
--- src/gadget.rt:33:1
 returns : tie.Need-returns
 returns c = (rw (lt-ltb _ _ (c .if1 .taken)), omega arith)
 
--- src/gadget.rt:33:1
 returns-2 : tie.Need-returns-2
 returns-2 c = (rw (le-ltb _ _ (c .if1 .left)), omega arith)
 

@@ -1,15 +1,13 @@
-use Rattle.evaluation.proofs.Marking.{mark-turn, mark-end}
-use Rattle.evaluation.specs.Marks.{markAll}
-use lib.ListN.{length, drop, length-set}
-use Prim.Native.Nat.{_≤_, _-_, _+_, _*_}
+-- `evaluation::reach::mark` meets its contract.
 use mathlib.Core.Path.{_≡_, refl, sym, ap, _∙_}
-use borrow.Author.Needs.{needs}
+use Prim.Native.Nat.{_≤_, _-_, _+_}
 use native.Mathlib.Omega.{arith}
+use lib.ListN.{length, drop, length-set}
+use borrow.Author.Needs.{needs}
+use Rattle.evaluation.specs.Marks.{markAll}
+use Rattle.evaluation.proofs.Marking.{mark-turn, mark-end}
 use Rattle.evaluation.proofs.reach.mark.Statement.{statement}
 use Rattle.evaluation.proofs.reach.mark.Tie as tie
-use Rattle.evaluation.proofs.reach.mark.Reads as reads
-use Rattle.evaluation.proofs.reach.mark.Lts as lts
-use Rattle.evaluation.proofs.reach.mark_one.Reads as mark-one-reads
 
 abbrev Inv-loop : tie.InvT-loop
 Inv-loop marks₀ wires i₀ marks i = (i ≤ length wires) × (length marks ≡ length marks₀) × (markAll marks₀ wires ≡ markAll marks (drop i wires))
@@ -17,35 +15,27 @@ Inv-loop marks₀ wires i₀ marks i = (i ≤ length wires) × (length marks ≡
 abbrev μ-loop : tie.MeasureT-loop
 μ-loop marks₀ wires i₀ marks i = length wires - i
 
--- src/reach.rt:23:5
 loop-holds : tie.Need-loop-holds Inv-loop μ-loop
 loop-holds c = (search needs, search needs, refl)
 
--- src/reach.rt:24:25
 mul-mark-one : tie.Need-mul-mark-one Inv-loop μ-loop
 mul-mark-one c = search needs
 
--- src/reach.rt:24:25
 shared-slice-read-mark-one : tie.Need-shared-slice-read-mark-one Inv-loop μ-loop
 shared-slice-read-mark-one c = search needs
 
--- src/reach.rt:24:25
 cast-mark-one : tie.Need-cast-mark-one Inv-loop μ-loop
 cast-mark-one c = record { fits = omega (arith, c .shared-slice-known2 .given (c .before .before .before .loop .i)) }
 
--- src/reach.rt:24:9
 mark-one-requires : tie.Need-mark-one-requires Inv-loop μ-loop
 mark-one-requires c κs = search needs
 
--- src/reach.rt:25:9
 add-i : tie.Need-add-i Inv-loop μ-loop
 add-i c = search needs
 
--- src/reach.rt:23:5
 loop-less : tie.Need-loop-less Inv-loop μ-loop
 loop-less c = search needs
 
--- src/reach.rt:23:5
 loop-again : tie.Need-loop-again Inv-loop μ-loop
 loop-again c =
     let a = c .before .before .before .before .before .before .before .before .before .args in
@@ -56,11 +46,9 @@ loop-again c =
       l .inv .2 ∙ mark-turn (l .marks) (a .wires .now) (l .i) (c .before .before .before .before .before .loop-test .taken) ∙ ap (λ m. markAll m (drop (l .i + 1) (a .wires .now))) (sym e),
     )
 
--- src/reach.rt:19:1
 same-length : tie.Need-same-length Inv-loop μ-loop
 same-length c = c .before .loop .inv .1
 
--- src/reach.rt:19:1
 returns : tie.Need-returns Inv-loop μ-loop
 returns c = sym (c .before .loop .inv .2 ∙ mark-end (c .before .loop .marks) (c .before .before .before .before .args .wires .now) (c .before .loop .i) (c .loop-test .left))
 

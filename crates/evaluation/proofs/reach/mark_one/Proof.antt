@@ -1,24 +1,19 @@
-use lib.Seq.{set-out}
+-- `evaluation::reach::mark_one` meets its contract.
 use mathlib.Core.Path.{sym}
+use lib.Seq.{set-out}
 use borrow.Author.Needs.{needs}
 use Rattle.evaluation.proofs.reach.mark_one.Statement.{statement}
 use Rattle.evaluation.proofs.reach.mark_one.Tie as tie
-use Rattle.evaluation.proofs.reach.mark_one.Reads as reads
-use Rattle.evaluation.proofs.reach.mark_one.Lts as lts
 
--- src/reach.rt:15:9
 slice-write-marks : tie.Need-slice-write-marks
 slice-write-marks c = search needs
 
--- src/reach.rt:11:1
 same-length : tie.Need-same-length
 same-length c = search needs
 
--- src/reach.rt:11:1
 returns : tie.Need-returns
 returns c = search needs
 
--- src/reach.rt:11:1
 returns-2 : tie.Need-returns-2
 returns-2 c = sym (set-out (c .before .args .marks .now) (c .before .args .wire) 1 (c .if1 .left))
 

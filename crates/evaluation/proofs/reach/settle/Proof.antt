@@ -1,27 +1,21 @@
-use Rattle.evaluation.proofs.Placing.{settle-turn}
-use Rattle.evaluation.proofs.Reaching.{Moving, moving-start, moving-end}
-use Rattle.evaluation.proofs.Marking.{passed-length}
-use Rattle.evaluation.specs.Gates.{Holds, Ordered, wordsOf}
-use Rattle.evaluation.specs.Marks.{passed}
-use Rattle.circuit.specs.Wires.{Wire}
-use Rattle.circuit.specs.Lists.{nth, mem}
-use Rattle.circuit.specs.Circuit.{isSet}
-use lib.ListN.{length, take}
-use lib.Seq.{take-length}
-use Prim.Native.Nat.{ℕ, _≤_, _<_, _-_, _+_, _*_}
+-- `evaluation::reach::settle` meets its contract.
 use mathlib.Core.Bool.{true}
 use mathlib.Core.List.{List}
 use mathlib.Core.Path.{_≡_, refl, sym, ap, subst, _∙_}
-use borrow.Author.Needs.{needs}
+use Prim.Native.Nat.{ℕ, _≤_, _<_, _-_}
 use native.Mathlib.Omega.{arith}
+use lib.ListN.{length, take}
+use lib.Seq.{take-length}
+use borrow.Author.Needs.{needs}
+use Rattle.circuit.specs.Wires.{Wire}
+use Rattle.circuit.specs.Lists.{nth, mem}
+use Rattle.circuit.specs.Circuit.{isSet}
+use Rattle.evaluation.specs.Gates.{Holds, Ordered, wordsOf}
+use Rattle.evaluation.proofs.Placing.{settle-turn}
+use Rattle.evaluation.proofs.Reaching.{Moving, moving-start, moving-end}
+use Rattle.evaluation.proofs.Marking.{passed-length}
 use Rattle.evaluation.proofs.reach.settle.Statement.{statement}
 use Rattle.evaluation.proofs.reach.settle.Tie as tie
-use Rattle.evaluation.proofs.reach.settle.Reads as reads
-use Rattle.evaluation.proofs.reach.settle.Lts as lts
-use Rattle.evaluation.proofs.reach.back.Reads as back-reads
-use Rattle.evaluation.proofs.reach.pass_on.Reads as pass-on-reads
-use Rattle.evaluation.proofs.sheet.part.Reads as part-reads
-use Rattle.evaluation.proofs.values.count.Reads as count-reads
 
 abbrev Inv-loop : tie.InvT-loop
 Inv-loop heads words wires end marks₀ w₀ place₀ marks w place =
@@ -32,7 +26,6 @@ Inv-loop heads words wires end marks₀ w₀ place₀ marks w place =
 abbrev μ-loop : tie.MeasureT-loop
 μ-loop heads words wires end marks₀ w₀ place₀ marks w place = w
 
--- src/reach.rt:51:5
 loop-holds : tie.Need-loop-holds Inv-loop μ-loop
 loop-holds c =
     let a = c .before .before .before .args in (
@@ -44,39 +37,30 @@ loop-holds c =
       ),
     )
 
--- src/reach.rt:52:9
 sub-w : tie.Need-sub-w Inv-loop μ-loop
 sub-w c = search needs
 
--- src/reach.rt:53:20
 mul-head : tie.Need-mul-head Inv-loop μ-loop
 mul-head c = search needs
 
--- src/reach.rt:53:20
 shared-slice-read-head : tie.Need-shared-slice-read-head Inv-loop μ-loop
 shared-slice-read-head c = search needs
 
--- src/reach.rt:54:13
 count-requires : tie.Need-count-requires Inv-loop μ-loop
 count-requires c κs = search needs
 
--- src/reach.rt:55:9
 back-requires : tie.Need-back-requires Inv-loop μ-loop
 back-requires c κs = search needs
 
--- src/reach.rt:56:33
 part-requires : tie.Need-part-requires Inv-loop μ-loop
 part-requires c κs = search needs
 
--- src/reach.rt:56:9
 pass-on-requires : tie.Need-pass-on-requires Inv-loop μ-loop
 pass-on-requires c κs = omega (arith, c .before .before .before .before .before .before .loop .inv .1)
 
--- src/reach.rt:51:5
 loop-less : tie.Need-loop-less Inv-loop μ-loop
 loop-less c = search needs
 
--- src/reach.rt:51:5
 loop-again : tie.Need-loop-again Inv-loop μ-loop
 loop-again c =
     let a = c .before .before .before .before .before .before .before .before .before .before .before .before .before .args in
@@ -89,11 +73,9 @@ loop-again c =
           (c .before .before .before .before .before .before .before .before .loop-test .taken) (omega arith) m p (c .before .before .before .before .before .before .count .ensures) (c .before .before .before .before .before .back .ensures) (c .before .before .before .part .ensures) (c .before .before .pass-on .ensures),
     )
 
--- src/reach.rt:45:1
 same-length : tie.Need-same-length Inv-loop μ-loop
 same-length c = c .before .loop .inv .1
 
--- src/reach.rt:45:1
 returns : tie.Need-returns Inv-loop μ-loop
 returns c =
     let a = c .before .before .before .before .before .args in

@@ -1,16 +1,14 @@
-use Rattle.evaluation.proofs.Marking.{show-store, show-end}
-use Rattle.evaluation.specs.Marks.{shownFrom}
+-- `evaluation::reach::show` meets its contract.
+use mathlib.Core.Path.{_≡_, refl, sym, ap, _∙_}
+use Prim.Native.Nat.{_≤_, _-_, _+_}
+use native.Mathlib.Omega.{arith}
 use lib.ListN.{length, set, length-set}
 use lib.Seq.{sets}
-use Prim.Native.Nat.{_≤_, _-_, _+_, _*_}
-use mathlib.Core.Path.{_≡_, refl, sym, ap, _∙_}
 use borrow.Author.Needs.{needs}
-use native.Mathlib.Omega.{arith}
+use Rattle.evaluation.specs.Marks.{shownFrom}
+use Rattle.evaluation.proofs.Marking.{show-store, show-end}
 use Rattle.evaluation.proofs.reach.show.Statement.{statement}
 use Rattle.evaluation.proofs.reach.show.Tie as tie
-use Rattle.evaluation.proofs.reach.show.Reads as reads
-use Rattle.evaluation.proofs.reach.show.Lts as lts
-use Rattle.evaluation.proofs.reach.shown.Reads as shown-reads
 
 abbrev Inv-loop : tie.InvT-loop
 Inv-loop marks values reading₀ x₀ reading x = (x ≤ 8192) × (length reading ≡ length reading₀) × (sets reading₀ 0 (shownFrom marks values 0 8192) ≡ sets reading x (shownFrom marks values x (8192 - x)))
@@ -18,35 +16,27 @@ Inv-loop marks values reading₀ x₀ reading x = (x ≤ 8192) × (length readin
 abbrev μ-loop : tie.MeasureT-loop
 μ-loop marks values reading₀ x₀ reading x = 8192 - x
 
--- src/reach.rt:80:5
 loop-holds : tie.Need-loop-holds Inv-loop μ-loop
 loop-holds c = (search needs, search needs, refl)
 
--- src/reach.rt:81:28
 shared-slice-read-shown : tie.Need-shared-slice-read-shown Inv-loop μ-loop
 shared-slice-read-shown c = search needs
 
--- src/reach.rt:81:38
 shared-slice-read-shown-2 : tie.Need-shared-slice-read-shown-2 Inv-loop μ-loop
 shared-slice-read-shown-2 c = search needs
 
--- src/reach.rt:81:22
 shown-requires : tie.Need-shown-requires Inv-loop μ-loop
 shown-requires c κs = search needs
 
--- src/reach.rt:81:9
 slice-write-reading : tie.Need-slice-write-reading Inv-loop μ-loop
 slice-write-reading c = search needs
 
--- src/reach.rt:82:9
 add-x : tie.Need-add-x Inv-loop μ-loop
 add-x c = search needs
 
--- src/reach.rt:80:5
 loop-less : tie.Need-loop-less Inv-loop μ-loop
 loop-less c = search needs
 
--- src/reach.rt:80:5
 loop-again : tie.Need-loop-again Inv-loop μ-loop
 loop-again c =
     let a = c .before .before .before .before .before .before .before .before .args in
@@ -57,11 +47,9 @@ loop-again c =
           ∙ ap (λ n. sets (set (l .reading) (l .x) n) (l .x + 1) (shownFrom (a .marks .now) (a .values .now) (l .x + 1) (8192 - (l .x + 1)))) (sym (c .shown .ensures)),
     )
 
--- src/reach.rt:75:1
 same-length : tie.Need-same-length Inv-loop μ-loop
 same-length c = c .before .loop .inv .1
 
--- src/reach.rt:75:1
 returns : tie.Need-returns Inv-loop μ-loop
 returns c = sym (c .before .loop .inv .2 ∙ show-end (c .before .before .before .before .before .args .marks .now) (c .before .before .before .before .before .args .values .now) (c .before .loop .reading) 8192 (c .before .loop .x) (c .loop-test .left))
 

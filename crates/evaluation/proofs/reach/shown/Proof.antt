@@ -1,14 +1,11 @@
+-- `evaluation::reach::shown` meets its contract.
 use borrow.Author.Tests.{lt-ltb, le-ltb}
 use Rattle.evaluation.proofs.reach.shown.Statement.{statement}
 use Rattle.evaluation.proofs.reach.shown.Tie as tie
-use Rattle.evaluation.proofs.reach.shown.Reads as reads
-use Rattle.evaluation.proofs.reach.shown.Lts as lts
 
--- src/reach.rt:68:1
 returns : tie.Need-returns
 returns c = rw (lt-ltb _ _ (c .if1 .taken))
 
--- src/reach.rt:68:1
 returns-2 : tie.Need-returns-2
 returns-2 c = rw (le-ltb _ _ (c .if1 .left))
 

@@ -1,13 +1,12 @@
-use Rattle.evaluation.proofs.Refusals.{Passed, passed-start, byte-turn, byte-found, byte-end}
-use Rattle.netlist.specs.Calls.{bytesRule}
-use lib.ListN.{length}
-use Prim.Native.Nat.{_≤_, _-_, _+_, _*_}
-use borrow.Author.Needs.{needs}
+-- `evaluation::rules::first_over` meets its contract.
+use Prim.Native.Nat.{_≤_, _-_}
 use native.Mathlib.Omega.{arith}
+use lib.ListN.{length}
+use borrow.Author.Needs.{needs}
+use Rattle.netlist.specs.Calls.{bytesRule}
+use Rattle.evaluation.proofs.Refusals.{Passed, passed-start, byte-turn, byte-found, byte-end}
 use Rattle.evaluation.proofs.rules.first_over.Statement.{statement}
 use Rattle.evaluation.proofs.rules.first_over.Tie as tie
-use Rattle.evaluation.proofs.rules.first_over.Reads as reads
-use Rattle.evaluation.proofs.rules.first_over.Lts as lts
 
 abbrev Inv-loop : tie.InvT-loop
 Inv-loop bytes i₀ i = (i ≤ length bytes) × Passed bytesRule bytes i
@@ -15,31 +14,24 @@ Inv-loop bytes i₀ i = (i ≤ length bytes) × Passed bytesRule bytes i
 abbrev μ-loop : tie.MeasureT-loop
 μ-loop bytes i₀ i = length bytes - i
 
--- src/rules.rt:12:5
 loop-holds : tie.Need-loop-holds Inv-loop μ-loop
 loop-holds c = (search needs, passed-start bytesRule (c .args .bytes .now))
 
--- src/rules.rt:13:16
 shared-slice-read-if1 : tie.Need-shared-slice-read-if1 Inv-loop μ-loop
 shared-slice-read-if1 c = search needs
 
--- src/rules.rt:14:13
 returns : tie.Need-returns Inv-loop μ-loop
 returns c = record { is = byte-found (c .before .before .before .before .args .bytes .now) (c .before .before .before .loop .i) (c .before .before .before .loop .inv .1) (c .before .before .loop-test .taken) (c .if1 .taken) }
 
--- src/rules.rt:16:9
 add-i : tie.Need-add-i Inv-loop μ-loop
 add-i c = search needs
 
--- src/rules.rt:12:5
 loop-less : tie.Need-loop-less Inv-loop μ-loop
 loop-less c = search needs
 
--- src/rules.rt:12:5
 loop-again : tie.Need-loop-again Inv-loop μ-loop
 loop-again c = (omega arith, byte-turn (c .before .before .before .before .args .bytes .now) (c .before .before .before .loop .i) (c .before .before .before .loop .inv .1) (c .before .before .loop-test .taken) (c .if1 .left))
 
--- src/rules.rt:8:1
 returns-2 : tie.Need-returns-2 Inv-loop μ-loop
 returns-2 c = record { is = byte-end (c .before .before .args .bytes .now) (c .before .loop .i) (c .before .loop .inv .1) (c .loop-test .left) }
 

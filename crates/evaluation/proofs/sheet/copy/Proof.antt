@@ -1,15 +1,14 @@
-use Rattle.evaluation.proofs.Lays.{Left, left-start, left-turn, left-end, left-room, laid-one, drop-turn}
-use Rattle.circuit.specs.Lists.{nth}
-use lib.ListN.{length, drop, drop-of-length-le}
-use Prim.Native.Nat.{_≤_, _-_, _+_}
+-- `evaluation::sheet::copy` meets its contract.
 use mathlib.Core.Path.{refl}
 use mathlib.Core.List.{[], _∷_}
-use borrow.Author.Needs.{needs}
+use Prim.Native.Nat.{_≤_, _-_, _+_}
 use native.Mathlib.Omega.{arith}
+use lib.ListN.{length, drop, drop-of-length-le}
+use borrow.Author.Needs.{needs}
+use Rattle.circuit.specs.Lists.{nth}
+use Rattle.evaluation.proofs.Lays.{Left, left-start, left-turn, left-end, left-room, laid-one, drop-turn}
 use Rattle.evaluation.proofs.sheet.copy.Statement.{statement}
 use Rattle.evaluation.proofs.sheet.copy.Tie as tie
-use Rattle.evaluation.proofs.sheet.copy.Reads as reads
-use Rattle.evaluation.proofs.sheet.copy.Lts as lts
 
 abbrev Inv-loop : tie.InvT-loop
 Inv-loop sheet₀ at words place₀ i₀ sheet place i = (i ≤ length words) × Left sheet₀ at words sheet place (drop i words)
@@ -17,23 +16,18 @@ Inv-loop sheet₀ at words place₀ i₀ sheet place i = (i ≤ length words) ×
 abbrev μ-loop : tie.MeasureT-loop
 μ-loop sheet₀ at words place₀ i₀ sheet place i = length words - i
 
--- src/sheet.rt:37:5
 loop-holds : tie.Need-loop-holds Inv-loop μ-loop
 loop-holds c = (search needs, left-start (c .args .sheet .now) (c .args .at) (c .args .words .now) (c .args .words .now) refl)
 
--- src/sheet.rt:38:24
 mul-sheet : tie.Need-mul-sheet Inv-loop μ-loop
 mul-sheet c = search needs
 
--- src/sheet.rt:38:24
 shared-slice-read-sheet : tie.Need-shared-slice-read-sheet Inv-loop μ-loop
 shared-slice-read-sheet c = search needs
 
--- src/sheet.rt:38:9
 mul-sheet-2 : tie.Need-mul-sheet-2 Inv-loop μ-loop
 mul-sheet-2 c = search needs
 
--- src/sheet.rt:38:9
 slice-write-sheet : tie.Need-slice-write-sheet Inv-loop μ-loop
 slice-write-sheet c =
     let l = c .before .before .loop .inv .1 in
@@ -41,7 +35,6 @@ slice-write-sheet c =
     let i = c .before .before .loop .i in
     omega (arith, left-room (nth words i ∷ []) (drop (i + 1) words) l (drop-turn words i (c .before .loop-test .taken)) (c .before .before .before .pre))
 
--- src/sheet.rt:39:9
 add-place : tie.Need-add-place Inv-loop μ-loop
 add-place c =
     let l = c .before .before .loop .inv .1 in
@@ -49,26 +42,21 @@ add-place c =
     let i = c .before .before .loop .i in
     omega (arith, l .size, left-room (nth words i ∷ []) (drop (i + 1) words) l (drop-turn words i (c .before .loop-test .taken)) (c .before .before .before .pre))
 
--- src/sheet.rt:40:9
 add-i : tie.Need-add-i Inv-loop μ-loop
 add-i c = search needs
 
--- src/sheet.rt:37:5
 loop-less : tie.Need-loop-less Inv-loop μ-loop
 loop-less c = search needs
 
--- src/sheet.rt:37:5
 loop-again : tie.Need-loop-again Inv-loop μ-loop
 loop-again c =
     let words = c .before .before .before .args .words .now in
     let i = c .before .before .loop .i in
     (omega arith, left-turn (c .before .before .loop .inv .1) (drop-turn words i (c .before .loop-test .taken)) (laid-one (c .before .before .loop .sheet) (c .before .before .loop .place) (nth words i)))
 
--- src/sheet.rt:31:1
 same-length : tie.Need-same-length Inv-loop μ-loop
 same-length c = c .before .loop .inv .1 .size
 
--- src/sheet.rt:31:1
 returns : tie.Need-returns Inv-loop μ-loop
 returns c = left-end (c .before .loop .inv .1) (drop-of-length-le (c .before .before .args .words .now) (c .loop-test .left))
 

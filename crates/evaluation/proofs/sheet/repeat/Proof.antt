@@ -1,14 +1,12 @@
-use Rattle.evaluation.proofs.Lays.{Left, left-start, left-turn, left-end, left-room, repeat-turn, repeat-end}
-use Rattle.evaluation.specs.Laying.{repeated}
-use Prim.Native.Nat.{_≤_, _-_, _+_}
+-- `evaluation::sheet::repeat` meets its contract.
 use mathlib.Core.Path.{_≡_, ap}
-use borrow.Author.Needs.{needs}
+use Prim.Native.Nat.{_≤_, _-_, _+_}
 use native.Mathlib.Omega.{arith}
+use borrow.Author.Needs.{needs}
+use Rattle.evaluation.specs.Laying.{repeated}
+use Rattle.evaluation.proofs.Lays.{Left, left-start, left-turn, left-end, left-room, repeat-turn, repeat-end}
 use Rattle.evaluation.proofs.sheet.repeat.Statement.{statement}
 use Rattle.evaluation.proofs.sheet.repeat.Tie as tie
-use Rattle.evaluation.proofs.sheet.repeat.Reads as reads
-use Rattle.evaluation.proofs.sheet.repeat.Lts as lts
-use Rattle.evaluation.proofs.sheet.copy.Reads as copy-reads
 
 abbrev Inv-loop : tie.InvT-loop
 Inv-loop sheet₀ at words times place₀ i₀ sheet place i = (i ≤ times) × Left sheet₀ at (repeated times words) sheet place (repeated (times - i) words)
@@ -16,40 +14,33 @@ Inv-loop sheet₀ at words times place₀ i₀ sheet place i = (i ≤ times) × 
 abbrev μ-loop : tie.MeasureT-loop
 μ-loop sheet₀ at words times place₀ i₀ sheet place i = times - i
 
--- src/sheet.rt:52:5
 loop-holds : tie.Need-loop-holds Inv-loop μ-loop
 loop-holds c =
     let a = c .before .before .args in
     let e : a .times ≡ a .times - 0 = omega arith in
     (search needs, left-start (a .sheet .now) (a .at) (repeated (a .times) (a .words .now)) (repeated (a .times - 0) (a .words .now)) (ap (λ n. repeated n (a .words .now)) e))
 
--- src/sheet.rt:53:9
 copy-requires : tie.Need-copy-requires Inv-loop μ-loop
 copy-requires c κs =
     let a = c .before .before .before .before .before .args in
     let i = c .before .before .loop .i in
     left-room (a .words .now) (repeated (a .times - (i + 1)) (a .words .now)) (c .before .before .loop .inv .1) (repeat-turn (a .words .now) (a .times) i (c .before .loop-test .taken)) (c .before .before .before .before .before .pre)
 
--- src/sheet.rt:54:9
 add-i : tie.Need-add-i Inv-loop μ-loop
 add-i c = search needs
 
--- src/sheet.rt:52:5
 loop-less : tie.Need-loop-less Inv-loop μ-loop
 loop-less c = search needs
 
--- src/sheet.rt:52:5
 loop-again : tie.Need-loop-again Inv-loop μ-loop
 loop-again c =
     let a = c .before .before .before .before .before .before .before .before .args in
     let l = c .before .before .before .before .before .loop in
     (omega arith, left-turn (l .inv .1) (repeat-turn (a .words .now) (a .times) (l .i) (c .before .before .before .before .loop-test .taken)) (c .before .before .copy .ensures))
 
--- src/sheet.rt:46:1
 same-length : tie.Need-same-length Inv-loop μ-loop
 same-length c = c .before .loop .inv .1 .size
 
--- src/sheet.rt:46:1
 returns : tie.Need-returns Inv-loop μ-loop
 returns c = left-end (c .before .loop .inv .1) (repeat-end (c .before .before .before .before .args .words .now) (c .before .before .before .before .args .times) (c .before .loop .i) (c .loop-test .left))
 

@@ -1,26 +1,21 @@
-use denote.Ref.{now}
-use lib.ListN.{List·getD-eq-default}
+-- `evaluation::sheet::word_at` meets its contract.
 use mathlib.Core.Path.{sym}
 use native.Mathlib.Omega.{arith}
+use lib.ListN.{List·getD-eq-default}
 use borrow.Author.Needs.{needs}
+use denote.Ref.{now}
 use Rattle.evaluation.proofs.sheet.word_at.Statement.{statement}
 use Rattle.evaluation.proofs.sheet.word_at.Tie as tie
-use Rattle.evaluation.proofs.sheet.word_at.Reads as reads
-use Rattle.evaluation.proofs.sheet.word_at.Lts as lts
 
--- src/sheet.rt:12:26
 mul-result : tie.Need-mul-result
 mul-result c = search needs
 
--- src/sheet.rt:12:26
 shared-slice-read-result : tie.Need-shared-slice-read-result
 shared-slice-read-result c = search needs
 
--- src/sheet.rt:9:1
 returns : tie.Need-returns
 returns c = search needs
 
--- src/sheet.rt:9:1
 returns-2 : tie.Need-returns-2
 returns-2 c = sym (List·getD-eq-default (now (c .before .args .words)) 0 (omega arith))
 

@@ -1,24 +1,19 @@
-use Rattle.evaluation.proofs.Lays.{part-most}
-use Rattle.evaluation.proofs.Heads.{drawn-most}
-use Rattle.evaluation.proofs.Filling.{Going, going-start, going-turn, going-end}
-use Rattle.evaluation.specs.Gates.{Holds, Ordered, countOf, drawnOf, bitOf}
+-- `evaluation::values::fill` meets its contract.
+use mathlib.Core.List.{List}
+use mathlib.Core.Path.{_≡_, refl, sym, ap, subst, _∙_}
+use Prim.Native.Nat.{ℕ, _≤_, _-_, _+_}
+use native.Mathlib.Omega.{arith}
+use lib.ListN.{length, set, take, drop, length-set}
+use borrow.Author.Needs.{needs}
 use Rattle.circuit.specs.Wires.{Wire}
 use Rattle.circuit.specs.Lists.{nth}
 use Rattle.netlist.specs.Values.{bits, byte, at}
-use lib.ListN.{length, set, take, drop, length-set}
-use Prim.Native.Nat.{ℕ, _≤_, _-_, _+_, _*_}
-use mathlib.Core.List.{List}
-use mathlib.Core.Path.{_≡_, refl, sym, ap, subst, _∙_}
-use borrow.Author.Needs.{needs}
-use native.Mathlib.Omega.{arith}
+use Rattle.evaluation.specs.Gates.{Holds, Ordered, countOf, bitOf}
+use Rattle.evaluation.proofs.Lays.{part-most}
+use Rattle.evaluation.proofs.Heads.{drawn-most}
+use Rattle.evaluation.proofs.Filling.{Going, going-start, going-turn, going-end}
 use Rattle.evaluation.proofs.values.fill.Statement.{statement}
 use Rattle.evaluation.proofs.values.fill.Tie as tie
-use Rattle.evaluation.proofs.values.fill.Reads as reads
-use Rattle.evaluation.proofs.values.fill.Lts as lts
-use Rattle.evaluation.proofs.sheet.part.Reads as part-reads
-use Rattle.evaluation.proofs.values.count.Reads as count-reads
-use Rattle.evaluation.proofs.values.drawn.Reads as drawn-reads
-use Rattle.evaluation.proofs.values.value.Reads as value-reads
 
 abbrev Inv-loop : tie.InvT-loop
 Inv-loop heads words wires shares tape values₀ w₀ place₀ used₀ values w place used =
@@ -28,45 +23,35 @@ Inv-loop heads words wires shares tape values₀ w₀ place₀ used₀ values w 
 abbrev μ-loop : tie.MeasureT-loop
 μ-loop heads words wires shares tape values₀ w₀ place₀ used₀ values w place used = wires - w
 
--- src/values.rt:114:5
 loop-holds : tie.Need-loop-holds Inv-loop μ-loop
 loop-holds c =
     let a = c .before .before .before .before .before .args in
     (search needs, search needs, search needs, refl, λ ws h n o. going-start ws (a .heads .now) (a .words .now) (a .wires) (bits (a .shares .now)) (bits (a .tape .now)) (a .values .now) h n o)
 
--- src/values.rt:115:20
 mul-head : tie.Need-mul-head Inv-loop μ-loop
 mul-head c = search needs
 
--- src/values.rt:115:20
 shared-slice-read-head : tie.Need-shared-slice-read-head Inv-loop μ-loop
 shared-slice-read-head c = search needs
 
--- src/values.rt:116:38
 count-requires : tie.Need-count-requires Inv-loop μ-loop
 count-requires c κs = search needs
 
--- src/values.rt:116:13
 part-requires : tie.Need-part-requires Inv-loop μ-loop
 part-requires c κs = search needs
 
--- src/values.rt:117:21
 value-requires : tie.Need-value-requires Inv-loop μ-loop
 value-requires c κs = search needs
 
--- src/values.rt:117:9
 slice-write-values : tie.Need-slice-write-values Inv-loop μ-loop
 slice-write-values c = omega (arith, c .before .before .before .before .before .before .loop .inv .3)
 
--- src/values.rt:118:17
 drawn-requires : tie.Need-drawn-requires Inv-loop μ-loop
 drawn-requires c κs = search needs
 
--- src/values.rt:118:9
 add-used : tie.Need-add-used Inv-loop μ-loop
 add-used c = record { fits = omega (arith, c .drawn .ensures, drawn-most (nth (c .before .before .before .before .before .before .before .before .before .before .before .before .before .args .heads .now) (c .before .before .before .before .before .before .before .loop .w))) }
 
--- src/values.rt:119:9
 add-place : tie.Need-add-place Inv-loop μ-loop
 add-place c =
     let a = c .before .before .before .before .before .before .before .before .before .before .before .before .before .args in
@@ -76,15 +61,12 @@ add-place c =
     let o : c .before .before .before .part .result .now ≡ ops = c .before .before .before .part .ensures ∙ ap (λ n. take n (drop (l .place) (a .words .now))) (c .before .before .before .before .count .ensures) in
     record { fits = omega (arith, ap length o, part-most (a .words .now) (l .place) (countOf head) (l .inv .1)) }
 
--- src/values.rt:120:9
 add-w : tie.Need-add-w Inv-loop μ-loop
 add-w c = search needs
 
--- src/values.rt:114:5
 loop-less : tie.Need-loop-less Inv-loop μ-loop
 loop-less c = search needs
 
--- src/values.rt:114:5
 loop-again : tie.Need-loop-again Inv-loop μ-loop
 loop-again c =
     let a = c .before .before .before .before .before .before .before .before .before .before .before .before .before .args in
@@ -103,11 +85,9 @@ loop-again c =
           (going-turn ws (a .heads .now) (a .words .now) (a .wires) (bits (a .shares .now)) (bits (a .tape .now)) (a .values .now) (l .values) (l .w) (l .place) (l .used) (l .inv .4 ws h n e) (c .before .before .before .before .before .before .loop-test .taken) (omega arith)))),
     )
 
--- src/values.rt:100:1
 same-length : tie.Need-same-length Inv-loop μ-loop
 same-length c = c .before .loop .inv .3
 
--- src/values.rt:100:1
 returns : tie.Need-returns Inv-loop μ-loop
 returns c =
     let a = c .before .before .before .before .before .before .before .args in
