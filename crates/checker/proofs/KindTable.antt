@@ -2,22 +2,17 @@
 use mathlib.Core.Path.{_≡_, refl, sym, ap, ap₂, subst, _∙_}
 use mathlib.Core.List.{List, [], _∷_, _++_, map}
 use Prim.Native.Nat.{ℕ, zero, suc, _+_, _*_, _-_, _/_, _≤_, _<_}
-use native.Mathlib.Nat.{mul-le-mul-left, mul-le-mul}
+use native.Mathlib.Nat.{mul-le-mul}
 use native.Mathlib.Omega.{arith}
-use lib.ListN.{length, length-append, length-map}
+use lib.ListN.{length, length-append}
 use Rattle.checker.specs.declared.kinds.Kind.{Kind as KindCode}
 use Rattle.checker.specs.declared.kinds.Form.{Form}
 use Rattle.checker.specs.declared.kinds.Shape.{Shape as ShapeCode}
-use Rattle.circuit.specs.Lists.{range}
-use Rattle.circuit.specs.Gadgets.{labels}
+use Rattle.circuit.proofs.Sizes.{labels-map}
 use Rattle.circuit.specs.Kinds.{WordRule, share, before, row, Kind, HEAD, AND, REF, OUT, kindOf, shape, words}
 
-range-length : (n k : ℕ) → length (range n k) ≡ k
-range-length n zero = refl
-range-length n (suc k) = ap suc (range-length (suc n) k)
-
 pub row-length : (rule : ℕ → ℕ → WordRule) (place d : ℕ) → length (row rule place d) ≡ d
-row-length rule place d = length-map (labels d) (λ i. rule i place) ∙ range-length 0 d
+row-length rule place d = labels-map d (λ i. rule i place)
 
 pub words-AND : (d : ℕ) → words d AND ≡ 1 + d + d
 unfolding shape

@@ -1,5 +1,5 @@
 -- In a circuit of frames that fit, every gate takes earlier wires only.
-use mathlib.Core.Path.{refl, subst}
+use mathlib.Core.Path.{refl, subst, _≡_}
 use mathlib.Core.List.{List, [], _∷_, _++_, map}
 use mathlib.Core.Logic.{inl, inr}
 use Prim.Native.Nat.{ℕ, _+_, _≤_, _<_}
@@ -20,6 +20,7 @@ use Rattle.circuit.proofs.Building.{wireAt, gadget-all, Lawful, build-all}
 use Rattle.circuit.proofs.Judging.{named-made}
 use Rattle.circuit.proofs.Exact.{Accepted}
 use Rattle.netlist.specs.Probes.{operands}
+use Rattle.netlist.proofs.Randoms.{randomsIn, build-randoms}
 
 -- the gate of wire x takes wires before x
 abbrev pub Early : ℕ → Gate → Type 0
@@ -151,3 +152,7 @@ accepted-early a = rw (a .circuit-is) (build-early (a .d) (a .fs) (a .least) (a 
 pub accepted-earlier : {table : List ℕ} {room : ℕ} → Accepted table room
     → (n : ℕ) → n < size (checked table room .circuit) → Early n (wireAt (checked table room .circuit) n .gate)
 accepted-earlier a = rw (a .circuit-is) (earlier (a .d) (a .fs) (a .least) (a .fit))
+
+-- an accepted circuit has as many random gates as it counts
+pub accepted-randoms : {table : List ℕ} {room : ℕ} → Accepted table room → randomsIn (checked table room .circuit .wires) ≡ checked table room .circuit .randoms
+accepted-randoms a = rw (a .circuit-is) (build-randoms (empty (a .d)) (a .fs) refl)

@@ -7,12 +7,10 @@ use native.Mathlib.Omega.{arith}
 use Rattle.circuit.specs.Wires.{Gate, Wire, named, inner, _placed_}
 use Rattle.circuit.specs.Gadgets.{Part, c, s, S, labels, gate, delay, index, gadget}
 use Rattle.circuit.specs.Kinds.{Kind, HEAD, IN, CON, XOR, NOT, REG, AND, REF, OUT, shape}
-use Rattle.circuit.specs.Circuit.{Circuit, size, empty, made, extend}
-use Rattle.circuit.specs.Rules.{checked}
+use Rattle.circuit.specs.Circuit.{Circuit, size, made, extend}
 use Rattle.circuit.proofs.Base.{cases}
 use Rattle.circuit.proofs.Sizes.{of-and, of-ref}
 use Rattle.circuit.specs.Composition.{Frame, build}
-use Rattle.circuit.proofs.Exact.{Accepted}
 use Rattle.netlist.specs.Values.{isRandom}
 
 -- the number of random gates among wires
@@ -76,6 +74,3 @@ pub build-randoms : (k : Circuit) (fs : List Frame) → randomsIn (k .wires) ≡
 build-randoms k [] h = h
 build-randoms k (f ∷ fs) h = build-randoms (extend k (f .ops) (f .kind)) fs
     (randoms-append (k .wires) (made k (f .ops) (f .kind)) ∙ ap₂ (λ x y. x + y) h (made-randoms k (f .ops) (f .kind)))
-
-pub accepted-randoms : {table : List ℕ} {room : ℕ} → Accepted table room → randomsIn (checked table room .circuit .wires) ≡ checked table room .circuit .randoms
-accepted-randoms a = rw (a .circuit-is) (build-randoms (empty (a .d)) (a .fs) refl)

@@ -12,7 +12,7 @@ use Rattle.circuit.proofs.Base.{Every, every-imp, AllFrom}
 use Rattle.netlist.specs.Values.{at, total, value, isRandom, valuesFrom}
 use Rattle.netlist.specs.Probes.{isStop, operands, reads, readBy, stopsFrom}
 use Rattle.secrecy.proofs.Sums.{sumBits, sum-swap}
-use Rattle.secrecy.proofs.Randoms.{randomsOf}
+use Rattle.netlist.proofs.Randoms.{randomsIn}
 
 -- the values of wires by their numbers
 abbrev pub Values : Type 0
@@ -47,8 +47,8 @@ module _ (sh sh′ : List Bool) where
     -- what F makes of the values in the first evaluation, summed over all tapes, is what F′ makes of those in the second
     abbrev Fair : List Step → Type 0
     Fair ss = (v v′ : List Bool) → ((g g′ : List Bool) → Run ss v v′ g g′ → F g ≡ F′ g′)
-        → sumBits (randomsOf (map wireOf ss)) (λ t. F (valuesFrom sh t v (map wireOf ss)))
-        ≡ sumBits (randomsOf (map wireOf ss)) (λ t. F′ (valuesFrom sh′ t v′ (map wireOf ss)))
+        → sumBits (randomsIn (map wireOf ss)) (λ t. F (valuesFrom sh t v (map wireOf ss)))
+        ≡ sumBits (randomsIn (map wireOf ss)) (λ t. F′ (valuesFrom sh′ t v′ (map wireOf ss)))
 
     plain : (g : Gate) (δ : Shift) (f f′ : Values) → isRandom g ≡ false → Bits sh sh′ g δ f f′ (value g f sh []) (value g f′ sh′ [])
     plain g δ f f′ e = record { left = λ k. refl; right = λ k. refl; flipped = λ k. absurd (true≢false (sym k ∙ e)) }

@@ -1,7 +1,6 @@
 -- The theorems of equal counts and of products, in the order of the argument.
--- What is counted: sums over lists of bits, and the length of the tape
+-- What is counted: sums over lists of bits
 pub mod Sums
-pub mod Randoms
 -- Two evaluations side by side, and wires that look the same in both
 pub mod Coupled
 pub mod Same

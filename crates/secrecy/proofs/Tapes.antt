@@ -19,7 +19,7 @@ use Rattle.netlist.specs.Probes.{operands, reads, readBy, stopsFrom, stops, she
 use Rattle.secrecy.specs.Deciding.{AgreeAt, NamedIn, tapesFor}
 use Rattle.secrecy.proofs.Sums.{sumBits, over-bits}
 use Rattle.secrecy.proofs.Whole.{front, steps, steps-wires, roles, front-sub, front-length, early, Sure, Seen, static}
-use Rattle.secrecy.proofs.Randoms.{randomsOf, randoms-right}
+use Rattle.netlist.proofs.Randoms.{randomsIn, build-randoms}
 use Rattle.secrecy.proofs.Taken.{count-different}
 use Rattle.secrecy.proofs.Coupled.{Step, wireOf, Run, couple, Early, Settled, settled, stops-settled}
 use Rattle.secrecy.proofs.Same.{Two, Same}
@@ -110,6 +110,6 @@ module _ (d : ℕ) (fs : List Frame) (probes start : List ℕ) where
         let e : k .wires ≡ ws = steps-wires isProbed start (empty d) fs in
         let z = couple sh sh′ F F ss [] [] (λ g g′ r. ap (λ l. cond (alike eqb l reading) 1 0) (sheet-same (stops ws probes ++ besides) g g′ (alike-reads g g′ r))) in
         over-bits (k .randoms) (G sh)
-        ∙ rw (randoms-right d fs) (subst (λ (us : List Wire). sumBits (randomsOf us) (λ t. cond (alike eqb (sheet (stops us probes ++ besides) (valuesOf us sh t)) reading) 1 0)
-        ≡ sumBits (randomsOf us) (λ t. cond (alike eqb (sheet (stops us probes ++ besides) (valuesOf us sh′ t)) reading) 1 0)) (sym e) z)
+        ∙ rw (← build-randoms (empty d) fs refl) (subst (λ (us : List Wire). sumBits (randomsIn us) (λ t. cond (alike eqb (sheet (stops us probes ++ besides) (valuesOf us sh t)) reading) 1 0)
+        ≡ sumBits (randomsIn us) (λ t. cond (alike eqb (sheet (stops us probes ++ besides) (valuesOf us sh′ t)) reading) 1 0)) (sym e) z)
         ∙ sym (over-bits (k .randoms) (G sh′))
