@@ -114,7 +114,7 @@ module _ (table : List ℕ) (room : ℕ) (p : checked table room .judgement ≡ 
 -- rules 15 to 19
 module _ (table notes shares tape : List ℕ) (sheets : List (List ℕ)) (probes : List ℕ) where
   abbrev k : Circuit
-  k = circuitOf table notes shares tape
+  k = circuitOf table notes
 
   abbrev rule : Judgement
   rule = callRule table notes shares tape sheets probes

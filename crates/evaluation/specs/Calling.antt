@@ -18,4 +18,4 @@ Shortest room sheets = sheetsRule sheets ≡ need (leb wireLimit room) 17 0 0
 pub record Judged (table notes shares tape probes : List ℕ) (room : ℕ) (newNotes heads words : List ℕ) (r : Verdict) : Type 0 where
   pub answers : (sheets : List (List ℕ)) → Shortest room sheets → said r ≡ callAnswer table notes shares tape sheets probes
   pub noted : newNotes ≡ callNotes table notes shares tape
-  pub holds : checked table (length notes) .judgement ≡ pass → Holds (circuitOf table notes shares tape .wires) heads words
+  pub holds : checked table (length notes) .judgement ≡ pass → Holds (circuitOf table notes .wires) heads words

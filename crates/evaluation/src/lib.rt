@@ -3,10 +3,9 @@ ghost use mathlib.Core.Path.{_≡_};
 ghost use mathlib.Core.List.{[], _∷_};
 ghost use Prim.Native.Nat.{_≤_, min};
 ghost use lib.ListN.{length};
-ghost use Rattle.circuit.specs.Rules.{pass, checked};
 ghost use Rattle.circuit.specs.Answer.{refused as refusedAnswer};
 ghost use Rattle.checker.specs.Said.{said};
-ghost use Rattle.netlist.specs.Calls.{circuitOf, written, callRule, callAnswer, callNotes, valueBytes, readingBytes};
+ghost use Rattle.netlist.specs.Calls.{Accepts, circuitOf, written, callRule, callAnswer, callNotes, valueBytes, readingBytes};
 ghost use Rattle.netlist.specs.Values.{bits, valuesOf};
 ghost use Rattle.netlist.specs.Counts.{EqualCounts};
 ghost use Rattle.secrecy.specs.Gadgets.{Computes};
@@ -92,8 +91,8 @@ pub fn evaluate(
     ensures noted { λ _. ⌜ now (notes .exit) ≡ callNotes (now (table .entry)) (now (notes .entry)) (now (shares .entry)) (now (tape .entry)) ⌝ }
     ensures valued { λ _. ⌜ now (values .exit) ≡ written (callRule (now (table .entry)) (now (notes .entry)) (now (shares .entry)) (now (tape .entry)) (now (values .entry) ∷ []) [])
         (valueBytes (now (table .entry)) (now (notes .entry)) (now (shares .entry)) (now (tape .entry))) (now (values .entry)) ⌝ }
-    ensures computes { λ _. ⌜ (checked (now (table .entry)) (length (now (notes .entry))) .judgement ≡ pass
-        → Computes (now (table .entry)) (valuesOf (circuitOf (now (table .entry)) (now (notes .entry)) (now (shares .entry)) (now (tape .entry)) .wires) (bits (now (shares .entry))) (bits (now (tape .entry))))) ⌝ }
+    ensures computes { λ _. ⌜ (Accepts (now (table .entry)) (now (notes .entry))
+        → Computes (now (table .entry)) (valuesOf (circuitOf (now (table .entry)) (now (notes .entry)) .wires) (bits (now (shares .entry))) (bits (now (tape .entry))))) ⌝ }
 {
     let mut heads = [0u16; 8192];
     let mut words = [0u16; 16384];
@@ -144,8 +143,8 @@ pub fn read_probes(
         (valueBytes (now (table .entry)) (now (notes .entry)) (now (shares .entry)) (now (tape .entry))) (now (values .entry)) ⌝ }
     ensures shown { λ _. ⌜ now (reading .exit) ≡ written (callRule (now (table .entry)) (now (notes .entry)) (now (shares .entry)) (now (tape .entry)) (now (values .entry) ∷ now (reading .entry) ∷ []) (now (probes .entry)))
         (readingBytes (now (table .entry)) (now (notes .entry)) (now (shares .entry)) (now (tape .entry)) (now (probes .entry))) (now (reading .entry)) ⌝ }
-    ensures secret { λ _. ⌜ (checked (now (table .entry)) (length (now (notes .entry))) .judgement ≡ pass
-        → EqualCounts (circuitOf (now (table .entry)) (now (notes .entry)) (now (shares .entry)) (now (tape .entry))) (now (probes .entry))) ⌝ }
+    ensures secret { λ _. ⌜ (Accepts (now (table .entry)) (now (notes .entry))
+        → EqualCounts (circuitOf (now (table .entry)) (now (notes .entry))) (now (probes .entry))) ⌝ }
 {
     let mut heads = [0u16; 8192];
     let mut words = [0u16; 16384];

@@ -1,4 +1,5 @@
 -- Document 01, "Where each refusal is met", rules 15 to 19, and what evaluation and readings leave in their sheets.
+use mathlib.Core.Path.{_≡_}
 use mathlib.Core.List.{List, [], _∷_, _++_}
 use Prim.Native.Nat.{ℕ, suc, _*_}
 use lib.Dec.{leb, ltb, eqb}
@@ -31,30 +32,37 @@ abbrev pub written : Judgement → (new old : List ℕ) → List ℕ
 written pass new old = over new old
 written (refuse rule frame word) new old = old
 
+-- the checker accepts a table with these notes; the circuit that it makes, as far as it comes
+abbrev pub Accepts : (table notes : List ℕ) → Type 0
+Accepts table notes = checked table (length notes) .judgement ≡ pass
+
+abbrev pub circuitOf : (table notes : List ℕ) → Circuit
+circuitOf table notes = checked table (length notes) .circuit
+
 -- a call on a table, with notes of these words, shares and tape
 module _ (table notes shares tape : List ℕ) where
-  abbrev pub circuitOf : Circuit
-  circuitOf = checked table (length notes) .circuit
+  abbrev made : Circuit
+  made = circuitOf table notes
 
   -- its judgement: the checker's, then 15 to 19. Evaluation takes a value sheet and no probes, readings a reading sheet too
   unfoldable pub callRule : (sheets : List (List ℕ)) (probes : List ℕ) → Judgement
   callRule sheets probes = checked table (length notes) .judgement
-      then need (eqb (length shares) (circuitOf .inputs * circuitOf .d)) 15 0 0
-      then need (eqb (length tape) (circuitOf .randoms)) 16 0 0
+      then need (eqb (length shares) (made .inputs * made .d)) 15 0 0
+      then need (eqb (length tape) (made .randoms)) 16 0 0
       then sheetsRule sheets
       then bytesRule 0 (shares ++ tape)
-      then probesRule circuitOf 0 probes
+      then probesRule made 0 probes
 
   -- its answer, and the notes after it
   abbrev pub callAnswer : (sheets : List (List ℕ)) (probes : List ℕ) → Answer
-  callAnswer sheets probes = answer circuitOf (callRule sheets probes)
+  callAnswer sheets probes = answer made (callRule sheets probes)
 
   abbrev pub callNotes : List ℕ
-  callNotes = notesAfter circuitOf notes
+  callNotes = notesAfter made notes
 
   -- the values of the circuit's wires, and the reading of probes
   abbrev pub valueBytes : List ℕ
-  valueBytes = bytes (valuesOf (circuitOf .wires) (bits shares) (bits tape))
+  valueBytes = bytes (valuesOf (made .wires) (bits shares) (bits tape))
 
   abbrev pub readingBytes : (probes : List ℕ) → List ℕ
-  readingBytes probes = readingOf (circuitOf .wires) probes (bits shares) (bits tape)
+  readingBytes probes = readingOf (made .wires) probes (bits shares) (bits tape)
