@@ -11,7 +11,6 @@ use Rattle.circuit.specs.Lists.{range, keep, each}
 use Rattle.circuit.specs.Gadgets.{labels, above, others}
 use Rattle.circuit.proofs.Base.{cases, In, in-head, in-tail, lt-ne, eqb-sym, eqb-refl, AllFrom, all-append}
 use Rattle.circuit.proofs.Sizes.{range-length}
-use Rattle.evaluation.specs.Laying.{steps, repeated}
 
 -- a range in two parts, and the numbers of it that are kept
 range-split : (n a b : ℕ) → range n (a + b) ≡ range n a ++ range (n + a) b
@@ -117,34 +116,3 @@ map-ones f (x ∷ xs) = ap (λ l. f x ∷ l) (map-ones f xs)
 pub each-none : {A B : Type 0} (xs : List A) → each {B = B} xs (λ x. []) ≡ []
 each-none [] = refl
 each-none (x ∷ xs) = each-none xs
-
--- progressions and repetitions
-pub steps-of : (x s m : ℕ) (l : List ℕ) → AllFrom (λ n y. y ≡ x + s * n) m l → l ≡ steps (x + s * m) s (length l)
-unfolding steps
-steps-of x s m [] h = refl
-steps-of x s m (y ∷ l) h =
-    let e : x + s * suc m ≡ x + s * m + s = omega arith in
-    ap₂ (λ a b. a ∷ b) (h .0) (steps-of x s (suc m) l (h .1) ∙ ap (λ n. steps n s (length l)) e)
-
-pub steps-length : (x s n : ℕ) → length (steps x s n) ≡ n
-unfolding steps
-steps-length x s zero = refl
-steps-length x s (suc n) = ap suc (steps-length (x + s) s n)
-
-repeated-add : (a b : ℕ) (w : List ℕ) → repeated (a + b) w ≡ repeated a w ++ repeated b w
-unfolding repeated
-repeated-add zero b w = let e : 0 + b ≡ b = omega arith in ap (λ n. repeated n w) e
-repeated-add (suc a) b w =
-    let e : suc a + b ≡ suc (a + b) = omega arith in
-    ap (λ n. repeated n w) e ∙ ap (λ l. w ++ l) (repeated-add a b w) ∙ sym (append-assoc w (repeated a w) (repeated b w))
-
-pub each-constant : {A : Type 0} (xs : List A) (w : List ℕ) → each xs (λ x. w) ≡ repeated (length xs) w
-unfolding repeated
-each-constant [] w = refl
-each-constant (x ∷ xs) w = ap (λ l. w ++ l) (each-constant xs w)
-
-pub each-pairs : (g : ℕ → List ℕ) (xs : List ℕ) (w : List ℕ) → each xs (λ i. each (g i) (λ j. w)) ≡ repeated (length (each xs g)) w
-unfolding repeated
-each-pairs g [] w = refl
-each-pairs g (x ∷ xs) w = ap₂ (λ a b. a ++ b) (each-constant (g x) w) (each-pairs g xs w) ∙ sym (repeated-add (length (g x)) (length (each xs g)) w)
-    ∙ ap (λ n. repeated n w) (sym (length-append (g x) (each xs g)))

@@ -2,11 +2,11 @@
 use mathlib.Core.Path.{_≡_, refl, sym, ap, subst, _∙_}
 use mathlib.Core.Bool.{cond}
 use mathlib.Core.List.{List, [], _∷_, _++_, map}
-use Prim.Native.Nat.{ℕ, suc, _+_, _*_, _-_, _/_, _≤_, _<_}
+use Prim.Native.Nat.{ℕ, zero, suc, _+_, _*_, _-_, _/_, _≤_, _<_}
 use native.Mathlib.Omega.{arith}
 use lib.Dec.{ltb}
 use lib.ListN.{length, length-append}
-use borrow.Author.Tests.{lt-ltb, le-ltb}
+use borrow.Author.Tests.{lt-ltb, le-ltb, ltb-true, ltb-false}
 use Rattle.circuit.specs.Lists.{range, each}
 use Rattle.circuit.specs.Gadgets.{Part, r, R, B, m, M, u, U, v, V′, w, W, c, s, S, labels, above, others, sorted, inAND, inREF, index}
 use Rattle.circuit.specs.Kinds.{pairs}
@@ -14,7 +14,7 @@ use Rattle.circuit.proofs.Base.{cases, ltb-other, AllFrom, all-append}
 use Rattle.circuit.proofs.Numbered.{at-all}
 use Rattle.circuit.proofs.Parts.{index-at, Pair, other, InAND, is-r, is-R, and-has, InREF, fresh, ref-has, cell1, cell2, cell3, sec1, sec2, sec3, fresh1}
 use Rattle.circuit.proofs.Sizes.{pairs-twice}
-use Rattle.evaluation.specs.Layout.{rowStart, pairSite, slotOf, cellRow}
+use Rattle.evaluation.specs.Places.{rowStart, pairSite, slotOf, cellRow}
 use Rattle.evaluation.proofs.Ranges.{above-is, others-is, Follows, each-length, all-each, each-append}
 
 -- the first pair of the next row, and the number of all pairs
@@ -33,6 +33,27 @@ row-next d i l =
 
 pub row-last : (d : ℕ) → rowStart d d ≡ pairs d
 row-last d = let e : 2 * d - d - 1 ≡ d - 1 = omega arith in ap (λ n. d * n / 2) e
+
+row-most : (d i k : ℕ) → i + k ≤ d → rowStart d i ≤ rowStart d (i + k)
+row-most d i zero h = let e : i + 0 ≡ i = omega arith in omega (arith, ap (rowStart d) e)
+row-most d i (suc k) h =
+    let e : i + suc k ≡ suc (i + k) = omega arith in
+    omega (arith, ap (rowStart d) e, row-next d (i + k) (omega arith), row-most d i k (omega arith))
+
+-- the place of a pair is one of all pairs
+pub pair-lt : (d i j : ℕ) → i < d → j < d → (j ≡ i → ⊥) → pairSite d i j < pairs d
+pair-lt d i j l k ne = cases (ltb i j)
+    (λ e. rw e (low i j l k (ltb-true i j e)))
+    (λ e. let h : j < i = omega (arith, ltb-false i j e, ne) in rw (e, lt-ltb j i h) (low j i k l h))
+  where
+    low : (i j : ℕ) → i < d → j < d → i < j → rowStart d i + (j - i - 1) < pairs d
+    low i j l k h =
+        let e : suc i + (d - suc i) ≡ d = omega arith in
+        let most : rowStart d (suc i) ≤ pairs d = subst (λ (n : ℕ). rowStart d (suc i) ≤ n) (ap (rowStart d) e ∙ row-last d) (row-most d (suc i) (d - suc i) (omega arith)) in
+        within (rowStart d i) (rowStart d (suc i)) (pairs d) i j h k (row-next d i l) most
+      where
+        within : (x y p i j : ℕ) → i < j → j < d → x + (d - suc i) ≡ y → y ≤ p → x + (j - i - 1) < p
+        within x y p i j h k e z = omega arith
 
 -- AND
 abbrev pub site : ℕ → Part → ℕ

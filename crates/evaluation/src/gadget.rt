@@ -1,215 +1,194 @@
-// The wires that the gates of AND and REF take, in the order of document 01.
+// The values of the wires of AND and REF, in the order of document 01.
 ghost use mathlib.Core.Path.{_≡_};
-ghost use Prim.Native.Nat.{_+_, _-_, _*_, _≤_, _<_};
+ghost use Prim.Native.Nat.{ℕ, _+_, _-_, _*_, _≤_, _<_};
 ghost use lib.ListN.{length};
-ghost use Rattle.evaluation.specs.Laying.{Laid};
-ghost use Rattle.evaluation.specs.Layout.{wordA, wordB, pairSite, slotOf, cellRow, ownWords, ownsWords, cellWords, rowWords, rowsWords, outWords, outsWords, andWords, masksWords, sumWords, sumsWords, refWords, rowStart, Small};
-use super::sheet::copy;
-use super::sheet::progression;
+ghost use Rattle.circuit.specs.Kinds.{pairs};
+ghost use Rattle.evaluation.specs.Places.{wordA, wordB, ownAt, cellRow, outAt};
+ghost use Rattle.evaluation.specs.Filling.{Fills, Bits, Copied, Drawn, Owned, Multiplied, AndValues, Masked, Held, RefValues};
+ghost use Rattle.evaluation.specs.Gadgets.{Crosses, CrossesRow, Sums, Small, Early, Roomy};
+use super::places;
 
-// How many pairs of shares come before those whose lower share is i.
-fn row_start(d: usize, i: usize) -> usize
-    requires { ⌜ (i < d) × (d ≤ 8) ⌝ }
-    ensures { λ r. ⌜ (r ≡ rowStart d i) × (r ≤ 64) ⌝ }
+// So many bits of a sheet, from a place on.
+pub(crate) fn copy(values: &mut [u8], at: usize, sheet: &[u8], from: usize, count: usize)
+    requires { ⌜ (at + count ≤ length (now values)) × (from + count ≤ length (now sheet)) × Bits (now sheet) ⌝ }
+    ensures { λ _. ⌜ Fills (Copied (now (sheet .entry)) from at count) at (at + count) (now (values .entry)) (now (values .exit)) ⌝ }
 {
-    i * (2 * d - i - 1) / 2
-}
-
-// The place of the pair of two different shares among all pairs.
-fn pair_site(d: usize, i: usize, j: usize) -> usize
-    requires { ⌜ (i < d) × (j < d) × (d ≤ 8) ⌝ }
-    ensures { λ r. ⌜ (r ≡ pairSite d i j) × (r ≤ 72) ⌝ }
-{
-    if i < j {
-        return row_start(d, i) + (j - i - 1);
+    let mut q = 0;
+    while q < count {
+        values[at + q] = sheet[from + q];
+        q += 1;
     }
-    if j < i {
-        return row_start(d, j) + (i - j - 1);
+}
+
+// AND's wires r and R of every pair.
+fn draws(values: &mut [u8], at: usize, tape: &[u8], used: usize, count: usize)
+    requires { ⌜ (at + 2 * count ≤ length (now values)) × (used + count ≤ length (now tape)) × Bits (now tape) ⌝ }
+    ensures { λ _. ⌜ Fills (Drawn (now (tape .entry)) used at count) at (at + 2 * count) (now (values .entry)) (now (values .exit)) ⌝ }
+{
+    let mut q = 0;
+    while q < count {
+        let bit = tape[used + q];
+        values[at + 2 * q] = bit;
+        values[at + 2 * q + 1] = bit;
+        q += 1;
     }
-    0
 }
 
-// The place of the share j among those other than i.
-fn slot(i: usize, j: usize) -> usize
-    ensures { λ r. ⌜ (r ≡ slotOf i j) × (r ≤ j) ⌝ }
+// AND's wires B, m and M of every share.
+fn owns(values: &mut [u8], first: usize, d: usize, ops: &[u16])
+    requires { ⌜ Small first d × (length (now ops) ≡ 1 + d + d) × Early first d (wordA (now ops)) × Early first d (wordB d (now ops)) × (ownAt d first d ≤ length (now values)) ⌝ }
+    ensures { λ _. ⌜ Fills (Owned d first (wordA (now (ops .entry))) (wordB d (now (ops .entry)))) (ownAt d first 0) (ownAt d first d) (now (values .entry)) (now (values .exit)) ⌝ }
 {
-    if i < j { j - 1 } else { j }
-}
-
-// Where the parts of AND begin that belong to the share i and another.
-fn cell_row(d: usize, i: usize) -> usize
-    requires { ⌜ (i < d) × (d ≤ 8) ⌝ }
-    ensures { λ r. ⌜ (r ≡ cellRow d i) × (r ≤ 512) ⌝ }
-{
-    d * (d - 1) + 3 * d + 6 * (i * (d - 1))
-}
-
-// AND's words of B, m and M for one share.
-fn own(sheet: &mut [u16], at: usize, first: usize, d: usize, i: usize, ops: &[u16]) -> usize
-    requires { ⌜ (at + 4 ≤ length (now sheet)) × Small first d (now ops) × (i < d) ⌝ }
-    ensures { λ r. ⌜ Laid (now (sheet .entry)) at (ownWords d first (wordA (now (ops .entry))) (wordB d (now (ops .entry))) i) (now (sheet .exit)) r ⌝ }
-{
-    let x = first + d * (d - 1) + 3 * i;
-    let words = [ops[1 + d + i], ops[1 + i], x as u16, (x + 1) as u16];
-    copy(sheet, at, &words)
-}
-
-// The same for each share.
-fn owns(sheet: &mut [u16], at: usize, first: usize, d: usize, ops: &[u16]) -> usize
-    requires { ⌜ (at + length (ownsWords d first (wordA (now ops)) (wordB d (now ops))) ≤ length (now sheet)) × Small first d (now ops) ⌝ }
-    ensures { λ r. ⌜ Laid (now (sheet .entry)) at (ownsWords d first (wordA (now (ops .entry))) (wordB d (now (ops .entry)))) (now (sheet .exit)) r ⌝ }
-{
-    let mut place = at;
+    let start = first + d * (d - 1);
     let mut i = 0;
     while i < d {
-        place = own(sheet, place, first, d, i, ops);
+        let x = ops[1 + i] as usize;
+        let y = ops[1 + d + i] as usize;
+        let b = values[y];
+        let m = values[x] & b;
+        values[start + 3 * i] = b;
+        values[start + 3 * i + 1] = m;
+        values[start + 3 * i + 2] = m;
         i += 1;
     }
-    place
 }
 
-// AND's words of u, U, v, V, w and W for two different shares.
-fn cell(
-    sheet: &mut [u16],
-    at: usize,
+// AND's wires u, U, v, V, w and W of two shares, from the bits of a, b and r. The answer is the sum of U and W.
+fn cross(values: &mut [u8], at: usize, a: u8, b: u8, r: u8) -> u8
+    requires { ⌜ at + 6 ≤ length (now values) ⌝ }
+    ensures { λ s. ⌜ Crosses at a b r (now (values .entry)) (now (values .exit)) s ⌝ }
+{
+    let u = (1 ^ a) & r;
+    let v = b ^ r;
+    let w = a & v;
+    values[at] = u;
+    values[at + 1] = u;
+    values[at + 2] = v;
+    values[at + 3] = v;
+    values[at + 4] = w;
+    values[at + 5] = w;
+    u ^ w
+}
+
+// The same of the share i and each from one to another, added to a bit.
+fn cross_row(
+    values: &mut [u8],
     first: usize,
     d: usize,
     i: usize,
-    j: usize,
+    a: u8,
+    bit: u8,
+    from: usize,
+    to: usize,
+) -> u8
+    requires { ⌜ Small first d × (i < d) × (to ≤ d) × Roomy d first (now values) × ((j : ℕ) → from ≤ j → j < to → j ≡ i → ⊥) × (from ≤ to) ⌝ }
+    ensures { λ s. ⌜ CrossesRow d first i a bit from to (now (values .entry)) (now (values .exit)) s ⌝ }
+{
+    let own = first + d * (d - 1);
+    let start = first + places::cell_row(d, i);
+    let mut sum = bit;
+    let mut j = from;
+    while j < to {
+        let r = values[first + 2 * places::pair_site(d, i, j)];
+        let b = values[own + 3 * j];
+        sum = sum ^ cross(values, start + 6 * places::slot(i, j), a, b, r);
+        j += 1;
+    }
+    sum
+}
+
+// The same of every share and each other, and the outputs.
+fn cross_all(values: &mut [u8], first: usize, d: usize, ops: &[u16])
+    requires { ⌜ Small first d × (1 + d ≤ length (now ops)) × Early first d (wordA (now ops)) × Roomy d first (now values) ⌝ }
+    ensures { λ _. ⌜ Fills (Multiplied d first (wordA (now (ops .entry)))) (first + cellRow d 0) (outAt d first d) (now (values .entry)) (now (values .exit)) ⌝ }
+{
+    let own = first + d * (d - 1);
+    let outs = first + places::cell_row(d, d);
+    let mut i = 0;
+    while i < d {
+        let x = ops[1 + i] as usize;
+        let a = values[x];
+        let m = values[own + 3 * i + 2];
+        let lower = cross_row(values, first, d, i, a, m, 0, i);
+        values[outs + i] = cross_row(values, first, d, i, a, lower, i + 1, d);
+        i += 1;
+    }
+}
+
+// AND.
+pub(crate) fn and(values: &mut [u8], first: usize, d: usize, ops: &[u16], tape: &[u8], used: usize)
+    requires { ⌜ Small first d × (length (now ops) ≡ 1 + d + d) × Early first d (wordA (now ops)) × Early first d (wordB d (now ops)) × Roomy d first (now values) × (used + pairs d ≤ length (now tape)) × Bits (now tape) ⌝ }
+    ensures { λ _. ⌜ Fills (AndValues d first (wordA (now (ops .entry))) (wordB d (now (ops .entry))) (now (tape .entry)) used) first (first + (7 * (d * (d - 1)) + 4 * d)) (now (values .entry)) (now (values .exit)) ⌝ }
+{
+    draws(values, first, tape, used, places::pairs(d));
+    owns(values, first, d, ops);
+    cross_all(values, first, d, ops);
+}
+
+// The sum of a bit and REF's random bits of the share i and each from one to another.
+fn add_masks(
+    values: &[u8],
+    first: usize,
+    d: usize,
+    i: usize,
+    bit: u8,
+    from: usize,
+    to: usize,
+) -> u8
+    requires { ⌜ Small first d × (i < d) × (to ≤ d) × (first + pairs d ≤ length (now values)) × ((j : ℕ) → from ≤ j → j < to → j ≡ i → ⊥) × (from ≤ to) ⌝ }
+    ensures { λ s. ⌜ Sums d first i bit from to (now (values .entry)) s ⌝ }
+{
+    let mut sum = bit;
+    let mut j = from;
+    while j < to {
+        sum = sum ^ values[first + places::pair_site(d, i, j)];
+        j += 1;
+    }
+    sum
+}
+
+// REF's sums.
+fn sums(values: &mut [u8], first: usize, d: usize, ops: &[u16])
+    requires { ⌜ Small first d × (1 + d ≤ length (now ops)) × Early first d (wordA (now ops)) × (first + pairs d + d ≤ length (now values)) ⌝ }
+    ensures { λ _. ⌜ Fills (Masked d first (wordA (now (ops .entry)))) (first + pairs d) (first + pairs d + d) (now (values .entry)) (now (values .exit)) ⌝ }
+{
+    let start = first + places::pairs(d);
+    let mut i = 0;
+    while i < d {
+        let x = ops[1 + i] as usize;
+        let a = values[x];
+        let lower = add_masks(values, first, d, i, a, 0, i);
+        values[start + i] = add_masks(values, first, d, i, lower, i + 1, d);
+        i += 1;
+    }
+}
+
+// REF's outputs, registers of the sums.
+fn holds(values: &mut [u8], first: usize, d: usize)
+    requires { ⌜ Small first d × (first + pairs d + d + d ≤ length (now values)) ⌝ }
+    ensures { λ _. ⌜ Fills (Held d first) (first + pairs d + d) (first + pairs d + d + d) (now (values .entry)) (now (values .exit)) ⌝ }
+{
+    let start = first + places::pairs(d);
+    let mut i = 0;
+    while i < d {
+        values[start + d + i] = values[start + i];
+        i += 1;
+    }
+}
+
+// REF.
+pub(crate) fn refresh(
+    values: &mut [u8],
+    first: usize,
+    d: usize,
     ops: &[u16],
-) -> usize
-    requires { ⌜ (at + 9 ≤ length (now sheet)) × Small first d (now ops) × (i < d) × (j < d) ⌝ }
-    ensures { λ r. ⌜ Laid (now (sheet .entry)) at (cellWords d first (wordA (now (ops .entry))) (wordB d (now (ops .entry))) i j) (now (sheet .exit)) r ⌝ }
+    tape: &[u8],
+    used: usize,
+)
+    requires { ⌜ Small first d × (1 + d ≤ length (now ops)) × Early first d (wordA (now ops)) × (first + pairs d + d + d ≤ length (now values)) × (used + pairs d ≤ length (now tape)) × Bits (now tape) ⌝ }
+    ensures { λ _. ⌜ Fills (RefValues d first (wordA (now (ops .entry))) (now (tape .entry)) used) first (first + (pairs d + 2 * d)) (now (values .entry)) (now (values .exit)) ⌝ }
 {
-    let r = first + 2 * pair_site(d, i, j);
-    let u = first + (cell_row(d, i) + 6 * slot(i, j));
-    let words = [
-        ops[1 + i],
-        (r + 1) as u16,
-        u as u16,
-        ops[1 + d + j],
-        r as u16,
-        (u + 2) as u16,
-        ops[1 + i],
-        (u + 3) as u16,
-        (u + 4) as u16,
-    ];
-    copy(sheet, at, &words)
-}
-
-// The same for a share and each other.
-fn row(sheet: &mut [u16], at: usize, first: usize, d: usize, i: usize, ops: &[u16]) -> usize
-    requires { ⌜ (at + length (rowWords d first (wordA (now ops)) (wordB d (now ops)) i) ≤ length (now sheet)) × Small first d (now ops) × (i < d) ⌝ }
-    ensures { λ r. ⌜ Laid (now (sheet .entry)) at (rowWords d first (wordA (now (ops .entry))) (wordB d (now (ops .entry))) i) (now (sheet .exit)) r ⌝ }
-{
-    let mut place = at;
-    let mut j = 0;
-    while j < d {
-        if j != i {
-            place = cell(sheet, place, first, d, i, j, ops);
-        }
-        j += 1;
-    }
-    place
-}
-
-// The same for each share.
-fn rows(sheet: &mut [u16], at: usize, first: usize, d: usize, ops: &[u16]) -> usize
-    requires { ⌜ (at + length (rowsWords d first (wordA (now ops)) (wordB d (now ops))) ≤ length (now sheet)) × Small first d (now ops) ⌝ }
-    ensures { λ r. ⌜ Laid (now (sheet .entry)) at (rowsWords d first (wordA (now (ops .entry))) (wordB d (now (ops .entry)))) (now (sheet .exit)) r ⌝ }
-{
-    let mut place = at;
-    let mut i = 0;
-    while i < d {
-        place = row(sheet, place, first, d, i, ops);
-        i += 1;
-    }
-    place
-}
-
-// AND's words of one output: M, then every U, then every W.
-fn out(sheet: &mut [u16], at: usize, first: usize, d: usize, i: usize) -> usize
-    requires { ⌜ (at + length (outWords d first i) ≤ length (now sheet)) × (first ≤ 8192) × (d ≤ 8) × (i < d) ⌝ }
-    ensures { λ r. ⌜ Laid (now (sheet .entry)) at (outWords d first i) (now (sheet .exit)) r ⌝ }
-{
-    let own = [(first + d * (d - 1) + 3 * i + 2) as u16];
-    let start = first + cell_row(d, i);
-    let second = copy(sheet, at, &own);
-    let third = progression(sheet, second, start + 1, 6, d - 1);
-    progression(sheet, third, start + 5, 6, d - 1)
-}
-
-// The same for each output.
-fn outs(sheet: &mut [u16], at: usize, first: usize, d: usize) -> usize
-    requires { ⌜ (at + length (outsWords d first) ≤ length (now sheet)) × (first ≤ 8192) × (d ≤ 8) ⌝ }
-    ensures { λ r. ⌜ Laid (now (sheet .entry)) at (outsWords d first) (now (sheet .exit)) r ⌝ }
-{
-    let mut place = at;
-    let mut i = 0;
-    while i < d {
-        place = out(sheet, place, first, d, i);
-        i += 1;
-    }
-    place
-}
-
-// AND's words.
-pub(crate) fn and(sheet: &mut [u16], at: usize, first: usize, d: usize, ops: &[u16]) -> usize
-    requires { ⌜ (at + length (andWords d first (wordA (now ops)) (wordB d (now ops))) ≤ length (now sheet)) × Small first d (now ops) × (0 < d) ⌝ }
-    ensures { λ r. ⌜ Laid (now (sheet .entry)) at (andWords d first (wordA (now (ops .entry))) (wordB d (now (ops .entry)))) (now (sheet .exit)) r ⌝ }
-{
-    let second = progression(sheet, at, first, 2, d * (d - 1) / 2);
-    let third = owns(sheet, second, first, d, ops);
-    let fourth = rows(sheet, third, first, d, ops);
-    outs(sheet, fourth, first, d)
-}
-
-// The random bits that one share of REF takes.
-fn masks(sheet: &mut [u16], at: usize, first: usize, d: usize, i: usize) -> usize
-    requires { ⌜ (at + length (masksWords d first i) ≤ length (now sheet)) × (first ≤ 8192) × (d ≤ 8) × (i < d) ⌝ }
-    ensures { λ r. ⌜ Laid (now (sheet .entry)) at (masksWords d first i) (now (sheet .exit)) r ⌝ }
-{
-    let mut place = at;
-    let mut j = 0;
-    while j < d {
-        if j != i {
-            let words = [(first + pair_site(d, i, j)) as u16];
-            place = copy(sheet, place, &words);
-        }
-        j += 1;
-    }
-    place
-}
-
-// REF's words of one sum: the share's wire, then its random bits.
-fn sum(sheet: &mut [u16], at: usize, first: usize, d: usize, i: usize, ops: &[u16]) -> usize
-    requires { ⌜ (at + length (sumWords d first (wordA (now ops)) i) ≤ length (now sheet)) × (first ≤ 8192) × (d ≤ 8) × (i < d) × (length (now ops) ≡ 1 + d) ⌝ }
-    ensures { λ r. ⌜ Laid (now (sheet .entry)) at (sumWords d first (wordA (now (ops .entry))) i) (now (sheet .exit)) r ⌝ }
-{
-    let words = [ops[1 + i]];
-    let second = copy(sheet, at, &words);
-    masks(sheet, second, first, d, i)
-}
-
-// The same for each share.
-fn sums(sheet: &mut [u16], at: usize, first: usize, d: usize, ops: &[u16]) -> usize
-    requires { ⌜ (at + length (sumsWords d first (wordA (now ops))) ≤ length (now sheet)) × (first ≤ 8192) × (d ≤ 8) × (length (now ops) ≡ 1 + d) ⌝ }
-    ensures { λ r. ⌜ Laid (now (sheet .entry)) at (sumsWords d first (wordA (now (ops .entry)))) (now (sheet .exit)) r ⌝ }
-{
-    let mut place = at;
-    let mut i = 0;
-    while i < d {
-        place = sum(sheet, place, first, d, i, ops);
-        i += 1;
-    }
-    place
-}
-
-// REF's words.
-pub(crate) fn refresh(sheet: &mut [u16], at: usize, first: usize, d: usize, ops: &[u16]) -> usize
-    requires { ⌜ (at + length (refWords d first (wordA (now ops))) ≤ length (now sheet)) × (first ≤ 8192) × (d ≤ 8) × (length (now ops) ≡ 1 + d) × (0 < d) ⌝ }
-    ensures { λ r. ⌜ Laid (now (sheet .entry)) at (refWords d first (wordA (now (ops .entry)))) (now (sheet .exit)) r ⌝ }
-{
-    let second = sums(sheet, at, first, d, ops);
-    progression(sheet, second, first + d * (d - 1) / 2, 1, d)
+    copy(values, first, tape, used, places::pairs(d));
+    sums(values, first, d, ops);
+    holds(values, first, d);
 }

@@ -1,74 +1,39 @@
 -- `evaluation::gadget::and` meets its contract.
-use mathlib.Core.List.{_++_}
-use Prim.Native.Nat.{_-_}
-use native.Mathlib.Omega.{arith}
 use borrow.Author.Needs.{needs}
-use Rattle.circuit.specs.Kinds.{pairs}
-use Rattle.evaluation.specs.Layout.{andWords, ownsWords, rowsWords, outsWords, wordA, wordB}
-use Rattle.evaluation.specs.Laying.{steps}
-use Rattle.evaluation.proofs.Lays.{laid-append, room-first, room-next}
-use Rattle.evaluation.proofs.Bounds.{eights}
 use Rattle.evaluation.proofs.gadget.and.Statement.{statement}
 use Rattle.evaluation.proofs.gadget.and.Tie as tie
+use mathlib.Core.Path.{_≡_, refl, sym, ap, ap₂, subst, _∙_}
+use Prim.Native.Nat.{ℕ, _+_, _-_, _*_, _≤_, _<_}
+use native.Mathlib.Omega.{arith}
+use Rattle.evaluation.proofs.Bounds.{eights, sixteens}
+use Rattle.evaluation.specs.Places.{wordA, wordB, rowStart, pairSite, slotOf, cellRow, pairAt, ownAt, cellAt, outAt, maskAt, sumAt, heldAt}
+use Rattle.circuit.specs.Kinds.{pairs}
+use Rattle.evaluation.proofs.Gadgets.{and-filled}
+use Rattle.circuit.proofs.Sizes.{pairs-twice}
+use Rattle.evaluation.proofs.Rows.{own-early}
 
-sub-progression : tie.Need-sub-progression
-sub-progression c = search needs
+pairs-requires : tie.Need-pairs-requires
+pairs-requires c κs = (omega (arith, c .before .before .before .before .pre .0 .0, c .before .before .before .before .pre .0 .1, c .before .before .before .before .pre .0 .2, c .before .before .before .before .pre .1, c .before .before .before .before .pre .4, c .before .before .before .before .pre .5, pairs-twice (c .before .before .before .before .args .d)), omega (arith, c .before .before .before .before .pre .0 .0, c .before .before .before .before .pre .0 .1, c .before .before .before .before .pre .0 .2, c .before .before .before .before .pre .1, c .before .before .before .before .pre .4, c .before .before .before .before .pre .5, pairs-twice (c .before .before .before .before .args .d)))
 
-mul-progression : tie.Need-mul-progression
-mul-progression c = record { fits = omega (arith, eights (c .before .before .before .args .d) (c .before .before .before .args .d - 1) (omega arith) (omega arith)) }
-
-progression-requires : tie.Need-progression-requires
-unfolding andWords
-progression-requires c κs =
-    let a = c .before .before .before .args in
-    let h4 = c .before .before .before .pre .0 in
-    let h3 = room-first (a .at) ((steps (a .first) 2 (pairs (a .d))) ++ (ownsWords (a .d) (a .first) (wordA (a .ops .now)) (wordB (a .d) (a .ops .now))) ++ (rowsWords (a .d) (a .first) (wordA (a .ops .now)) (wordB (a .d) (a .ops .now)))) (outsWords (a .d) (a .first)) h4 in
-    let h2 = room-first (a .at) ((steps (a .first) 2 (pairs (a .d))) ++ (ownsWords (a .d) (a .first) (wordA (a .ops .now)) (wordB (a .d) (a .ops .now)))) (rowsWords (a .d) (a .first) (wordA (a .ops .now)) (wordB (a .d) (a .ops .now))) h3 in
-    (room-first (a .at) (steps (a .first) 2 (pairs (a .d))) (ownsWords (a .d) (a .first) (wordA (a .ops .now)) (wordB (a .d) (a .ops .now))) h2, search needs, search needs, omega (arith, eights (c .before .before .before .args .d) (c .before .before .before .args .d - 1) (omega arith) (omega arith)))
+draws-requires : tie.Need-draws-requires
+draws-requires c κs = (omega (arith, c .before .before .before .before .before .pre .0 .0, c .before .before .before .before .before .pre .0 .1, c .before .before .before .before .before .pre .0 .2, c .before .before .before .before .before .pre .1, c .before .before .before .before .before .pre .4, c .before .before .before .before .before .pre .5, c .pairs .ensures .0, c .pairs .ensures .1, pairs-twice (c .before .before .before .before .before .args .d), own-early (c .before .before .before .before .before .args .d) (c .before .before .before .before .before .args .first) (c .before .before .before .before .before .args .d) 0 (omega (arith, c .before .before .before .before .before .pre .0 .1))), omega (arith, c .before .before .before .before .before .pre .0 .0, c .before .before .before .before .before .pre .0 .1, c .before .before .before .before .before .pre .0 .2, c .before .before .before .before .before .pre .1, c .before .before .before .before .before .pre .4, c .before .before .before .before .before .pre .5, c .pairs .ensures .0, c .pairs .ensures .1, pairs-twice (c .before .before .before .before .before .args .d)), c .before .before .before .before .before .pre .6)
 
 owns-requires : tie.Need-owns-requires
-unfolding andWords
-owns-requires c κs =
-    let a = c .before .before .before .before .before .before .before .args in
-    let h4 = c .before .before .before .before .before .before .before .pre .0 in
-    let h3 = room-first (a .at) ((steps (a .first) 2 (pairs (a .d))) ++ (ownsWords (a .d) (a .first) (wordA (a .ops .now)) (wordB (a .d) (a .ops .now))) ++ (rowsWords (a .d) (a .first) (wordA (a .ops .now)) (wordB (a .d) (a .ops .now)))) (outsWords (a .d) (a .first)) h4 in
-    let h2 = room-first (a .at) ((steps (a .first) 2 (pairs (a .d))) ++ (ownsWords (a .d) (a .first) (wordA (a .ops .now)) (wordB (a .d) (a .ops .now)))) (rowsWords (a .d) (a .first) (wordA (a .ops .now)) (wordB (a .d) (a .ops .now))) h3 in
-    (room-next (ownsWords (a .d) (a .first) (wordA (a .ops .now)) (wordB (a .d) (a .ops .now))) (c .before .before .before .progression .ensures) h2, (search needs, search needs, search needs))
+owns-requires c κs = (c .before .before .before .before .before .before .before .before .before .pre .0, c .before .before .before .before .before .before .before .before .before .pre .1, c .before .before .before .before .before .before .before .before .before .pre .2, c .before .before .before .before .before .before .before .before .before .pre .3, omega (arith, c .before .before .before .before .before .before .before .before .before .pre .0 .0, c .before .before .before .before .before .before .before .before .before .pre .0 .1, c .before .before .before .before .before .before .before .before .before .pre .0 .2, c .before .before .before .before .before .before .before .before .before .pre .1, c .before .before .before .before .before .before .before .before .before .pre .4, c .before .before .before .before .before .before .before .before .before .pre .5, c .before .before .before .before .pairs .ensures .0, c .before .before .before .before .pairs .ensures .1, c .before .before .before .draws .ensures .size, pairs-twice (c .before .before .before .before .before .before .before .before .before .args .d)))
 
-rows-requires : tie.Need-rows-requires
-unfolding andWords
-rows-requires c κs =
-    let a = c .before .before .before .before .before .before .before .before .before .before .before .args in
-    let h4 = c .before .before .before .before .before .before .before .before .before .before .before .pre .0 in
-    let h3 = room-first (a .at) ((steps (a .first) 2 (pairs (a .d))) ++ (ownsWords (a .d) (a .first) (wordA (a .ops .now)) (wordB (a .d) (a .ops .now))) ++ (rowsWords (a .d) (a .first) (wordA (a .ops .now)) (wordB (a .d) (a .ops .now)))) (outsWords (a .d) (a .first)) h4 in
-    let h2 = room-first (a .at) ((steps (a .first) 2 (pairs (a .d))) ++ (ownsWords (a .d) (a .first) (wordA (a .ops .now)) (wordB (a .d) (a .ops .now)))) (rowsWords (a .d) (a .first) (wordA (a .ops .now)) (wordB (a .d) (a .ops .now))) h3 in
-    (room-next (rowsWords (a .d) (a .first) (wordA (a .ops .now)) (wordB (a .d) (a .ops .now))) (laid-append (c .before .before .before .before .before .before .before .progression .ensures) (c .before .before .before .owns .ensures)) h3, (search needs, search needs, search needs))
-
-outs-requires : tie.Need-outs-requires
-unfolding andWords
-outs-requires c κs =
-    let a = c .before .before .before .before .before .before .before .before .before .before .before .before .before .before .before .args in
-    let h4 = c .before .before .before .before .before .before .before .before .before .before .before .before .before .before .before .pre .0 in
-    let h3 = room-first (a .at) ((steps (a .first) 2 (pairs (a .d))) ++ (ownsWords (a .d) (a .first) (wordA (a .ops .now)) (wordB (a .d) (a .ops .now))) ++ (rowsWords (a .d) (a .first) (wordA (a .ops .now)) (wordB (a .d) (a .ops .now)))) (outsWords (a .d) (a .first)) h4 in
-    let h2 = room-first (a .at) ((steps (a .first) 2 (pairs (a .d))) ++ (ownsWords (a .d) (a .first) (wordA (a .ops .now)) (wordB (a .d) (a .ops .now)))) (rowsWords (a .d) (a .first) (wordA (a .ops .now)) (wordB (a .d) (a .ops .now))) h3 in
-    (room-next (outsWords (a .d) (a .first)) (laid-append (laid-append (c .before .before .before .before .before .before .before .before .before .before .before .progression .ensures) (c .before .before .before .before .before .before .before .owns .ensures)) (c .before .before .before .rows .ensures)) h4, search needs, search needs)
+cross-all-requires : tie.Need-cross-all-requires
+cross-all-requires c κs = (c .before .before .before .before .before .before .before .before .before .before .before .before .before .pre .0, omega (arith, c .before .before .before .before .before .before .before .before .before .before .before .before .before .pre .0 .0, c .before .before .before .before .before .before .before .before .before .before .before .before .before .pre .0 .1, c .before .before .before .before .before .before .before .before .before .before .before .before .before .pre .0 .2, c .before .before .before .before .before .before .before .before .before .before .before .before .before .pre .1, c .before .before .before .before .before .before .before .before .before .before .before .before .before .pre .4, c .before .before .before .before .before .before .before .before .before .before .before .before .before .pre .5, c .before .before .before .before .before .before .before .before .pairs .ensures .0, c .before .before .before .before .before .before .before .before .pairs .ensures .1, c .before .before .before .before .before .before .before .draws .ensures .size, c .before .before .before .owns .ensures .size, pairs-twice (c .before .before .before .before .before .before .before .before .before .before .before .before .before .args .d)), c .before .before .before .before .before .before .before .before .before .before .before .before .before .pre .2, omega (arith, c .before .before .before .before .before .before .before .before .before .before .before .before .before .pre .0 .0, c .before .before .before .before .before .before .before .before .before .before .before .before .before .pre .0 .1, c .before .before .before .before .before .before .before .before .before .before .before .before .before .pre .0 .2, c .before .before .before .before .before .before .before .before .before .before .before .before .before .pre .1, c .before .before .before .before .before .before .before .before .before .before .before .before .before .pre .4, c .before .before .before .before .before .before .before .before .before .before .before .before .before .pre .5, c .before .before .before .before .before .before .before .before .pairs .ensures .0, c .before .before .before .before .before .before .before .before .pairs .ensures .1, c .before .before .before .before .before .before .before .draws .ensures .size, c .before .before .before .owns .ensures .size, pairs-twice (c .before .before .before .before .before .before .before .before .before .before .before .before .before .args .d)))
 
 same-length : tie.Need-same-length
 same-length c = search needs
 
 returns : tie.Need-returns
-unfolding andWords
-returns c = laid-append (laid-append (laid-append (c .before .before .before .before .before .before .before .before .before .before .before .before .before .before .progression .ensures) (c .before .before .before .before .before .before .before .before .before .before .owns .ensures)) (c .before .before .before .before .before .before .rows .ensures)) (c .before .before .outs .ensures)
+returns c =
+    let a = c .before .before .before .before .before .before .before .before .before .before .before .before .before .before .before .before .args in
+    and-filled (a .d) (a .first) (wordA (a .ops .now)) (wordB (a .d) (a .ops .now)) (a .tape .now) (a .used) (a .values .now) (c .before .before .before .before .before .before .before .before .before .before .draws .last .0) (c .before .before .before .before .before .before .owns .last .0) (c .before .before .cross-all .last .0)
+    (c .before .before .before .before .before .before .before .before .before .before .before .pairs .result) (c .before .before .before .before .before .before .before .before .before .before .before .pairs .ensures .0) (c .before .before .before .before .before .before .before .before .before .before .draws .ensures) (c .before .before .before .before .before .before .owns .ensures) (c .before .before .cross-all .ensures)
 
 pub and-spec : {M : Type 1} → statement M
 and-spec =
     tie.close
-    (tie.spec
-    sub-progression
-    mul-progression
-    progression-requires
-    owns-requires
-    rows-requires
-    outs-requires
-    same-length
-    returns)
+    (tie.spec pairs-requires draws-requires owns-requires cross-all-requires same-length returns)

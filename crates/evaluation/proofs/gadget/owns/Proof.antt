@@ -1,49 +1,129 @@
 -- `evaluation::gadget::owns` meets its contract.
-use Prim.Native.Nat.{_≤_, _-_, _+_}
-use native.Mathlib.Omega.{arith}
-use borrow.Author.Needs.{needs}
-use Rattle.circuit.specs.Lists.{each}
-use Rattle.evaluation.specs.Layout.{ownsWords, ownWords, wordA, wordB}
-use Rattle.evaluation.proofs.Lays.{Left, left-start, left-turn, left-end, left-room, from, each-start, each-turn, each-end}
 use Rattle.evaluation.proofs.gadget.owns.Statement.{statement}
 use Rattle.evaluation.proofs.gadget.owns.Tie as tie
+use borrow.Author.Needs.{needs}
+use Rattle.evaluation.proofs.Owning.{owned-turn}
+use mathlib.Core.Path.{_≡_, refl, sym, ap, ap₂, subst, _∙_}
+use Prim.Native.Nat.{ℕ, _+_, _-_, _*_, _≤_, _<_}
+use native.Mathlib.Omega.{arith}
+use lib.ListN.{length, set, length-set}
+use Rattle.circuit.specs.Lists.{_⊕_, nth, range}
+use Rattle.evaluation.proofs.Bits.{set-byte, byte-and, byte-xor, byte-not}
+use Rattle.evaluation.proofs.Filled.{known-all, fills-none, fills-next, fills-for, fills-at, fills-set}
+use Rattle.evaluation.specs.Filling.{Values, Known, Fills, Copied, Drawn, Owned, Crossed, RowCrossed, Multiplied, AndValues, Masked, Held, RefValues}
+use Rattle.evaluation.proofs.Bounds.{eights, sixteens}
+use Rattle.evaluation.specs.Places.{wordA, wordB, rowStart, pairSite, slotOf, cellRow, pairAt, ownAt, cellAt, outAt, maskAt, sumAt, heldAt}
+use Rattle.netlist.specs.Values.{byte}
 
 abbrev Inv-loop : tie.InvT-loop
-Inv-loop sheet₀ at first d ops place₀ i₀ sheet place i = (i ≤ d) × Left sheet₀ at (ownsWords d first (wordA ops) (wordB d ops)) sheet place (each (from d i) (ownWords d first (wordA ops) (wordB d ops)))
+Inv-loop values₀ first d ops start i₀ values i = (i ≤ d) × Fills (Owned d first (wordA ops) (wordB d ops)) (ownAt d first 0) (ownAt d first i) values₀ values
 
 abbrev μ-loop : tie.MeasureT-loop
-μ-loop sheet₀ at first d ops place₀ i₀ sheet place i = d - i
+μ-loop values₀ first d ops start i₀ values i = d - i
+
+sub-start : tie.Need-sub-start Inv-loop μ-loop
+sub-start c = omega (arith, c .pre .0 .0, c .pre .0 .1, c .pre .0 .2, c .pre .1, c .pre .4, c .good .0 .0, eights (c .args .d) (c .args .d - 1) (omega (arith, c .pre .0 .2)) (omega (arith, c .pre .0 .2)))
+
+mul-start : tie.Need-mul-start Inv-loop μ-loop
+mul-start c = record { fits = omega (arith, c .pre .0 .0, c .pre .0 .1, c .pre .0 .2, c .pre .1, c .pre .4, c .good .0 .0, eights (c .args .d) (c .args .d - 1) (omega (arith, c .pre .0 .2)) (omega (arith, c .pre .0 .2))) }
+
+add-start : tie.Need-add-start Inv-loop μ-loop
+add-start c = record { fits = omega (arith, c .pre .0 .0, c .pre .0 .1, c .pre .0 .2, c .pre .1, c .pre .4, c .good .0 .0, eights (c .args .d) (c .args .d - 1) (omega (arith, c .pre .0 .2)) (omega (arith, c .pre .0 .2))) }
 
 loop-holds : tie.Need-loop-holds Inv-loop μ-loop
-unfolding ownsWords
-loop-holds c =
-    let a = c .before .before .args in
-    (search needs, left-start (a .sheet .now) (a .at) (ownsWords (a .d) (a .first) (wordA (a .ops .now)) (wordB (a .d) (a .ops .now))) (each (from (a .d) 0) (ownWords (a .d) (a .first) (wordA (a .ops .now)) (wordB (a .d) (a .ops .now)))) (each-start (a .d) (ownWords (a .d) (a .first) (wordA (a .ops .now)) (wordB (a .d) (a .ops .now)))))
+loop-holds c = (omega arith, fills-none (ownAt (c .args .d) (c .args .first) 0) (c .args .values .now))
 
-own-requires : tie.Need-own-requires Inv-loop μ-loop
-unfolding ownWords
-own-requires c κs =
-    let a = c .before .before .before .before .before .args in
-    let i = c .before .before .loop .i in
-    (left-room (ownWords (a .d) (a .first) (wordA (a .ops .now)) (wordB (a .d) (a .ops .now)) i) (each (from (a .d) (i + 1)) (ownWords (a .d) (a .first) (wordA (a .ops .now)) (wordB (a .d) (a .ops .now)))) (c .before .before .loop .inv .1) (each-turn (a .d) i (ownWords (a .d) (a .first) (wordA (a .ops .now)) (wordB (a .d) (a .ops .now))) (c .before .loop-test .taken)) (c .before .before .before .before .before .pre .0), (search needs, search needs, search needs), search needs)
+add-x : tie.Need-add-x Inv-loop μ-loop
+add-x c = search needs
+
+mul-x : tie.Need-mul-x Inv-loop μ-loop
+mul-x c = search needs
+
+shared-slice-read-x : tie.Need-shared-slice-read-x Inv-loop μ-loop
+shared-slice-read-x c = omega (arith, c .before .before .loop .inv .0, c .before .loop-test .taken, c .before .before .before .pre .0 .0, c .before .before .before .pre .0 .1, c .before .before .before .pre .0 .2, c .before .before .before .pre .1, c .before .before .before .pre .4, c .before .before .loop .inv .1 .size, c .before .before .before .good .0 .0, eights (c .before .before .before .args .d) (c .before .before .before .args .d - 1) (omega (arith, c .before .before .before .pre .0 .2)) (omega (arith, c .before .before .before .pre .0 .2)), c .before .before .before .pre .2 (c .before .before .loop .i) (c .before .loop-test .taken), c .before .before .before .pre .3 (c .before .before .loop .i) (c .before .loop-test .taken))
+
+cast-x : tie.Need-cast-x Inv-loop μ-loop
+cast-x c = record { fits = omega (arith, c .before .before .loop .inv .0, c .before .loop-test .taken, c .before .before .before .pre .0 .0, c .before .before .before .pre .0 .1, c .before .before .before .pre .0 .2, c .before .before .before .pre .1, c .before .before .before .pre .4, c .before .before .loop .inv .1 .size, c .before .before .before .good .0 .0, eights (c .before .before .before .args .d) (c .before .before .before .args .d - 1) (omega (arith, c .before .before .before .pre .0 .2)) (omega (arith, c .before .before .before .pre .0 .2)), c .before .before .before .pre .2 (c .before .before .loop .i) (c .before .loop-test .taken), c .before .before .before .pre .3 (c .before .before .loop .i) (c .before .loop-test .taken)) }
+
+add-y : tie.Need-add-y Inv-loop μ-loop
+add-y c = search needs
+
+add-y-2 : tie.Need-add-y-2 Inv-loop μ-loop
+add-y-2 c = search needs
+
+mul-y : tie.Need-mul-y Inv-loop μ-loop
+mul-y c = search needs
+
+shared-slice-read-y : tie.Need-shared-slice-read-y Inv-loop μ-loop
+shared-slice-read-y c = omega (arith, c .before .before .before .loop .inv .0, c .before .before .loop-test .taken, c .before .before .before .before .pre .0 .0, c .before .before .before .before .pre .0 .1, c .before .before .before .before .pre .0 .2, c .before .before .before .before .pre .1, c .before .before .before .before .pre .4, c .before .before .before .loop .inv .1 .size, c .before .before .before .before .good .0 .0, eights (c .before .before .before .before .args .d) (c .before .before .before .before .args .d - 1) (omega (arith, c .before .before .before .before .pre .0 .2)) (omega (arith, c .before .before .before .before .pre .0 .2)), c .before .before .before .before .pre .2 (c .before .before .before .loop .i) (c .before .before .loop-test .taken), c .before .before .before .before .pre .3 (c .before .before .before .loop .i) (c .before .before .loop-test .taken))
+
+cast-y : tie.Need-cast-y Inv-loop μ-loop
+cast-y c = record { fits = omega (arith, c .before .before .before .loop .inv .0, c .before .before .loop-test .taken, c .before .before .before .before .pre .0 .0, c .before .before .before .before .pre .0 .1, c .before .before .before .before .pre .0 .2, c .before .before .before .before .pre .1, c .before .before .before .before .pre .4, c .before .before .before .loop .inv .1 .size, c .before .before .before .before .good .0 .0, eights (c .before .before .before .before .args .d) (c .before .before .before .before .args .d - 1) (omega (arith, c .before .before .before .before .pre .0 .2)) (omega (arith, c .before .before .before .before .pre .0 .2)), c .before .before .before .before .pre .2 (c .before .before .before .loop .i) (c .before .before .loop-test .taken), c .before .before .before .before .pre .3 (c .before .before .before .loop .i) (c .before .before .loop-test .taken)) }
+
+slice-read-b : tie.Need-slice-read-b Inv-loop μ-loop
+slice-read-b c = omega (arith, c .before .before .before .before .loop .inv .0, c .before .before .before .loop-test .taken, c .before .before .before .before .before .pre .0 .0, c .before .before .before .before .before .pre .0 .1, c .before .before .before .before .before .pre .0 .2, c .before .before .before .before .before .pre .1, c .before .before .before .before .before .pre .4, c .before .before .before .before .loop .inv .1 .size, c .before .before .before .before .before .good .0 .0, eights (c .before .before .before .before .before .args .d) (c .before .before .before .before .before .args .d - 1) (omega (arith, c .before .before .before .before .before .pre .0 .2)) (omega (arith, c .before .before .before .before .before .pre .0 .2)), c .before .before .before .before .before .pre .2 (c .before .before .before .before .loop .i) (c .before .before .before .loop-test .taken), c .before .before .before .before .before .pre .3 (c .before .before .before .before .loop .i) (c .before .before .before .loop-test .taken))
+
+slice-read-m : tie.Need-slice-read-m Inv-loop μ-loop
+slice-read-m c = omega (arith, c .before .before .before .before .before .loop .inv .0, c .before .before .before .before .loop-test .taken, c .before .before .before .before .before .before .pre .0 .0, c .before .before .before .before .before .before .pre .0 .1, c .before .before .before .before .before .before .pre .0 .2, c .before .before .before .before .before .before .pre .1, c .before .before .before .before .before .before .pre .4, c .before .before .before .before .before .loop .inv .1 .size, c .before .before .before .before .before .before .good .0 .0, eights (c .before .before .before .before .before .before .args .d) (c .before .before .before .before .before .before .args .d - 1) (omega (arith, c .before .before .before .before .before .before .pre .0 .2)) (omega (arith, c .before .before .before .before .before .before .pre .0 .2)), c .before .before .before .before .before .before .pre .2 (c .before .before .before .before .before .loop .i) (c .before .before .before .before .loop-test .taken), c .before .before .before .before .before .before .pre .3 (c .before .before .before .before .before .loop .i) (c .before .before .before .before .loop-test .taken))
+
+mul-values : tie.Need-mul-values Inv-loop μ-loop
+mul-values c = record { fits = omega (arith, c .before .before .before .before .before .loop .inv .0, c .before .before .before .before .loop-test .taken, c .before .before .before .before .before .before .pre .0 .0, c .before .before .before .before .before .before .pre .0 .1, c .before .before .before .before .before .before .pre .0 .2, c .before .before .before .before .before .before .pre .1, c .before .before .before .before .before .before .pre .4, c .before .before .before .before .before .loop .inv .1 .size, c .before .before .before .before .before .before .good .0 .0, eights (c .before .before .before .before .before .before .args .d) (c .before .before .before .before .before .before .args .d - 1) (omega (arith, c .before .before .before .before .before .before .pre .0 .2)) (omega (arith, c .before .before .before .before .before .before .pre .0 .2)), c .before .before .before .before .before .before .pre .2 (c .before .before .before .before .before .loop .i) (c .before .before .before .before .loop-test .taken), c .before .before .before .before .before .before .pre .3 (c .before .before .before .before .before .loop .i) (c .before .before .before .before .loop-test .taken)) }
+
+add-values : tie.Need-add-values Inv-loop μ-loop
+add-values c = record { fits = omega (arith, c .before .before .before .before .before .loop .inv .0, c .before .before .before .before .loop-test .taken, c .before .before .before .before .before .before .pre .0 .0, c .before .before .before .before .before .before .pre .0 .1, c .before .before .before .before .before .before .pre .0 .2, c .before .before .before .before .before .before .pre .1, c .before .before .before .before .before .before .pre .4, c .before .before .before .before .before .loop .inv .1 .size, c .before .before .before .before .before .before .good .0 .0, eights (c .before .before .before .before .before .before .args .d) (c .before .before .before .before .before .before .args .d - 1) (omega (arith, c .before .before .before .before .before .before .pre .0 .2)) (omega (arith, c .before .before .before .before .before .before .pre .0 .2)), c .before .before .before .before .before .before .pre .2 (c .before .before .before .before .before .loop .i) (c .before .before .before .before .loop-test .taken), c .before .before .before .before .before .before .pre .3 (c .before .before .before .before .before .loop .i) (c .before .before .before .before .loop-test .taken)) }
+
+slice-write-values : tie.Need-slice-write-values Inv-loop μ-loop
+slice-write-values c = omega (arith, c .before .before .before .before .before .loop .inv .0, c .before .before .before .before .loop-test .taken, c .before .before .before .before .before .before .pre .0 .0, c .before .before .before .before .before .before .pre .0 .1, c .before .before .before .before .before .before .pre .0 .2, c .before .before .before .before .before .before .pre .1, c .before .before .before .before .before .before .pre .4, c .before .before .before .before .before .loop .inv .1 .size, c .before .before .before .before .before .before .good .0 .0, eights (c .before .before .before .before .before .before .args .d) (c .before .before .before .before .before .before .args .d - 1) (omega (arith, c .before .before .before .before .before .before .pre .0 .2)) (omega (arith, c .before .before .before .before .before .before .pre .0 .2)), c .before .before .before .before .before .before .pre .2 (c .before .before .before .before .before .loop .i) (c .before .before .before .before .loop-test .taken), c .before .before .before .before .before .before .pre .3 (c .before .before .before .before .before .loop .i) (c .before .before .before .before .loop-test .taken))
+
+mul-values-2 : tie.Need-mul-values-2 Inv-loop μ-loop
+mul-values-2 c = record { fits = omega (arith, c .before .before .before .before .before .loop .inv .0, c .before .before .before .before .loop-test .taken, c .before .before .before .before .before .before .pre .0 .0, c .before .before .before .before .before .before .pre .0 .1, c .before .before .before .before .before .before .pre .0 .2, c .before .before .before .before .before .before .pre .1, c .before .before .before .before .before .before .pre .4, c .before .before .before .before .before .loop .inv .1 .size, c .before .before .before .before .before .before .good .0 .0, eights (c .before .before .before .before .before .before .args .d) (c .before .before .before .before .before .before .args .d - 1) (omega (arith, c .before .before .before .before .before .before .pre .0 .2)) (omega (arith, c .before .before .before .before .before .before .pre .0 .2)), c .before .before .before .before .before .before .pre .2 (c .before .before .before .before .before .loop .i) (c .before .before .before .before .loop-test .taken), c .before .before .before .before .before .before .pre .3 (c .before .before .before .before .before .loop .i) (c .before .before .before .before .loop-test .taken)) }
+
+add-values-2 : tie.Need-add-values-2 Inv-loop μ-loop
+add-values-2 c = record { fits = omega (arith, c .before .before .before .before .before .loop .inv .0, c .before .before .before .before .loop-test .taken, c .before .before .before .before .before .before .pre .0 .0, c .before .before .before .before .before .before .pre .0 .1, c .before .before .before .before .before .before .pre .0 .2, c .before .before .before .before .before .before .pre .1, c .before .before .before .before .before .before .pre .4, c .before .before .before .before .before .loop .inv .1 .size, c .before .before .before .before .before .before .good .0 .0, eights (c .before .before .before .before .before .before .args .d) (c .before .before .before .before .before .before .args .d - 1) (omega (arith, c .before .before .before .before .before .before .pre .0 .2)) (omega (arith, c .before .before .before .before .before .before .pre .0 .2)), c .before .before .before .before .before .before .pre .2 (c .before .before .before .before .before .loop .i) (c .before .before .before .before .loop-test .taken), c .before .before .before .before .before .before .pre .3 (c .before .before .before .before .before .loop .i) (c .before .before .before .before .loop-test .taken)) }
+
+add-values-3 : tie.Need-add-values-3 Inv-loop μ-loop
+add-values-3 c = record { fits = omega (arith, c .before .before .before .before .before .loop .inv .0, c .before .before .before .before .loop-test .taken, c .before .before .before .before .before .before .pre .0 .0, c .before .before .before .before .before .before .pre .0 .1, c .before .before .before .before .before .before .pre .0 .2, c .before .before .before .before .before .before .pre .1, c .before .before .before .before .before .before .pre .4, c .before .before .before .before .before .loop .inv .1 .size, c .before .before .before .before .before .before .good .0 .0, eights (c .before .before .before .before .before .before .args .d) (c .before .before .before .before .before .before .args .d - 1) (omega (arith, c .before .before .before .before .before .before .pre .0 .2)) (omega (arith, c .before .before .before .before .before .before .pre .0 .2)), c .before .before .before .before .before .before .pre .2 (c .before .before .before .before .before .loop .i) (c .before .before .before .before .loop-test .taken), c .before .before .before .before .before .before .pre .3 (c .before .before .before .before .before .loop .i) (c .before .before .before .before .loop-test .taken)) }
+
+slice-write-values-2 : tie.Need-slice-write-values-2 Inv-loop μ-loop
+slice-write-values-2 c = rw (length-set) (omega (arith, c .before .before .before .before .before .loop .inv .0, c .before .before .before .before .loop-test .taken, c .before .before .before .before .before .before .pre .0 .0, c .before .before .before .before .before .before .pre .0 .1, c .before .before .before .before .before .before .pre .0 .2, c .before .before .before .before .before .before .pre .1, c .before .before .before .before .before .before .pre .4, c .before .before .before .before .before .loop .inv .1 .size, c .before .before .before .before .before .before .good .0 .0, eights (c .before .before .before .before .before .before .args .d) (c .before .before .before .before .before .before .args .d - 1) (omega (arith, c .before .before .before .before .before .before .pre .0 .2)) (omega (arith, c .before .before .before .before .before .before .pre .0 .2)), c .before .before .before .before .before .before .pre .2 (c .before .before .before .before .before .loop .i) (c .before .before .before .before .loop-test .taken), c .before .before .before .before .before .before .pre .3 (c .before .before .before .before .before .loop .i) (c .before .before .before .before .loop-test .taken)))
+
+mul-values-3 : tie.Need-mul-values-3 Inv-loop μ-loop
+mul-values-3 c = record { fits = omega (arith, c .before .before .before .before .before .loop .inv .0, c .before .before .before .before .loop-test .taken, c .before .before .before .before .before .before .pre .0 .0, c .before .before .before .before .before .before .pre .0 .1, c .before .before .before .before .before .before .pre .0 .2, c .before .before .before .before .before .before .pre .1, c .before .before .before .before .before .before .pre .4, c .before .before .before .before .before .loop .inv .1 .size, c .before .before .before .before .before .before .good .0 .0, eights (c .before .before .before .before .before .before .args .d) (c .before .before .before .before .before .before .args .d - 1) (omega (arith, c .before .before .before .before .before .before .pre .0 .2)) (omega (arith, c .before .before .before .before .before .before .pre .0 .2)), c .before .before .before .before .before .before .pre .2 (c .before .before .before .before .before .loop .i) (c .before .before .before .before .loop-test .taken), c .before .before .before .before .before .before .pre .3 (c .before .before .before .before .before .loop .i) (c .before .before .before .before .loop-test .taken)) }
+
+add-values-4 : tie.Need-add-values-4 Inv-loop μ-loop
+add-values-4 c = record { fits = omega (arith, c .before .before .before .before .before .loop .inv .0, c .before .before .before .before .loop-test .taken, c .before .before .before .before .before .before .pre .0 .0, c .before .before .before .before .before .before .pre .0 .1, c .before .before .before .before .before .before .pre .0 .2, c .before .before .before .before .before .before .pre .1, c .before .before .before .before .before .before .pre .4, c .before .before .before .before .before .loop .inv .1 .size, c .before .before .before .before .before .before .good .0 .0, eights (c .before .before .before .before .before .before .args .d) (c .before .before .before .before .before .before .args .d - 1) (omega (arith, c .before .before .before .before .before .before .pre .0 .2)) (omega (arith, c .before .before .before .before .before .before .pre .0 .2)), c .before .before .before .before .before .before .pre .2 (c .before .before .before .before .before .loop .i) (c .before .before .before .before .loop-test .taken), c .before .before .before .before .before .before .pre .3 (c .before .before .before .before .before .loop .i) (c .before .before .before .before .loop-test .taken)) }
+
+add-values-5 : tie.Need-add-values-5 Inv-loop μ-loop
+add-values-5 c = record { fits = omega (arith, c .before .before .before .before .before .loop .inv .0, c .before .before .before .before .loop-test .taken, c .before .before .before .before .before .before .pre .0 .0, c .before .before .before .before .before .before .pre .0 .1, c .before .before .before .before .before .before .pre .0 .2, c .before .before .before .before .before .before .pre .1, c .before .before .before .before .before .before .pre .4, c .before .before .before .before .before .loop .inv .1 .size, c .before .before .before .before .before .before .good .0 .0, eights (c .before .before .before .before .before .before .args .d) (c .before .before .before .before .before .before .args .d - 1) (omega (arith, c .before .before .before .before .before .before .pre .0 .2)) (omega (arith, c .before .before .before .before .before .before .pre .0 .2)), c .before .before .before .before .before .before .pre .2 (c .before .before .before .before .before .loop .i) (c .before .before .before .before .loop-test .taken), c .before .before .before .before .before .before .pre .3 (c .before .before .before .before .before .loop .i) (c .before .before .before .before .loop-test .taken)) }
+
+slice-write-values-3 : tie.Need-slice-write-values-3 Inv-loop μ-loop
+slice-write-values-3 c = rw (length-set, length-set) (omega (arith, c .before .before .before .before .before .loop .inv .0, c .before .before .before .before .loop-test .taken, c .before .before .before .before .before .before .pre .0 .0, c .before .before .before .before .before .before .pre .0 .1, c .before .before .before .before .before .before .pre .0 .2, c .before .before .before .before .before .before .pre .1, c .before .before .before .before .before .before .pre .4, c .before .before .before .before .before .loop .inv .1 .size, c .before .before .before .before .before .before .good .0 .0, eights (c .before .before .before .before .before .before .args .d) (c .before .before .before .before .before .before .args .d - 1) (omega (arith, c .before .before .before .before .before .before .pre .0 .2)) (omega (arith, c .before .before .before .before .before .before .pre .0 .2)), c .before .before .before .before .before .before .pre .2 (c .before .before .before .before .before .loop .i) (c .before .before .before .before .loop-test .taken), c .before .before .before .before .before .before .pre .3 (c .before .before .before .before .before .loop .i) (c .before .before .before .before .loop-test .taken)))
 
 add-i : tie.Need-add-i Inv-loop μ-loop
-add-i c = search needs
+add-i c = record { fits = omega (arith, c .before .before .before .before .before .loop .inv .0, c .before .before .before .before .loop-test .taken, c .before .before .before .before .before .before .pre .0 .0, c .before .before .before .before .before .before .pre .0 .1, c .before .before .before .before .before .before .pre .0 .2, c .before .before .before .before .before .before .pre .1, c .before .before .before .before .before .before .pre .4, c .before .before .before .before .before .loop .inv .1 .size, c .before .before .before .before .before .before .good .0 .0, eights (c .before .before .before .before .before .before .args .d) (c .before .before .before .before .before .before .args .d - 1) (omega (arith, c .before .before .before .before .before .before .pre .0 .2)) (omega (arith, c .before .before .before .before .before .before .pre .0 .2)), c .before .before .before .before .before .before .pre .2 (c .before .before .before .before .before .loop .i) (c .before .before .before .before .loop-test .taken), c .before .before .before .before .before .before .pre .3 (c .before .before .before .before .before .loop .i) (c .before .before .before .before .loop-test .taken)) }
 
 loop-less : tie.Need-loop-less Inv-loop μ-loop
-loop-less c = search needs
+loop-less c = omega (arith, c .before .before .before .before .before .loop .inv .0, c .before .before .before .before .loop-test .taken, c .before .before .before .before .before .before .pre .0 .0, c .before .before .before .before .before .before .pre .0 .1, c .before .before .before .before .before .before .pre .0 .2, c .before .before .before .before .before .before .pre .1, c .before .before .before .before .before .before .pre .4, c .before .before .before .before .before .loop .inv .1 .size, c .before .before .before .before .before .before .good .0 .0, eights (c .before .before .before .before .before .before .args .d) (c .before .before .before .before .before .before .args .d - 1) (omega (arith, c .before .before .before .before .before .before .pre .0 .2)) (omega (arith, c .before .before .before .before .before .before .pre .0 .2)), c .before .before .before .before .before .before .pre .2 (c .before .before .before .before .before .loop .i) (c .before .before .before .before .loop-test .taken), c .before .before .before .before .before .before .pre .3 (c .before .before .before .before .before .loop .i) (c .before .before .before .before .loop-test .taken))
 
 loop-again : tie.Need-loop-again Inv-loop μ-loop
 loop-again c =
-    let a = c .before .before .before .before .before .before .before .before .args in
-    let l = c .before .before .before .before .before .loop in
-    (omega arith, left-turn (l .inv .1) (each-turn (a .d) (l .i) (ownWords (a .d) (a .first) (wordA (a .ops .now)) (wordB (a .d) (a .ops .now))) (c .before .before .before .before .loop-test .taken)) (c .before .before .own .ensures))
+    let a = c .before .before .before .before .before .before .args in
+    let i = c .before .before .before .before .before .loop .i in
+    let d = a .d in
+    let first = a .first in
+    let x = nth (a .ops .now) (1 + i) in
+    let y = nth (a .ops .now) (1 + d + i) in
+    let b = nth (c .before .before .before .before .before .loop .values) y in
+    let l = c .before .before .before .before .loop-test .taken in
+    let early = c .before .before .before .before .before .before .pre .2 i l in
+    let late = c .before .before .before .before .before .before .pre .3 i l in
+    (omega (arith, c .before .before .before .before .before .loop .inv .0, c .before .before .before .before .loop-test .taken, c .before .before .before .before .before .before .pre .0 .0, c .before .before .before .before .before .before .pre .0 .1, c .before .before .before .before .before .before .pre .0 .2, c .before .before .before .before .before .before .pre .1, c .before .before .before .before .before .before .pre .4, c .before .before .before .before .before .loop .inv .1 .size, c .before .before .before .before .before .before .good .0 .0, eights (c .before .before .before .before .before .before .args .d) (c .before .before .before .before .before .before .args .d - 1) (omega (arith, c .before .before .before .before .before .before .pre .0 .2)) (omega (arith, c .before .before .before .before .before .before .pre .0 .2)), c .before .before .before .before .before .before .pre .2 (c .before .before .before .before .before .loop .i) (c .before .before .before .before .loop-test .taken), c .before .before .before .before .before .before .pre .3 (c .before .before .before .before .before .loop .i) (c .before .before .before .before .loop-test .taken)), owned-turn d first (wordA (a .ops .now)) (wordB d (a .ops .now)) (a .values .now) (c .before .before .before .before .before .loop .values) i l (omega (arith, c .before .before .before .before .before .loop .inv .0, c .before .before .before .before .loop-test .taken, c .before .before .before .before .before .before .pre .0 .0, c .before .before .before .before .before .before .pre .0 .1, c .before .before .before .before .before .before .pre .0 .2, c .before .before .before .before .before .before .pre .1, c .before .before .before .before .before .before .pre .4, c .before .before .before .before .before .loop .inv .1 .size, c .before .before .before .before .before .before .good .0 .0, eights (c .before .before .before .before .before .before .args .d) (c .before .before .before .before .before .before .args .d - 1) (omega (arith, c .before .before .before .before .before .before .pre .0 .2)) (omega (arith, c .before .before .before .before .before .before .pre .0 .2)), c .before .before .before .before .before .before .pre .2 (c .before .before .before .before .before .loop .i) (c .before .before .before .before .loop-test .taken), c .before .before .before .before .before .before .pre .3 (c .before .before .before .before .before .loop .i) (c .before .before .before .before .loop-test .taken))) early late (c .before .before .before .before .before .loop .inv .1))
 
 same-length : tie.Need-same-length Inv-loop μ-loop
 same-length c = c .before .loop .inv .1 .size
 
 returns : tie.Need-returns Inv-loop μ-loop
-returns c = left-end (c .before .loop .inv .1) (each-end (c .before .before .before .before .args .d) (c .before .loop .i) _ (c .loop-test .left))
+returns c = fills-at refl (omega (arith, c .before .loop .inv .0, c .loop-test .left, c .before .before .pre .0 .0, c .before .before .pre .0 .1, c .before .before .pre .0 .2, c .before .before .pre .1, c .before .before .pre .4, c .before .loop .inv .1 .size, c .before .before .good .0 .0, eights (c .before .before .args .d) (c .before .before .args .d - 1) (omega (arith, c .before .before .pre .0 .2)) (omega (arith, c .before .before .pre .0 .2)))) (c .before .loop .inv .1)
 
 pub owns-spec : {M : Type 1} → statement M
 owns-spec =
@@ -51,8 +131,32 @@ owns-spec =
     (tie.spec
     Inv-loop
     μ-loop
+    sub-start
+    mul-start
+    add-start
     loop-holds
-    own-requires
+    add-x
+    mul-x
+    shared-slice-read-x
+    cast-x
+    add-y
+    add-y-2
+    mul-y
+    shared-slice-read-y
+    cast-y
+    slice-read-b
+    slice-read-m
+    mul-values
+    add-values
+    slice-write-values
+    mul-values-2
+    add-values-2
+    add-values-3
+    slice-write-values-2
+    mul-values-3
+    add-values-4
+    add-values-5
+    slice-write-values-3
     add-i
     loop-less
     loop-again

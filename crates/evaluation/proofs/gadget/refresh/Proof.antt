@@ -1,51 +1,37 @@
 -- `evaluation::gadget::refresh` meets its contract.
-use Prim.Native.Nat.{_-_, _+_}
-use native.Mathlib.Omega.{arith}
 use borrow.Author.Needs.{needs}
-use Rattle.circuit.specs.Kinds.{pairs}
-use Rattle.evaluation.specs.Layout.{sumsWords, refWords, wordA}
-use Rattle.evaluation.specs.Laying.{steps}
-use Rattle.evaluation.proofs.Lays.{laid-append, room-first, room-next}
-use Rattle.evaluation.proofs.Bounds.{eights}
 use Rattle.evaluation.proofs.gadget.refresh.Statement.{statement}
 use Rattle.evaluation.proofs.gadget.refresh.Tie as tie
+use mathlib.Core.Path.{_≡_, refl, sym, ap, ap₂, subst, _∙_}
+use Prim.Native.Nat.{ℕ, _+_, _-_, _*_, _≤_, _<_}
+use native.Mathlib.Omega.{arith}
+use Rattle.evaluation.proofs.Bounds.{eights, sixteens}
+use Rattle.evaluation.specs.Places.{wordA, wordB, rowStart, pairSite, slotOf, cellRow, pairAt, ownAt, cellAt, outAt, maskAt, sumAt, heldAt}
+use Rattle.circuit.specs.Kinds.{pairs}
+use Rattle.evaluation.proofs.Gadgets.{ref-filled}
+
+pairs-requires : tie.Need-pairs-requires
+pairs-requires c κs = (omega (arith, c .before .before .before .before .pre .0 .0, c .before .before .before .before .pre .0 .1, c .before .before .before .before .pre .0 .2, c .before .before .before .before .pre .1, c .before .before .before .before .pre .3, c .before .before .before .before .pre .4), omega (arith, c .before .before .before .before .pre .0 .0, c .before .before .before .before .pre .0 .1, c .before .before .before .before .pre .0 .2, c .before .before .before .before .pre .1, c .before .before .before .before .pre .3, c .before .before .before .before .pre .4))
+
+copy-requires : tie.Need-copy-requires
+copy-requires c κs = (omega (arith, c .before .before .before .before .before .pre .0 .0, c .before .before .before .before .before .pre .0 .1, c .before .before .before .before .before .pre .0 .2, c .before .before .before .before .before .pre .1, c .before .before .before .before .before .pre .3, c .before .before .before .before .before .pre .4, c .pairs .ensures .0, c .pairs .ensures .1), omega (arith, c .before .before .before .before .before .pre .0 .0, c .before .before .before .before .before .pre .0 .1, c .before .before .before .before .before .pre .0 .2, c .before .before .before .before .before .pre .1, c .before .before .before .before .before .pre .3, c .before .before .before .before .before .pre .4, c .pairs .ensures .0, c .pairs .ensures .1), c .before .before .before .before .before .pre .5)
 
 sums-requires : tie.Need-sums-requires
-unfolding refWords
-sums-requires c κs =
-    let a = c .before .before .before .args in
-    (room-first (a .at) (sumsWords (a .d) (a .first) (wordA (a .ops .now))) (steps (a .first + pairs (a .d)) 1 (a .d)) (c .before .before .before .pre .0), search needs, search needs, search needs)
+sums-requires c κs = (c .before .before .before .before .before .before .before .before .before .pre .0, c .before .before .before .before .before .before .before .before .before .pre .1, c .before .before .before .before .before .before .before .before .before .pre .2, omega (arith, c .before .before .before .before .before .before .before .before .before .pre .0 .0, c .before .before .before .before .before .before .before .before .before .pre .0 .1, c .before .before .before .before .before .before .before .before .before .pre .0 .2, c .before .before .before .before .before .before .before .before .before .pre .1, c .before .before .before .before .before .before .before .before .before .pre .3, c .before .before .before .before .before .before .before .before .before .pre .4, c .before .before .before .before .pairs .ensures .0, c .before .before .before .before .pairs .ensures .1, c .before .before .before .copy .ensures .size))
 
-sub-progression : tie.Need-sub-progression
-sub-progression c = search needs
-
-mul-progression : tie.Need-mul-progression
-mul-progression c = record { fits = omega (arith, eights (c .before .before .before .before .before .before .before .args .d) (c .before .before .before .before .before .before .before .args .d - 1) (omega arith) (omega arith)) }
-
-add-progression : tie.Need-add-progression
-add-progression c = record { fits = omega (arith, eights (c .before .before .before .before .before .before .before .args .d) (c .before .before .before .before .before .before .before .args .d - 1) (omega arith) (omega arith)) }
-
-progression-requires : tie.Need-progression-requires
-unfolding refWords
-progression-requires c κs =
-    let a = c .before .before .before .before .before .before .before .args in
-    (room-next (steps (a .first + pairs (a .d)) 1 (a .d)) (c .before .before .before .sums .ensures) (c .before .before .before .before .before .before .before .pre .0), omega (arith, eights (c .before .before .before .before .before .before .before .args .d) (c .before .before .before .before .before .before .before .args .d - 1) (omega arith) (omega arith)), search needs, search needs)
+holds-requires : tie.Need-holds-requires
+holds-requires c κs = (c .before .before .before .before .before .before .before .before .before .before .before .before .before .pre .0, omega (arith, c .before .before .before .before .before .before .before .before .before .before .before .before .before .pre .0 .0, c .before .before .before .before .before .before .before .before .before .before .before .before .before .pre .0 .1, c .before .before .before .before .before .before .before .before .before .before .before .before .before .pre .0 .2, c .before .before .before .before .before .before .before .before .before .before .before .before .before .pre .1, c .before .before .before .before .before .before .before .before .before .before .before .before .before .pre .3, c .before .before .before .before .before .before .before .before .before .before .before .before .before .pre .4, c .before .before .before .before .before .before .before .before .pairs .ensures .0, c .before .before .before .before .before .before .before .before .pairs .ensures .1, c .before .before .before .before .before .before .before .copy .ensures .size, c .before .before .before .sums .ensures .size))
 
 same-length : tie.Need-same-length
 same-length c = search needs
 
 returns : tie.Need-returns
-unfolding refWords
-returns c = laid-append (c .before .before .before .before .before .before .sums .ensures) (c .before .before .progression .ensures)
+returns c =
+    let a = c .before .before .before .before .before .before .before .before .before .before .before .before .before .before .before .before .args in
+    ref-filled (a .d) (a .first) (wordA (a .ops .now)) (a .tape .now) (a .used) (a .values .now) (c .before .before .before .before .before .before .before .before .before .before .copy .last .0) (c .before .before .before .before .before .before .sums .last .0) (c .before .before .holds .last .0)
+    (c .before .before .before .before .before .before .before .before .before .before .before .pairs .result) (c .before .before .before .before .before .before .before .before .before .before .before .pairs .ensures .0) (c .before .before .before .before .before .before .before .before .before .before .copy .ensures) (c .before .before .before .before .before .before .sums .ensures) (c .before .before .holds .ensures)
 
 pub refresh-spec : {M : Type 1} → statement M
 refresh-spec =
     tie.close
-    (tie.spec
-    sums-requires
-    sub-progression
-    mul-progression
-    add-progression
-    progression-requires
-    same-length
-    returns)
+    (tie.spec pairs-requires copy-requires sums-requires holds-requires same-length returns)

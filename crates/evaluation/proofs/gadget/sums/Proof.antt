@@ -1,48 +1,84 @@
 -- `evaluation::gadget::sums` meets its contract.
-use Prim.Native.Nat.{_≤_, _-_, _+_}
-use native.Mathlib.Omega.{arith}
-use borrow.Author.Needs.{needs}
-use Rattle.circuit.specs.Lists.{each}
-use Rattle.evaluation.specs.Layout.{sumsWords, sumWords, wordA}
-use Rattle.evaluation.proofs.Lays.{Left, left-start, left-turn, left-end, left-room, from, each-start, each-turn, each-end}
 use Rattle.evaluation.proofs.gadget.sums.Statement.{statement}
 use Rattle.evaluation.proofs.gadget.sums.Tie as tie
+use borrow.Author.Needs.{needs}
+use Rattle.evaluation.proofs.Gadgets.{masked-turn}
+use mathlib.Core.Path.{_≡_, refl, sym, ap, ap₂, subst, _∙_}
+use Prim.Native.Nat.{ℕ, _+_, _-_, _*_, _≤_, _<_}
+use native.Mathlib.Omega.{arith}
+use lib.ListN.{length, set, length-set}
+use Rattle.circuit.specs.Lists.{_⊕_, nth, range}
+use Rattle.evaluation.specs.Places.{wordA, wordB, rowStart, pairSite, slotOf, cellRow, pairAt, ownAt, cellAt, outAt, maskAt, sumAt, heldAt}
+use Rattle.evaluation.specs.Filling.{Values, Known, Fills, Copied, Drawn, Owned, Crossed, RowCrossed, Multiplied, AndValues, Masked, Held, RefValues}
+use Rattle.evaluation.proofs.Filled.{known-all, fills-none, fills-next, fills-for, fills-at, fills-set}
+use Rattle.circuit.specs.Kinds.{pairs}
+use Rattle.netlist.specs.Values.{byte}
 
 abbrev Inv-loop : tie.InvT-loop
-Inv-loop sheet₀ at first d ops place₀ i₀ sheet place i = (i ≤ d) × Left sheet₀ at (sumsWords d first (wordA ops)) sheet place (each (from d i) (sumWords d first (wordA ops)))
+Inv-loop values₀ first d ops start i₀ values i = (i ≤ d) × Fills (Masked d first (wordA ops)) (first + pairs d) (first + pairs d + i) values₀ values
 
 abbrev μ-loop : tie.MeasureT-loop
-μ-loop sheet₀ at first d ops place₀ i₀ sheet place i = d - i
+μ-loop values₀ first d ops start i₀ values i = d - i
+
+pairs-requires : tie.Need-pairs-requires Inv-loop μ-loop
+pairs-requires c κs = (omega (arith, c .before .before .pre .0 .0, c .before .before .pre .0 .1, c .before .before .pre .0 .2, c .before .before .pre .1, c .before .before .pre .3), omega (arith, c .before .before .pre .0 .0, c .before .before .pre .0 .1, c .before .before .pre .0 .2, c .before .before .pre .1, c .before .before .pre .3))
+
+add-start : tie.Need-add-start Inv-loop μ-loop
+add-start c = record { fits = omega (arith, c .before .before .before .pre .0 .0, c .before .before .before .pre .0 .1, c .before .before .before .pre .0 .2, c .before .before .before .pre .1, c .before .before .before .pre .3, c .pairs .ensures .0, c .pairs .ensures .1) }
 
 loop-holds : tie.Need-loop-holds Inv-loop μ-loop
-unfolding sumsWords
-loop-holds c =
-    let a = c .before .before .args in
-    (search needs, left-start (a .sheet .now) (a .at) (sumsWords (a .d) (a .first) (wordA (a .ops .now))) (each (from (a .d) 0) (sumWords (a .d) (a .first) (wordA (a .ops .now)))) (each-start (a .d) (sumWords (a .d) (a .first) (wordA (a .ops .now)))))
+loop-holds c = (omega arith, fills-at refl (omega arith) (fills-none (c .before .before .before .args .first + pairs (c .before .before .before .args .d)) (c .before .before .before .args .values .now)))
 
-sum-requires : tie.Need-sum-requires Inv-loop μ-loop
-sum-requires c κs =
-    let a = c .before .before .before .before .before .args in
-    let i = c .before .before .loop .i in
-    (left-room (sumWords (a .d) (a .first) (wordA (a .ops .now)) i) (each (from (a .d) (i + 1)) (sumWords (a .d) (a .first) (wordA (a .ops .now)))) (c .before .before .loop .inv .1) (each-turn (a .d) i (sumWords (a .d) (a .first) (wordA (a .ops .now))) (c .before .loop-test .taken)) (c .before .before .before .before .before .pre .0), search needs, search needs, search needs, search needs)
+add-x : tie.Need-add-x Inv-loop μ-loop
+add-x c = search needs
+
+mul-x : tie.Need-mul-x Inv-loop μ-loop
+mul-x c = search needs
+
+shared-slice-read-x : tie.Need-shared-slice-read-x Inv-loop μ-loop
+shared-slice-read-x c = omega (arith, c .before .before .loop .inv .0, c .before .loop-test .taken, c .before .before .before .before .before .before .pre .0 .0, c .before .before .before .before .before .before .pre .0 .1, c .before .before .before .before .before .before .pre .0 .2, c .before .before .before .before .before .before .pre .1, c .before .before .before .before .before .before .pre .3, c .before .before .before .pairs .ensures .0, c .before .before .before .pairs .ensures .1, c .before .before .loop .inv .1 .size, c .before .before .before .before .before .before .pre .2 (c .before .before .loop .i) (c .before .loop-test .taken))
+
+cast-x : tie.Need-cast-x Inv-loop μ-loop
+cast-x c = record { fits = omega (arith, c .before .before .loop .inv .0, c .before .loop-test .taken, c .before .before .before .before .before .before .pre .0 .0, c .before .before .before .before .before .before .pre .0 .1, c .before .before .before .before .before .before .pre .0 .2, c .before .before .before .before .before .before .pre .1, c .before .before .before .before .before .before .pre .3, c .before .before .before .pairs .ensures .0, c .before .before .before .pairs .ensures .1, c .before .before .loop .inv .1 .size, c .before .before .before .before .before .before .pre .2 (c .before .before .loop .i) (c .before .loop-test .taken)) }
+
+slice-read-a : tie.Need-slice-read-a Inv-loop μ-loop
+slice-read-a c = omega (arith, c .before .before .before .loop .inv .0, c .before .before .loop-test .taken, c .before .before .before .before .before .before .before .pre .0 .0, c .before .before .before .before .before .before .before .pre .0 .1, c .before .before .before .before .before .before .before .pre .0 .2, c .before .before .before .before .before .before .before .pre .1, c .before .before .before .before .before .before .before .pre .3, c .before .before .before .before .pairs .ensures .0, c .before .before .before .before .pairs .ensures .1, c .before .before .before .loop .inv .1 .size, c .before .before .before .before .before .before .before .pre .2 (c .before .before .before .loop .i) (c .before .before .loop-test .taken))
+
+add-masks-requires : tie.Need-add-masks-requires Inv-loop μ-loop
+add-masks-requires c κs = (c .before .before .before .before .before .before .before .before .pre .0, c .before .before .before .loop-test .taken, omega (arith, c .before .before .before .before .loop .inv .0, c .before .before .before .loop-test .taken, c .before .before .before .before .before .before .before .before .pre .0 .0, c .before .before .before .before .before .before .before .before .pre .0 .1, c .before .before .before .before .before .before .before .before .pre .0 .2, c .before .before .before .before .before .before .before .before .pre .1, c .before .before .before .before .before .before .before .before .pre .3, c .before .before .before .before .before .pairs .ensures .0, c .before .before .before .before .before .pairs .ensures .1, c .before .before .before .before .loop .inv .1 .size, c .before .before .before .before .before .before .before .before .pre .2 (c .before .before .before .before .loop .i) (c .before .before .before .loop-test .taken)), omega (arith, c .before .before .before .before .loop .inv .0, c .before .before .before .loop-test .taken, c .before .before .before .before .before .before .before .before .pre .0 .0, c .before .before .before .before .before .before .before .before .pre .0 .1, c .before .before .before .before .before .before .before .before .pre .0 .2, c .before .before .before .before .before .before .before .before .pre .1, c .before .before .before .before .before .before .before .before .pre .3, c .before .before .before .before .before .pairs .ensures .0, c .before .before .before .before .before .pairs .ensures .1, c .before .before .before .before .loop .inv .1 .size, c .before .before .before .before .before .before .before .before .pre .2 (c .before .before .before .before .loop .i) (c .before .before .before .loop-test .taken)), (λ j l u e. omega arith), omega arith)
+
+add-add-masks : tie.Need-add-add-masks Inv-loop μ-loop
+add-add-masks c = record { fits = omega (arith, c .before .before .before .before .before .before .loop .inv .0, c .before .before .before .before .before .loop-test .taken, c .before .before .before .before .before .before .before .before .before .before .pre .0 .0, c .before .before .before .before .before .before .before .before .before .before .pre .0 .1, c .before .before .before .before .before .before .before .before .before .before .pre .0 .2, c .before .before .before .before .before .before .before .before .before .before .pre .1, c .before .before .before .before .before .before .before .before .before .before .pre .3, c .before .before .before .before .before .before .before .pairs .ensures .0, c .before .before .before .before .before .before .before .pairs .ensures .1, c .before .before .before .before .before .before .loop .inv .1 .size, c .before .before .before .before .before .before .before .before .before .before .pre .2 (c .before .before .before .before .before .before .loop .i) (c .before .before .before .before .before .loop-test .taken)) }
+
+add-masks-requires-2 : tie.Need-add-masks-requires-2 Inv-loop μ-loop
+add-masks-requires-2 c κs = (c .before .before .before .before .before .before .before .before .before .before .pre .0, c .before .before .before .before .before .loop-test .taken, omega arith, omega (arith, c .before .before .before .before .before .before .loop .inv .0, c .before .before .before .before .before .loop-test .taken, c .before .before .before .before .before .before .before .before .before .before .pre .0 .0, c .before .before .before .before .before .before .before .before .before .before .pre .0 .1, c .before .before .before .before .before .before .before .before .before .before .pre .0 .2, c .before .before .before .before .before .before .before .before .before .before .pre .1, c .before .before .before .before .before .before .before .before .before .before .pre .3, c .before .before .before .before .before .before .before .pairs .ensures .0, c .before .before .before .before .before .before .before .pairs .ensures .1, c .before .before .before .before .before .before .loop .inv .1 .size, c .before .before .before .before .before .before .before .before .before .before .pre .2 (c .before .before .before .before .before .before .loop .i) (c .before .before .before .before .before .loop-test .taken)), (λ j l u e. omega arith), omega (arith, c .before .before .before .before .before .before .loop .inv .0, c .before .before .before .before .before .loop-test .taken, c .before .before .before .before .before .before .before .before .before .before .pre .0 .0, c .before .before .before .before .before .before .before .before .before .before .pre .0 .1, c .before .before .before .before .before .before .before .before .before .before .pre .0 .2, c .before .before .before .before .before .before .before .before .before .before .pre .1, c .before .before .before .before .before .before .before .before .before .before .pre .3, c .before .before .before .before .before .before .before .pairs .ensures .0, c .before .before .before .before .before .before .before .pairs .ensures .1, c .before .before .before .before .before .before .loop .inv .1 .size, c .before .before .before .before .before .before .before .before .before .before .pre .2 (c .before .before .before .before .before .before .loop .i) (c .before .before .before .before .before .loop-test .taken)))
+
+add-values : tie.Need-add-values Inv-loop μ-loop
+add-values c = record { fits = omega (arith, c .before .before .before .before .before .before .before .loop .inv .0, c .before .before .before .before .before .before .loop-test .taken, c .before .before .before .before .before .before .before .before .before .before .before .pre .0 .0, c .before .before .before .before .before .before .before .before .before .before .before .pre .0 .1, c .before .before .before .before .before .before .before .before .before .before .before .pre .0 .2, c .before .before .before .before .before .before .before .before .before .before .before .pre .1, c .before .before .before .before .before .before .before .before .before .before .before .pre .3, c .before .before .before .before .before .before .before .before .pairs .ensures .0, c .before .before .before .before .before .before .before .before .pairs .ensures .1, c .before .before .before .before .before .before .before .loop .inv .1 .size, c .before .before .before .before .before .before .before .before .before .before .before .pre .2 (c .before .before .before .before .before .before .before .loop .i) (c .before .before .before .before .before .before .loop-test .taken)) }
+
+slice-write-values : tie.Need-slice-write-values Inv-loop μ-loop
+slice-write-values c = omega (arith, c .before .before .before .before .before .before .before .loop .inv .0, c .before .before .before .before .before .before .loop-test .taken, c .before .before .before .before .before .before .before .before .before .before .before .pre .0 .0, c .before .before .before .before .before .before .before .before .before .before .before .pre .0 .1, c .before .before .before .before .before .before .before .before .before .before .before .pre .0 .2, c .before .before .before .before .before .before .before .before .before .before .before .pre .1, c .before .before .before .before .before .before .before .before .before .before .before .pre .3, c .before .before .before .before .before .before .before .before .pairs .ensures .0, c .before .before .before .before .before .before .before .before .pairs .ensures .1, c .before .before .before .before .before .before .before .loop .inv .1 .size, c .before .before .before .before .before .before .before .before .before .before .before .pre .2 (c .before .before .before .before .before .before .before .loop .i) (c .before .before .before .before .before .before .loop-test .taken))
 
 add-i : tie.Need-add-i Inv-loop μ-loop
-add-i c = search needs
+add-i c = record { fits = omega (arith, c .before .before .before .before .before .before .before .loop .inv .0, c .before .before .before .before .before .before .loop-test .taken, c .before .before .before .before .before .before .before .before .before .before .before .pre .0 .0, c .before .before .before .before .before .before .before .before .before .before .before .pre .0 .1, c .before .before .before .before .before .before .before .before .before .before .before .pre .0 .2, c .before .before .before .before .before .before .before .before .before .before .before .pre .1, c .before .before .before .before .before .before .before .before .before .before .before .pre .3, c .before .before .before .before .before .before .before .before .pairs .ensures .0, c .before .before .before .before .before .before .before .before .pairs .ensures .1, c .before .before .before .before .before .before .before .loop .inv .1 .size, c .before .before .before .before .before .before .before .before .before .before .before .pre .2 (c .before .before .before .before .before .before .before .loop .i) (c .before .before .before .before .before .before .loop-test .taken)) }
 
 loop-less : tie.Need-loop-less Inv-loop μ-loop
-loop-less c = search needs
+loop-less c = omega (arith, c .before .before .before .before .before .before .before .loop .inv .0, c .before .before .before .before .before .before .loop-test .taken, c .before .before .before .before .before .before .before .before .before .before .before .pre .0 .0, c .before .before .before .before .before .before .before .before .before .before .before .pre .0 .1, c .before .before .before .before .before .before .before .before .before .before .before .pre .0 .2, c .before .before .before .before .before .before .before .before .before .before .before .pre .1, c .before .before .before .before .before .before .before .before .before .before .before .pre .3, c .before .before .before .before .before .before .before .before .pairs .ensures .0, c .before .before .before .before .before .before .before .before .pairs .ensures .1, c .before .before .before .before .before .before .before .loop .inv .1 .size, c .before .before .before .before .before .before .before .before .before .before .before .pre .2 (c .before .before .before .before .before .before .before .loop .i) (c .before .before .before .before .before .before .loop-test .taken))
 
 loop-again : tie.Need-loop-again Inv-loop μ-loop
 loop-again c =
-    let a = c .before .before .before .before .before .before .before .before .args in
-    let l = c .before .before .before .before .before .loop in
-    (omega arith, left-turn (l .inv .1) (each-turn (a .d) (l .i) (sumWords (a .d) (a .first) (wordA (a .ops .now))) (c .before .before .before .before .loop-test .taken)) (c .before .before .sum .ensures))
+    let a = c .before .before .before .before .before .before .before .before .before .before .before .args in
+    let i = c .before .before .before .before .before .before .before .loop .i in
+    let l = c .before .before .before .before .before .before .loop-test .taken in
+    let here : a .first + pairs (a .d) + i ≡ a .first + c .before .before .before .before .before .before .before .before .pairs .result + i = omega (arith, c .before .before .before .before .before .before .before .before .pairs .ensures .0) in
+    (omega (arith, c .before .before .before .before .before .before .before .loop .inv .0, c .before .before .before .before .before .before .loop-test .taken, c .before .before .before .before .before .before .before .before .before .before .before .pre .0 .0, c .before .before .before .before .before .before .before .before .before .before .before .pre .0 .1, c .before .before .before .before .before .before .before .before .before .before .before .pre .0 .2, c .before .before .before .before .before .before .before .before .before .before .before .pre .1, c .before .before .before .before .before .before .before .before .before .before .before .pre .3, c .before .before .before .before .before .before .before .before .pairs .ensures .0, c .before .before .before .before .before .before .before .before .pairs .ensures .1, c .before .before .before .before .before .before .before .loop .inv .1 .size, c .before .before .before .before .before .before .before .before .before .before .before .pre .2 (c .before .before .before .before .before .before .before .loop .i) (c .before .before .before .before .before .before .loop-test .taken)), subst (λ (n : ℕ). Fills (Masked (a .d) (a .first) (wordA (a .ops .now))) (a .first + pairs (a .d)) (a .first + pairs (a .d) + (i + 1)) (a .values .now) (set (c .before .before .before .before .before .before .before .loop .values) n (c .add-masks2 .result))) here
+    (masked-turn (a .d) (a .first) (wordA (a .ops .now)) (a .values .now) (c .before .before .before .before .before .before .before .loop .values) i l (omega (arith, c .before .before .before .before .before .before .before .loop .inv .0, c .before .before .before .before .before .before .loop-test .taken, c .before .before .before .before .before .before .before .before .before .before .before .pre .0 .0, c .before .before .before .before .before .before .before .before .before .before .before .pre .0 .1, c .before .before .before .before .before .before .before .before .before .before .before .pre .0 .2, c .before .before .before .before .before .before .before .before .before .before .before .pre .1, c .before .before .before .before .before .before .before .before .before .before .before .pre .3, c .before .before .before .before .before .before .before .before .pairs .ensures .0, c .before .before .before .before .before .before .before .before .pairs .ensures .1, c .before .before .before .before .before .before .before .loop .inv .1 .size, c .before .before .before .before .before .before .before .before .before .before .before .pre .2 (c .before .before .before .before .before .before .before .loop .i) (c .before .before .before .before .before .before .loop-test .taken))) (c .before .before .before .before .before .before .before .before .before .before .before .pre .2 i l) (c .before .before .before .before .before .before .before .loop .inv .1) (c .before .before .add-masks .result) (c .add-masks2 .result) (c .before .before .add-masks .ensures) (c .add-masks2 .ensures)))
 
 same-length : tie.Need-same-length Inv-loop μ-loop
 same-length c = c .before .loop .inv .1 .size
 
 returns : tie.Need-returns Inv-loop μ-loop
-returns c = left-end (c .before .loop .inv .1) (each-end (c .before .before .before .before .args .d) (c .before .loop .i) _ (c .loop-test .left))
+returns c = fills-at refl (omega (arith, c .before .loop .inv .0, c .loop-test .left, c .before .before .before .before .before .pre .0 .0, c .before .before .before .before .before .pre .0 .1, c .before .before .before .before .before .pre .0 .2, c .before .before .before .before .before .pre .1, c .before .before .before .before .before .pre .3, c .before .before .pairs .ensures .0, c .before .before .pairs .ensures .1, c .before .loop .inv .1 .size)) (c .before .loop .inv .1)
 
 pub sums-spec : {M : Type 1} → statement M
 sums-spec =
@@ -50,8 +86,19 @@ sums-spec =
     (tie.spec
     Inv-loop
     μ-loop
+    pairs-requires
+    add-start
     loop-holds
-    sum-requires
+    add-x
+    mul-x
+    shared-slice-read-x
+    cast-x
+    slice-read-a
+    add-masks-requires
+    add-add-masks
+    add-masks-requires-2
+    add-values
+    slice-write-values
     add-i
     loop-less
     loop-again

@@ -1,0 +1,49 @@
+-- `evaluation::places::cell_row` meets its contract.
+use mathlib.Core.Path.{refl}
+use Prim.Native.Nat.{_-_}
+use native.Mathlib.Omega.{arith}
+use borrow.Author.Needs.{needs}
+use Rattle.evaluation.proofs.Bounds.{eights}
+use Rattle.evaluation.proofs.places.cell_row.Statement.{statement}
+use Rattle.evaluation.proofs.places.cell_row.Tie as tie
+
+sub-result : tie.Need-sub-result
+sub-result c = search needs
+
+mul-result : tie.Need-mul-result
+mul-result c = record { fits = omega (arith, eights (c .args .d) (c .args .d - 1) (omega arith) (omega arith), eights (c .args .i) (c .args .d - 1) (omega arith) (omega arith)) }
+
+mul-result-2 : tie.Need-mul-result-2
+mul-result-2 c = search needs
+
+add-result : tie.Need-add-result
+add-result c = record { fits = omega (arith, eights (c .args .d) (c .args .d - 1) (omega arith) (omega arith), eights (c .args .i) (c .args .d - 1) (omega arith) (omega arith)) }
+
+sub-result-2 : tie.Need-sub-result-2
+sub-result-2 c = search needs
+
+mul-result-3 : tie.Need-mul-result-3
+mul-result-3 c = record { fits = omega (arith, eights (c .args .d) (c .args .d - 1) (omega arith) (omega arith), eights (c .args .i) (c .args .d - 1) (omega arith) (omega arith)) }
+
+mul-result-4 : tie.Need-mul-result-4
+mul-result-4 c = record { fits = omega (arith, eights (c .args .d) (c .args .d - 1) (omega arith) (omega arith), eights (c .args .i) (c .args .d - 1) (omega arith) (omega arith)) }
+
+add-result-2 : tie.Need-add-result-2
+add-result-2 c = record { fits = omega (arith, eights (c .args .d) (c .args .d - 1) (omega arith) (omega arith), eights (c .args .i) (c .args .d - 1) (omega arith) (omega arith)) }
+
+returns : tie.Need-returns
+returns c = (refl, omega (arith, eights (c .args .d) (c .args .d - 1) (omega arith) (omega arith), eights (c .args .i) (c .args .d - 1) (omega arith) (omega arith)))
+
+pub cell-row-spec : {M : Type 1} → statement M
+cell-row-spec =
+    tie.close
+    (tie.spec
+    sub-result
+    mul-result
+    mul-result-2
+    add-result
+    sub-result-2
+    mul-result-3
+    mul-result-4
+    add-result-2
+    returns)

@@ -1,0 +1,20 @@
+-- `evaluation::places::pairs` meets its contract.
+use borrow.Author.Needs.{needs}
+use Rattle.evaluation.proofs.places.pairs.Statement.{statement}
+use Rattle.evaluation.proofs.places.pairs.Tie as tie
+use mathlib.Core.Path.{_≡_, refl, sym, ap, ap₂, subst, _∙_}
+use Prim.Native.Nat.{ℕ, _+_, _-_, _*_, _≤_, _<_}
+use native.Mathlib.Omega.{arith}
+use Rattle.evaluation.proofs.Bounds.{eights, sixteens}
+
+sub-result : tie.Need-sub-result
+sub-result c = search needs
+
+mul-result : tie.Need-mul-result
+mul-result c = record { fits = omega (arith, eights (c .args .d) (c .args .d - 1) (omega arith) (omega arith)) }
+
+returns : tie.Need-returns
+returns c = (refl, omega (arith, eights (c .args .d) (c .args .d - 1) (omega arith) (omega arith)))
+
+pub pairs-spec : {M : Type 1} → statement M
+pairs-spec = tie.close (tie.spec sub-result mul-result returns)
