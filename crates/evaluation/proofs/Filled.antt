@@ -63,3 +63,8 @@ fills-set {E} {from} {p} {old} {mid} e f l room h = record {
   where
     r : p < length mid
     r = omega (arith, f .size)
+
+-- one wire alone
+pub fills-one : {E : Values → Type 0} (first : ℕ) (sheet : List ℕ) (e : ℕ) → first < length sheet → ((v : Values) → E v → Known v 0 first sheet → e ≡ byte (v first))
+    → Fills E first (first + 1) sheet (set sheet first e)
+fills-one first sheet e room h = fills-set e (fills-none first sheet) (omega arith) room h

@@ -5,10 +5,18 @@ pub mod Bits
 pub mod Adding
 -- Where the wires of the gadgets stand
 pub mod Sites
+pub mod Placed
+-- The walk over an accepted table
+pub mod Walking
+-- The values of a circuit
+pub mod Solving
 -- Sheets filled in
 pub mod Filled
 pub mod Crossing
 pub mod Owning
 pub mod Rows
+pub mod Equations
+pub mod Framing
 pub mod Outputs
 pub mod Gadgets
+pub mod Evaluating

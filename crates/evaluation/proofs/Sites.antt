@@ -179,7 +179,7 @@ module _ (d : ℕ) where
       (λ e. let k = ltb-other i j (o .apart) e in rw (e, k) (and-site (is-R j i (other o) k)))
 
   -- REF
-  abbrev refSite : Part → ℕ
+  abbrev pub refSite : Part → ℕ
   refSite (r i j) = rowStart d i + (j - i - 1)
   refSite (s i) = pairs d + i
   refSite (R i j) = 0

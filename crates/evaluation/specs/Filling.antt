@@ -104,3 +104,17 @@ abbrev pub FrameValues : FrameCode → (d first from used : ℕ) (ops shares tap
 FrameValues (frame.Gate g) d first from used ops shares tape v = GateValues g d first from shares v
 FrameValues frame.And d first from used ops shares tape v = AndValues d first (wordA ops) (wordB d ops) tape used v
 FrameValues frame.Ref d first from used ops shares tape v = RefValues d first (wordA ops) tape used v
+
+-- how many wires a frame makes
+abbrev pub gateMakes : GateCode → ℕ → ℕ
+gateMakes (gate.In t) d = d
+gateMakes (gate.Con l b t) d = 1
+gateMakes (gate.Xor x y) d = 1
+gateMakes (gate.Not x) d = 1
+gateMakes (gate.Reg x) d = 1
+gateMakes gate.Out d = 0
+
+abbrev pub frameMakes : FrameCode → ℕ → ℕ
+frameMakes (frame.Gate g) d = gateMakes g d
+frameMakes frame.And d = 7 * (d * (d - 1)) + 4 * d
+frameMakes frame.Ref d = pairs d + 2 * d

@@ -4,10 +4,14 @@ use mathlib.Core.Bool.{Bool}
 use mathlib.Core.List.{List}
 use Prim.Native.Nat.{ℕ, _+_, _-_, _*_, _≤_, _<_}
 use lib.ListN.{length}
+use Rattle.checker.specs.declared.walk.Gate.{Gate as GateCode}
+use Rattle.checker.specs.declared.walk.Gate.the-variants as gate
+use Rattle.checker.specs.declared.walk.Frame.{Frame as FrameCode}
+use Rattle.checker.specs.declared.walk.Frame.the-variants as frame
 use Rattle.circuit.specs.Lists.{_⊕_, range}
 use Rattle.circuit.specs.Kinds.{pairs}
 use Rattle.netlist.specs.Values.{byte, total}
-use Rattle.evaluation.specs.Places.{cellAt, maskAt, cellRow}
+use Rattle.evaluation.specs.Places.{wordA, wordB, cellAt, maskAt, cellRow}
 use Rattle.evaluation.specs.Filling.{Values, Known, Fills, Crossed, crossing, RowCrossed, crossingAt}
 
 -- numbers that stay small
@@ -49,3 +53,18 @@ pub record CrossesRow (d first i a bit from to : ℕ) (old new : List ℕ) (s : 
 
 pub record Sums (d first i bit from to : ℕ) (values : List ℕ) (s : ℕ) : Type 0 where
   pub is : (x : Bool) → bit ≡ byte x → (v : Values) → Known v 0 (first + pairs d) values → s ≡ byte (x ⊕ total (range from (to - from)) (λ j. v (maskAt d first i j)))
+
+-- a gate whose wires are earlier ones, with a share for each wire of an IN
+abbrev pub GateReady : GateCode → (d first from shares : ℕ) → Type 0
+GateReady (gate.In t) d first from shares = from + d ≤ shares
+GateReady (gate.Con l b t) d first from shares = Unit {0}
+GateReady (gate.Xor x y) d first from shares = (x < first) × (y < first)
+GateReady (gate.Not x) d first from shares = x < first
+GateReady (gate.Reg x) d first from shares = x < first
+GateReady gate.Out d first from shares = Unit {0}
+
+-- a frame whose wires are earlier ones, with a share for each wire of an IN and a random bit for each pair
+abbrev pub FrameReady : FrameCode → (d first from used : ℕ) (ops : List ℕ) (shares tape : ℕ) → Type 0
+FrameReady (frame.Gate g) d first from used ops shares tape = GateReady g d first from shares
+FrameReady frame.And d first from used ops shares tape = (length ops ≡ 1 + d + d) × Early first d (wordA ops) × Early first d (wordB d ops) × (used + pairs d ≤ tape)
+FrameReady frame.Ref d first from used ops shares tape = (1 + d ≤ length ops) × Early first d (wordA ops) × (used + pairs d ≤ tape)

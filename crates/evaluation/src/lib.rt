@@ -1,3 +1,4 @@
 // Evaluates accepted circuits, and reads what probes on their wires show.
 mod gadget;
 mod places;
+mod values;

@@ -34,7 +34,7 @@ total-none : (xs : List ℕ) → total xs (λ i. false) ≡ false
 total-none [] = refl
 total-none (x ∷ xs) = total-none xs
 
-total-xor : (f g : ℕ → Bool) (xs : List ℕ) → total xs (λ i. f i ⊕ g i) ≡ (total xs f ⊕ total xs g)
+pub total-xor : (f g : ℕ → Bool) (xs : List ℕ) → total xs (λ i. f i ⊕ g i) ≡ (total xs f ⊕ total xs g)
 total-xor f g [] = refl
 total-xor f g (x ∷ xs) = ap (λ z. (f x ⊕ g x) ⊕ z) (total-xor f g xs) ∙ xor-middle (f x) (g x) (total xs f) (total xs g)
 

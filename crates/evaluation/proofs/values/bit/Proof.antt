@@ -1,0 +1,16 @@
+-- `evaluation::values::bit` meets its contract.
+use Rattle.evaluation.proofs.values.bit.Statement.{statement}
+use Rattle.evaluation.proofs.values.bit.Tie as tie
+use mathlib.Core.Path.{_≡_, refl, sym, ap, ap₂, subst, _∙_}
+use Rattle.netlist.specs.Values.{byte}
+use Rattle.evaluation.proofs.Bits.{set-low, set-high}
+use borrow.Author.Needs.{needs}
+
+returns : tie.Need-returns
+returns c = sym (ap byte (set-low (c .before .args .word) (c .if1 .taken)))
+
+returns-2 : tie.Need-returns-2
+returns-2 c = sym (ap byte (set-high (c .before .args .word) (c .if1 .left)))
+
+pub bit-spec : {M : Type 1} → statement M
+bit-spec = tie.close (tie.spec returns returns-2)

@@ -1,0 +1,197 @@
+-- `evaluation::values::fill` meets its contract.
+use Rattle.evaluation.proofs.values.fill.Statement.{statement}
+use Rattle.evaluation.proofs.values.fill.Tie as tie
+use borrow.Author.Needs.{needs}
+use mathlib.Core.Path.{_≡_, refl, sym, ap, ap₂, subst, _∙_}
+use Prim.Native.Nat.{ℕ, _+_, _-_, _*_, _≤_, _<_}
+use native.Mathlib.Omega.{arith}
+use lib.ListN.{length, set, length-set}
+use mathlib.Core.List.{List}
+use Rattle.circuit.specs.Lists.{_⊕_, nth, range}
+use Rattle.circuit.specs.Rules.{checked}
+use Rattle.circuit.proofs.Exact.{Accepted}
+use Rattle.checker.specs.Walk.{operandsAt, stepAt}
+use Rattle.checker.specs.declared.walk.Step.the-variants.{Next, Refused, End}
+use Rattle.evaluation.specs.Filling.{Fills, FrameValues, frameMakes}
+use Rattle.evaluation.specs.Gadgets.{Small, FrameReady}
+use Rattle.evaluation.specs.Evaluating.{Supplied}
+use Rattle.evaluation.proofs.Evaluating.{FilledTo, filled-start, frame-taken, no-refusal, all-filled, second-word}
+
+abbrev Inv-loop : tie.InvT-loop
+Inv-loop table shares tape values₀ d n walk₀ ends₀ values walk ends = (walk .d ≡ nth table 1) × ((room : ℕ) (a : Accepted table room) → Supplied (checked table room .circuit) shares tape → FilledTo a shares tape values₀ values (walk .at) (ends .wires) (ends .shares) (ends .randoms))
+
+abbrev μ-loop : tie.MeasureT-loop
+μ-loop table shares tape values₀ d n walk₀ ends₀ values walk ends = length table - walk .at
+
+shared-slice-read-d : tie.Need-shared-slice-read-d Inv-loop μ-loop
+shared-slice-read-d c = omega (arith, ap length (c .before .before .before .before .before .pre .accepted .table-is))
+
+cast-n : tie.Need-cast-n Inv-loop μ-loop
+cast-n c = record { fits = omega (arith, c .before .before .before .before .before .pre .accepted .most, second-word (c .before .before .before .before .before .pre .accepted)) }
+
+loop-holds : tie.Need-loop-holds Inv-loop μ-loop
+loop-holds c = (refl, λ room q s. filled-start q (c .before .before .before .before .before .args .shares .now) (c .before .before .before .before .before .args .tape .now) (c .before .before .before .before .before .args .values .now))
+
+step-requires : tie.Need-step-requires Inv-loop μ-loop
+step-requires c κs = search needs
+
+enum-told : tie.Need-enum-told Inv-loop μ-loop
+enum-told c = search needs
+
+same-length : tie.Need-same-length Inv-loop μ-loop
+same-length c =
+    let a = c .before .before .before .before .before .before .before .before .before .args in
+    let pre = c .before .before .before .before .before .before .before .before .before .pre in
+    let l = c .before .before .before .loop in
+    let table = a .table .now in
+    l .inv .1 (pre .room) (pre .accepted) (pre .supplied) .sized
+
+returns : tie.Need-returns Inv-loop μ-loop
+returns c =
+    let a = c .before .before .before .before .before .before .before .before .before .args in
+    let pre = c .before .before .before .before .before .before .before .before .before .pre in
+    let l = c .before .before .before .loop in
+    let table = a .table .now in
+    record { is = λ room q s. all-filled q (a .shares .now) (a .tape .now) s (a .values .now) (l .values) (l .walk .at) (l .ends .wires) (l .ends .shares) (l .ends .randoms) (l .inv .1 room q s)
+    (subst (λ n. stepAt table n (l .walk .at) ≡ End) (l .inv .0 ∙ second-word q) (sym (c .before .before .step .ensures) ∙ c .enum-told .given .1)) (pre .roomy) }
+
+enum-told-2 : tie.Need-enum-told-2 Inv-loop μ-loop
+enum-told-2 c = search needs
+
+same-length-2 : tie.Need-same-length-2 Inv-loop μ-loop
+same-length-2 c =
+    let a = c .before .before .before .before .before .before .before .before .before .args in
+    let pre = c .before .before .before .before .before .before .before .before .before .pre in
+    let l = c .before .before .before .loop in
+    let table = a .table .now in
+    l .inv .1 (pre .room) (pre .accepted) (pre .supplied) .sized
+
+returns-2 : tie.Need-returns-2 Inv-loop μ-loop
+returns-2 c =
+    let a = c .before .before .before .before .before .before .before .before .before .args in
+    let pre = c .before .before .before .before .before .before .before .before .before .pre in
+    let l = c .before .before .before .loop in
+    let table = a .table .now in
+    absurd (no-refusal (pre .accepted) (a .shares .now) (a .tape .now) (pre .supplied) (a .values .now) (l .values) (l .walk .at) (l .ends .wires) (l .ends .shares) (l .ends .randoms) (l .inv .1 (pre .room) (pre .accepted) (pre .supplied)) (c .enum-told2 .given .0 .0)
+    (subst (λ n. stepAt table n (l .walk .at) ≡ Refused (c .enum-told2 .given .0 .0)) (l .inv .0 ∙ second-word (pre .accepted)) (sym (c .before .before .step .ensures) ∙ c .enum-told2 .given .1)))
+
+enum-known-step : tie.Need-enum-known-step Inv-loop μ-loop
+enum-known-step c = search needs
+
+operands-requires : tie.Need-operands-requires Inv-loop μ-loop
+operands-requires c κs = search needs
+
+write-frame-requires : tie.Need-write-frame-requires Inv-loop μ-loop
+write-frame-requires c κs =
+    let a = c .before .before .before .before .before .before .before .before .before .before .before .before .args in
+    let pre = c .before .before .before .before .before .before .before .before .before .before .before .before .pre in
+    let l = c .before .before .before .before .before .before .loop in
+    let table = a .table .now in
+    let g = c .before .before .before .step2 .given in
+    let d = nth table 1 in
+    let e : stepAt table d (l .walk .at) ≡ Next (g .0 .0) (g .0 .1 .0) (g .0 .1 .1 .0) = subst (λ n. stepAt table n (l .walk .at) ≡ Next (g .0 .0) (g .0 .1 .0) (g .0 .1 .1 .0)) (l .inv .0) (sym (c .before .before .before .before .before .step .ensures) ∙ g .1) in
+    let t = frame-taken (pre .accepted) (a .shares .now) (a .tape .now) (pre .supplied) (a .values .now) (l .values) (l .walk .at) (l .ends .wires) (l .ends .shares) (l .ends .randoms) (l .inv .1 (pre .room) (pre .accepted) (pre .supplied)) d (second-word (pre .accepted)) (g .0 .0) (g .0 .1 .0) (g .0 .1 .1 .0) e in
+    let o : c .before .operands .result .now ≡ operandsAt table d (l .walk .at) = c .before .operands .ensures ∙ ap (λ n. operandsAt table n (l .walk .at)) (l .inv .0) in
+    (t .small, omega (arith, t .few, l .inv .1 (pre .room) (pre .accepted) (pre .supplied) .sized, pre .roomy),
+    subst (λ (x : List ℕ). FrameReady (g .0 .0) d (l .ends .wires) (l .ends .shares) (l .ends .randoms) x (length (a .shares .now)) (length (a .tape .now))) (sym o) (t .ready), pre .supplied .shareBits, pre .supplied .tapeBits)
+
+add-t19 : tie.Need-add-t19 Inv-loop μ-loop
+add-t19 c =
+    let a = c .before .before .before .before .before .before .before .before .before .before .before .before .before .before .before .before .before .args in
+    let pre = c .before .before .before .before .before .before .before .before .before .before .before .before .before .before .before .before .before .pre in
+    let l = c .before .before .before .before .before .before .before .before .before .before .before .loop in
+    let table = a .table .now in
+    let g = c .before .before .before .before .before .before .before .before .step2 .given in
+    let d = nth table 1 in
+    let e : stepAt table d (l .walk .at) ≡ Next (g .0 .0) (g .0 .1 .0) (g .0 .1 .1 .0) = subst (λ n. stepAt table n (l .walk .at) ≡ Next (g .0 .0) (g .0 .1 .0) (g .0 .1 .1 .0)) (l .inv .0) (sym (c .before .before .before .before .before .before .before .before .before .before .step .ensures) ∙ g .1) in
+    let t = frame-taken (pre .accepted) (a .shares .now) (a .tape .now) (pre .supplied) (a .values .now) (l .values) (l .walk .at) (l .ends .wires) (l .ends .shares) (l .ends .randoms) (l .inv .1 (pre .room) (pre .accepted) (pre .supplied)) d (second-word (pre .accepted)) (g .0 .0) (g .0 .1 .0) (g .0 .1 .1 .0) e in
+    record { fits = omega (arith, t .makes) }
+
+mul-t20 : tie.Need-mul-t20 Inv-loop μ-loop
+mul-t20 c =
+    let a = c .before .before .before .before .before .before .before .before .before .before .before .before .before .before .before .before .before .before .args in
+    let pre = c .before .before .before .before .before .before .before .before .before .before .before .before .before .before .before .before .before .before .pre in
+    let l = c .before .before .before .before .before .before .before .before .before .before .before .before .loop in
+    let table = a .table .now in
+    let g = c .before .before .before .before .before .before .before .before .before .step2 .given in
+    let d = nth table 1 in
+    let e : stepAt table d (l .walk .at) ≡ Next (g .0 .0) (g .0 .1 .0) (g .0 .1 .1 .0) = subst (λ n. stepAt table n (l .walk .at) ≡ Next (g .0 .0) (g .0 .1 .0) (g .0 .1 .1 .0)) (l .inv .0) (sym (c .before .before .before .before .before .before .before .before .before .before .before .step .ensures) ∙ g .1) in
+    let t = frame-taken (pre .accepted) (a .shares .now) (a .tape .now) (pre .supplied) (a .values .now) (l .values) (l .walk .at) (l .ends .wires) (l .ends .shares) (l .ends .randoms) (l .inv .1 (pre .room) (pre .accepted) (pre .supplied)) d (second-word (pre .accepted)) (g .0 .0) (g .0 .1 .0) (g .0 .1 .1 .0) e in
+    record { fits = omega (arith, t .brings, c .before .before .before .before .before .before .before .before .before .before .before .before .before .before .before .before .before .before .good .1 .0 .0) }
+
+add-t21 : tie.Need-add-t21 Inv-loop μ-loop
+add-t21 c =
+    let a = c .before .before .before .before .before .before .before .before .before .before .before .before .before .before .before .before .before .before .before .args in
+    let pre = c .before .before .before .before .before .before .before .before .before .before .before .before .before .before .before .before .before .before .before .pre in
+    let l = c .before .before .before .before .before .before .before .before .before .before .before .before .before .loop in
+    let table = a .table .now in
+    let g = c .before .before .before .before .before .before .before .before .before .before .step2 .given in
+    let d = nth table 1 in
+    let e : stepAt table d (l .walk .at) ≡ Next (g .0 .0) (g .0 .1 .0) (g .0 .1 .1 .0) = subst (λ n. stepAt table n (l .walk .at) ≡ Next (g .0 .0) (g .0 .1 .0) (g .0 .1 .1 .0)) (l .inv .0) (sym (c .before .before .before .before .before .before .before .before .before .before .before .before .step .ensures) ∙ g .1) in
+    let t = frame-taken (pre .accepted) (a .shares .now) (a .tape .now) (pre .supplied) (a .values .now) (l .values) (l .walk .at) (l .ends .wires) (l .ends .shares) (l .ends .randoms) (l .inv .1 (pre .room) (pre .accepted) (pre .supplied)) d (second-word (pre .accepted)) (g .0 .0) (g .0 .1 .0) (g .0 .1 .1 .0) e in
+    record { fits = omega (arith, t .brings, c .before .before .before .before .before .before .before .before .before .before .before .before .before .before .before .before .before .before .before .good .1 .0 .0) }
+
+add-t22 : tie.Need-add-t22 Inv-loop μ-loop
+add-t22 c =
+    let a = c .before .before .before .before .before .before .before .before .before .before .before .before .before .before .before .before .before .before .before .before .before .args in
+    let pre = c .before .before .before .before .before .before .before .before .before .before .before .before .before .before .before .before .before .before .before .before .before .pre in
+    let l = c .before .before .before .before .before .before .before .before .before .before .before .before .before .before .before .loop in
+    let table = a .table .now in
+    let g = c .before .before .before .before .before .before .before .before .before .before .before .before .step2 .given in
+    let d = nth table 1 in
+    let e : stepAt table d (l .walk .at) ≡ Next (g .0 .0) (g .0 .1 .0) (g .0 .1 .1 .0) = subst (λ n. stepAt table n (l .walk .at) ≡ Next (g .0 .0) (g .0 .1 .0) (g .0 .1 .1 .0)) (l .inv .0) (sym (c .before .before .before .before .before .before .before .before .before .before .before .before .before .before .step .ensures) ∙ g .1) in
+    let t = frame-taken (pre .accepted) (a .shares .now) (a .tape .now) (pre .supplied) (a .values .now) (l .values) (l .walk .at) (l .ends .wires) (l .ends .shares) (l .ends .randoms) (l .inv .1 (pre .room) (pre .accepted) (pre .supplied)) d (second-word (pre .accepted)) (g .0 .0) (g .0 .1 .0) (g .0 .1 .1 .0) e in
+    record { fits = omega (arith, t .draws, c .before .before .before .before .before .before .before .before .before .before .before .before .before .before .before .before .before .before .before .before .before .good .1 .1 .0 .0) }
+
+loop-less : tie.Need-loop-less Inv-loop μ-loop
+loop-less c =
+    let a = c .before .before .before .before .before .before .before .before .before .before .before .before .before .before .before .before .before .before .before .before .before .args in
+    let pre = c .before .before .before .before .before .before .before .before .before .before .before .before .before .before .before .before .before .before .before .before .before .pre in
+    let l = c .before .before .before .before .before .before .before .before .before .before .before .before .before .before .before .loop in
+    let table = a .table .now in
+    let g = c .before .before .before .before .before .before .before .before .before .before .before .before .step2 .given in
+    let d = nth table 1 in
+    let e : stepAt table d (l .walk .at) ≡ Next (g .0 .0) (g .0 .1 .0) (g .0 .1 .1 .0) = subst (λ n. stepAt table n (l .walk .at) ≡ Next (g .0 .0) (g .0 .1 .0) (g .0 .1 .1 .0)) (l .inv .0) (sym (c .before .before .before .before .before .before .before .before .before .before .before .before .before .before .step .ensures) ∙ g .1) in
+    let t = frame-taken (pre .accepted) (a .shares .now) (a .tape .now) (pre .supplied) (a .values .now) (l .values) (l .walk .at) (l .ends .wires) (l .ends .shares) (l .ends .randoms) (l .inv .1 (pre .room) (pre .accepted) (pre .supplied)) d (second-word (pre .accepted)) (g .0 .0) (g .0 .1 .0) (g .0 .1 .1 .0) e in
+    omega (arith, t .later, t .ends)
+
+loop-again : tie.Need-loop-again Inv-loop μ-loop
+loop-again c =
+    let a = c .before .before .before .before .before .before .before .before .before .before .before .before .before .before .before .before .before .before .before .before .before .args in
+    let pre = c .before .before .before .before .before .before .before .before .before .before .before .before .before .before .before .before .before .before .before .before .before .pre in
+    let l = c .before .before .before .before .before .before .before .before .before .before .before .before .before .before .before .loop in
+    let table = a .table .now in
+    let g = c .before .before .before .before .before .before .before .before .before .before .before .before .step2 .given in
+    let d = nth table 1 in
+    let e : stepAt table d (l .walk .at) ≡ Next (g .0 .0) (g .0 .1 .0) (g .0 .1 .1 .0) = subst (λ n. stepAt table n (l .walk .at) ≡ Next (g .0 .0) (g .0 .1 .0) (g .0 .1 .1 .0)) (l .inv .0) (sym (c .before .before .before .before .before .before .before .before .before .before .before .before .before .before .step .ensures) ∙ g .1) in
+    let t = frame-taken (pre .accepted) (a .shares .now) (a .tape .now) (pre .supplied) (a .values .now) (l .values) (l .walk .at) (l .ends .wires) (l .ends .shares) (l .ends .randoms) (l .inv .1 (pre .room) (pre .accepted) (pre .supplied)) d (second-word (pre .accepted)) (g .0 .0) (g .0 .1 .0) (g .0 .1 .1 .0) e in
+    let o : c .before .before .before .before .before .before .before .before .before .before .operands .result .now ≡ operandsAt table d (l .walk .at) = c .before .before .before .before .before .before .before .before .before .before .operands .ensures ∙ ap (λ n. operandsAt table n (l .walk .at)) (l .inv .0) in
+    (t .same, λ room q s.
+    frame-taken q (a .shares .now) (a .tape .now) s (a .values .now) (l .values) (l .walk .at) (l .ends .wires) (l .ends .shares) (l .ends .randoms) (l .inv .1 room q s) d (second-word q) (g .0 .0) (g .0 .1 .0) (g .0 .1 .1 .0) e .next
+    (c .before .before .before .before .before .before .before .before .write-frame .last .0) (subst (λ (x : List ℕ). Fills (FrameValues (g .0 .0) d (l .ends .wires) (l .ends .shares) (l .ends .randoms) x (a .shares .now) (a .tape .now)) (l .ends .wires) (l .ends .wires + frameMakes (g .0 .0) d) (l .values) (c .before .before .before .before .before .before .before .before .write-frame .last .0)) o (c .before .before .before .before .before .before .before .before .write-frame .ensures)))
+
+pub fill-spec : {M : Type 1} → statement M
+fill-spec =
+    tie.close
+    (tie.spec
+    Inv-loop
+    μ-loop
+    shared-slice-read-d
+    cast-n
+    loop-holds
+    step-requires
+    enum-told
+    same-length
+    returns
+    enum-told-2
+    same-length-2
+    returns-2
+    enum-known-step
+    operands-requires
+    write-frame-requires
+    add-t19
+    mul-t20
+    add-t21
+    add-t22
+    loop-less
+    loop-again)
