@@ -36,13 +36,13 @@ pub adds-end : {whole : Bool} {sum : ℕ} {rest : Bool} → Adds whole sum rest 
 adds-end a r = a .is ∙ ap byte (sym (a .adds ∙ ap (λ t. a .bit ⊕ t) r ∙ no-flip (a .bit)))
 
 -- the numbers from j on
-range-turn : (d j : ℕ) → j < d → range j (d - j) ≡ j ∷ range (j + 1) (d - (j + 1))
+pub range-turn : (d j : ℕ) → j < d → range j (d - j) ≡ j ∷ range (j + 1) (d - (j + 1))
 range-turn d j h =
     let e : d - j ≡ suc (d - (j + 1)) = omega arith in
     let s : suc j ≡ j + 1 = omega arith in
     ap (range j) e ∙ ap (λ n. j ∷ range n (d - (j + 1))) s
 
-range-end : (d j : ℕ) → d ≤ j → range j (d - j) ≡ []
+pub range-end : (d j : ℕ) → d ≤ j → range j (d - j) ≡ []
 range-end d j h = let e : d - j ≡ 0 = omega arith in ap (range j) e
 
 module _ (f : ℕ → Bool) (d : ℕ) where

@@ -90,7 +90,7 @@ module _ (ws : List Wire) (shares tape : List ℕ) (early : Early 0 ws) where
     crossed : (i : ℕ) → i < d → RowCrossed d first i (valued (a i)) valued
     crossed i l j k ne =
         let x = cellAt d first i j in
-        let g = gs .cells i j l k ne in
+        let g = gs .cells i l j k ne in
         let room = cell-room d first i j l k ne in
         let ρ = valued (pairAt d first i j) in
         let β = valued (ownAt d first j) in

@@ -30,8 +30,9 @@ use Rattle.checker.specs.Walk.{kindCode, shapeCode, frameCode, operandsAt, behi
 use Rattle.evaluation.specs.Filling.{Values, Known, Fills, FrameValues, frameMakes}
 use Rattle.evaluation.specs.Gadgets.{Small, FrameReady}
 use Rattle.evaluation.specs.Evaluating.{Supplied}
+use Rattle.evaluation.specs.Walking.{Between}
 use Rattle.evaluation.proofs.Filled.{known-all}
-use Rattle.evaluation.proofs.Walking.{Between, between-start, Met, step-next, step-never, step-end}
+use Rattle.evaluation.proofs.Walking.{between-start, Met, step-next, step-never, step-end}
 use Rattle.evaluation.proofs.Solving.{Early}
 use Rattle.evaluation.proofs.Framing.{inputs-more, randoms-more, makes-same, frame-ready, frame-values}
 

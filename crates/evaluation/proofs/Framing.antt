@@ -74,11 +74,11 @@ module _ (k : Circuit) (ops : List ℕ) (kind : Kind) (more : List Wire) where
       ∙ getD-append-add (k .wires) (made k ops kind) i nothing)
 
 -- the only wire of a gate
-one-gate : (k : Circuit) (ops : List ℕ) (kind : Kind) (more : List Wire) (g : Gate) → 0 < length (made k ops kind) → gateAt (made k ops kind) 0 ≡ g → gateAt (all k ops kind more) (size k) ≡ g
+pub one-gate : (k : Circuit) (ops : List ℕ) (kind : Kind) (more : List Wire) (g : Gate) → 0 < length (made k ops kind) → gateAt (made k ops kind) 0 ≡ g → gateAt (all k ops kind more) (size k) ≡ g
 one-gate k ops kind more g l e = let z : size k + 0 ≡ size k = omega arith in sym (ap (gateAt (all k ops kind more)) z) ∙ in-all k ops kind more 0 l ∙ e
 
 -- the wires of an IN
-input-gate : (k : Circuit) (ops : List ℕ) (more : List Wire) (q : ℕ) → q < k .d → gateAt (all k ops IN more) (size k + q) ≡ input (k .inputs * k .d + q)
+pub input-gate : (k : Circuit) (ops : List ℕ) (more : List Wire) (q : ℕ) → q < k .d → gateAt (all k ops IN more) (size k + q) ≡ input (k .inputs * k .d + q)
 unfolding made
 input-gate k ops more q l =
     let f : ℕ → Wire = λ i. input (k .inputs * k .d + i) placed named i (newStage k ops IN) in

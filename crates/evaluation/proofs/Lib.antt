@@ -20,3 +20,10 @@ pub mod Framing
 pub mod Outputs
 pub mod Gadgets
 pub mod Evaluating
+-- Marks
+pub mod Marked
+pub mod Reaching
+pub mod Moved
+pub mod Marking
+pub mod Highest
+pub mod Settling

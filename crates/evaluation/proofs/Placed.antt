@@ -105,10 +105,10 @@ module _ (ws more : List Wire) (d : ℕ) (a b : ℕ → ℕ) (start end : ℕ) w
         placed (x + 2) (is-M i l) (omega arith) ∙ ap reg (wire-at (is-m i l) ∙ omega arith),
       )
 
-  crossed : (i j : ℕ) → i < d → j < d → (j ≡ i → ⊥) → let x = cellAt d first i j in let y = pairAt d first i j in
+  crossed : (i : ℕ) → i < d → (j : ℕ) → j < d → (j ≡ i → ⊥) → let x = cellAt d first i j in let y = pairAt d first i j in
       (g x ≡ gated (a i) (y + 1)) × (g (x + 1) ≡ reg x) × (g (x + 2) ≡ sum (b j ∷ y ∷ [])) × (g (x + 3) ≡ reg (x + 2))
       × (g (x + 4) ≡ product (a i) (x + 3)) × (g (x + 5) ≡ reg (x + 4))
-  crossed i j l k ne =
+  crossed i l j k ne =
       let x = cellAt d first i j in
       let y = pairAt d first i j in
       let o = apart l k ne in

@@ -31,10 +31,18 @@ slot-low i j h = ap (λ b. cond b (j - 1) j) (le-ltb i j h)
 pub slot-high : (i j : ℕ) → i < j → slotOf i j ≡ j - 1
 slot-high i j h = ap (λ b. cond b (j - 1) j) (lt-ltb i j h)
 
-slot-next : (i j : ℕ) → (j ≡ i → ⊥) → slotOf i (j + 1) ≡ slotOf i j + 1
+pub slot-next : (i j : ℕ) → (j ≡ i → ⊥) → slotOf i (j + 1) ≡ slotOf i j + 1
 slot-next i j ne = cases (ltb i j)
     (λ e. let h = ltb-true i j e in omega (arith, slot-high i j h, slot-high i (j + 1) (omega arith)))
     (λ e. let h : j < i = omega (arith, ltb-false i j e, ne) in omega (arith, slot-low i j (omega arith), slot-low i (j + 1) (omega arith)))
+
+-- slots grow with the shares
+pub slots : (i j k : ℕ) → j ≤ k → slotOf i j ≤ slotOf i k
+slots i j k h = cases (ltb i j)
+    (λ e. let q = ltb-true i j e in omega (arith, slot-high i j q, slot-high i k (omega arith)))
+    (λ e. let q = ltb-false i j e in cases (ltb i k)
+    (λ f. let t = ltb-true i k f in omega (arith, slot-low i j q, slot-high i k t))
+    (λ f. let t = ltb-false i k f in omega (arith, slot-low i j q, slot-low i k t)))
 
 -- r stands before B
 pub pair-early : (d first i j : ℕ) → i < d → j < d → (j ≡ i → ⊥) → pairAt d first i j < ownAt d first 0
@@ -103,17 +111,10 @@ module _ (d first i a bit from to : ℕ) (l : i < d) (most : to ≤ d) (apart : 
     ne = apart j (on .low) h
 
     later : cellAt d first i from ≤ cellAt d first i j
-    later = go (from) (slotOf i from) (slotOf i j) (steps (j - from) (on .low))
+    later = within (cellRow d i) (slotOf i from) (slotOf i j) (slots i from j (on .low))
       where
-        go : (x s t : ℕ) → s ≤ t → first + cellRow d i + 6 * s ≤ first + cellRow d i + 6 * t
-        go x s t h = omega arith
-
-        steps : (n : ℕ) → from ≤ j → slotOf i from ≤ slotOf i j
-        steps n z = cases (ltb i from)
-            (λ e. let q = ltb-true i from e in omega (arith, slot-high i from q, slot-high i j (omega arith)))
-            (λ e. let q = ltb-false i from e in cases (ltb i j)
-            (λ f. let t = ltb-true i j f in omega (arith, slot-low i from q, slot-high i j t))
-            (λ f. let t = ltb-false i j f in omega (arith, slot-low i from q, slot-low i j t)))
+        within : (x s t : ℕ) → s ≤ t → first + x + 6 * s ≤ first + x + 6 * t
+        within x s t h = omega arith
 
     own-known : (v : Values) → Known v 0 (cellAt d first i j) values → nth values (ownAt d first j) ≡ byte (v (ownAt d first j))
     own-known v k = k (ownAt d first j) (omega arith) (omega (arith, own-early d first i j (omega arith)))

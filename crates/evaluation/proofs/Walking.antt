@@ -13,7 +13,7 @@ use Rattle.circuit.specs.Lists.{nth}
 use Rattle.circuit.specs.Wires.{Wire}
 use Rattle.circuit.specs.Kinds.{Kind, kindOf, shape, words}
 use Rattle.circuit.specs.Circuit.{Circuit, size, empty, made, extend}
-use Rattle.circuit.specs.Composition.{Frame, frame, Fits, AllFit, next, build, kindWord, wordsOf}
+use Rattle.circuit.specs.Composition.{Frame, frame, Fits, fit-IN, fit-CON, fit-XOR, fit-NOT, fit-REG, fit-AND, fit-REF, fit-OUT, AllFit, next, build, kindWord, wordsOf}
 use Rattle.circuit.proofs.Base.{and-both}
 use Rattle.circuit.proofs.Building.{build-more, build-append, build-shares, build-intime, fit-split}
 use Rattle.circuit.proofs.Fitting.{kind-known, fit-meets}
@@ -23,15 +23,8 @@ use Rattle.checker.specs.declared.walk.Walk.{Walk}
 use Rattle.checker.specs.declared.walk.Step.{Step}
 use Rattle.checker.specs.declared.walk.Step.the-variants.{Next, Refused, End}
 use Rattle.checker.specs.declared.kinds.Shape.{Shape as ShapeCode}
+use Rattle.evaluation.specs.Walking.{Between}
 use Rattle.checker.specs.Walk.{kindCode, shapeCode, frameCode, operandsAt, behind, stepAt}
-
--- a place of the table between the frames before it and those after
-pub record Between (table : List ℕ) (fs : List Frame) (at : ℕ) : Type 0 where
-  pub before : List Frame
-  pub after : List Frame
-  pub split : fs ≡ before ++ after
-  pub rest : drop at table ≡ wordsOf after
-  pub most : at ≤ length table
 
 abbrev pub between-start : {table : List ℕ} {room : ℕ} (a : Accepted table room) → Between table (a .fs) 2
 between-start {table} a = record {
@@ -54,6 +47,8 @@ pub record Met (table : List ℕ) (d : ℕ) (fs : List Frame) (at : ℕ) (b : Be
   pub wires-are : build (empty d) fs .wires ≡ (build (empty d) (b .before) .wires ++ made (build (empty d) (b .before)) ops kind) ++ more
   pub whole : (later : List Frame) × (build (empty d) fs ≡ build (extend (build (empty d) (b .before)) ops kind) later)
   pub onward : Between table fs (at + 1 + words d kind)
+  pub longer : length (onward .before) ≡ suc (length (b .before))
+  pub wide : 1 ≤ words d kind
   pub circuit-is : build (empty d) (onward .before) ≡ extend (build (empty d) (b .before)) ops kind
 
 module _ {table : List ℕ} {room : ℕ} (a : Accepted table room) (at : ℕ) (b : Between table (a .fs) at) where
@@ -93,6 +88,17 @@ module _ {table : List ℕ} {room : ℕ} (a : Accepted table room) (at : ℕ) (b
         let known : (leb 1 (kindWord (f .kind)) && leb (kindWord (f .kind)) 8) ≡ true = and-both _ _ (le-leb 1 (kindWord (f .kind)) (meets .0)) (le-leb (kindWord (f .kind)) 8 (meets .1)) in
         rw (lt-ltb at (length table) inside, word-is, kind-known (f .kind), known, tail-is, le-leb n (length tail) (omega (arith, length-append (f .ops) (wordsOf later), meets .2)), take-at (f .ops) (wordsOf later) n (meets .2))
 
+    -- a frame has words
+    fit-wide : {kind : Kind} {ops : List ℕ} → Fits k kind ops → 1 ≤ length ops
+    fit-wide (fit-IN t o) = omega arith
+    fit-wide (fit-CON l x t p q o) = omega arith
+    fit-wide (fit-XOR x y l t p q) = omega arith
+    fit-wide (fit-NOT x l t p) = omega arith
+    fit-wide (fit-REG x l t p o) = omega arith
+    fit-wide (fit-AND ops t len first p q o) = omega (arith, len)
+    fit-wide (fit-REF ops t len first p o) = omega (arith, len)
+    fit-wide (fit-OUT ops t len p) = omega (arith, len, same-d, a .least)
+
     met : Met table (a .d) (a .fs) at b
     met =
         let n = words (a .d) (f .kind) in
@@ -117,6 +123,8 @@ module _ {table : List ℕ} {room : ℕ} (a : Accepted table room) (at : ℕ) (b
             rest = sym (drop-drop n (at + 1) table) ∙ ap (drop n) tail-is ∙ drop-at (f .ops) (wordsOf later) n (meets .2);
             most = omega (arith, inside, length-drop (at + 1) table, size-on, meets .2);
           };
+          longer = length-append (b .before) (f ∷ []) ∙ omega arith;
+          wide = subst (λ (n : ℕ). 1 ≤ n) (meets .2) (fit-wide fits);
           circuit-is = build-append (empty (a .d)) (b .before) (f ∷ []);
         }
 

@@ -4,3 +4,5 @@ pub mod Gates
 pub mod Filling
 pub mod Gadgets
 pub mod Evaluating
+pub mod Marks
+pub mod Walking

@@ -1,0 +1,69 @@
+-- `evaluation::reach::mark_masks` meets its contract.
+use Rattle.evaluation.proofs.reach.mark_masks.Statement.{statement}
+use Rattle.evaluation.proofs.reach.mark_masks.Tie as tie
+use mathlib.Core.Path.{_≡_, refl, sym, ap, ap₂, subst, _∙_}
+use Prim.Native.Nat.{ℕ, _+_, _-_, _*_, _≤_, _<_}
+use native.Mathlib.Omega.{arith}
+use lib.ListN.{length, set, length-set}
+use Rattle.circuit.specs.Lists.{_⊕_, nth, range}
+use Rattle.evaluation.specs.Places.{wordA, wordB, rowStart, pairSite, slotOf, cellRow, pairAt, ownAt, cellAt, outAt, maskAt, sumAt, heldAt}
+use Rattle.circuit.specs.Kinds.{pairs}
+use Rattle.evaluation.specs.Marks.{markAll, handedOn, sixes, outWires, Moves}
+use Rattle.evaluation.proofs.Moved.{mark-length, handed-length, moves-none, moves-then, moves-at, moves-stop, moves-stops, moves-gate, moves-unmarked, twice-moved, masks-turn, masks-end, sum-handed, sum-moved, held-moved, drawn-moved, zero-is}
+use mathlib.Core.List.{List, map}
+use Rattle.evaluation.proofs.Sites.{pair-lt}
+use borrow.Author.Needs.{needs}
+
+abbrev Inv-loop : tie.InvT-loop
+Inv-loop marks₀ first d i from to j₀ marks j = (from ≤ j) × (j ≤ to) × (markAll marks (map (maskAt d first i) (range j (to - j))) ≡ markAll marks₀ (map (maskAt d first i) (range from (to - from)))) × (length marks ≡ length marks₀)
+
+abbrev μ-loop : tie.MeasureT-loop
+μ-loop marks₀ first d i from to j₀ marks j = to - j
+
+loop-holds : tie.Need-loop-holds Inv-loop μ-loop
+loop-holds c = (omega arith, c .before .pre .5, refl, refl)
+
+pair-site-requires : tie.Need-pair-site-requires Inv-loop μ-loop
+pair-site-requires c κs = (omega (arith, c .before .loop .inv .0, c .before .loop .inv .1, c .before .loop .inv .3, c .loop-test .taken, c .before .before .before .pre .0 .0, c .before .before .before .pre .0 .1, c .before .before .before .pre .0 .2, c .before .before .before .pre .1, c .before .before .before .pre .2, c .before .before .before .pre .3), omega (arith, c .before .loop .inv .0, c .before .loop .inv .1, c .before .loop .inv .3, c .loop-test .taken, c .before .before .before .pre .0 .0, c .before .before .before .pre .0 .1, c .before .before .before .pre .0 .2, c .before .before .before .pre .1, c .before .before .before .pre .2, c .before .before .before .pre .3), omega (arith, c .before .loop .inv .0, c .before .loop .inv .1, c .before .loop .inv .3, c .loop-test .taken, c .before .before .before .pre .0 .0, c .before .before .before .pre .0 .1, c .before .before .before .pre .0 .2, c .before .before .before .pre .1, c .before .before .before .pre .2, c .before .before .before .pre .3))
+
+add-marks : tie.Need-add-marks Inv-loop μ-loop
+add-marks c = record { fits = omega (arith, c .before .before .loop .inv .0, c .before .before .loop .inv .1, c .before .before .loop .inv .3, c .before .loop-test .taken, c .before .before .before .before .pre .0 .0, c .before .before .before .before .pre .0 .1, c .before .before .before .before .pre .0 .2, c .before .before .before .before .pre .1, c .before .before .before .before .pre .2, c .before .before .before .before .pre .3, c .pair-site .ensures .0, c .pair-site .ensures .1) }
+
+slice-write-marks : tie.Need-slice-write-marks Inv-loop μ-loop
+slice-write-marks c = omega (arith, c .before .before .loop .inv .0, c .before .before .loop .inv .1, c .before .before .loop .inv .3, c .before .loop-test .taken, c .before .before .before .before .pre .0 .0, c .before .before .before .before .pre .0 .1, c .before .before .before .before .pre .0 .2, c .before .before .before .before .pre .1, c .before .before .before .before .pre .2, c .before .before .before .before .pre .3, c .pair-site .ensures .0, c .pair-site .ensures .1, pair-lt (c .before .before .before .before .args .d) (c .before .before .before .before .args .i) (c .before .before .loop .j) (c .before .before .before .before .pre .1) (omega (arith, c .before .loop-test .taken, c .before .before .before .before .pre .2)) (c .before .before .before .before .pre .4 (c .before .before .loop .j) (c .before .before .loop .inv .0) (c .before .loop-test .taken)))
+
+add-j : tie.Need-add-j Inv-loop μ-loop
+add-j c = record { fits = omega (arith, c .before .before .loop .inv .0, c .before .before .loop .inv .1, c .before .before .loop .inv .3, c .before .loop-test .taken, c .before .before .before .before .pre .0 .0, c .before .before .before .before .pre .0 .1, c .before .before .before .before .pre .0 .2, c .before .before .before .before .pre .1, c .before .before .before .before .pre .2, c .before .before .before .before .pre .3, c .pair-site .ensures .0, c .pair-site .ensures .1) }
+
+loop-less : tie.Need-loop-less Inv-loop μ-loop
+loop-less c = omega (arith, c .before .before .loop .inv .0, c .before .before .loop .inv .1, c .before .before .loop .inv .3, c .before .loop-test .taken, c .before .before .before .before .pre .0 .0, c .before .before .before .before .pre .0 .1, c .before .before .before .before .pre .0 .2, c .before .before .before .before .pre .1, c .before .before .before .before .pre .2, c .before .before .before .before .pre .3, c .pair-site .ensures .0, c .pair-site .ensures .1)
+
+loop-again : tie.Need-loop-again Inv-loop μ-loop
+loop-again c =
+    let a = c .before .before .before .before .args in
+    let l = c .before .before .loop in
+    let p : a .first + c .pair-site .result ≡ maskAt (a .d) (a .first) (a .i) (l .j) = omega (arith, c .pair-site .ensures .0) in
+    (omega (arith, c .before .before .loop .inv .0, c .before .before .loop .inv .1, c .before .before .loop .inv .3, c .before .loop-test .taken, c .before .before .before .before .pre .0 .0, c .before .before .before .before .pre .0 .1, c .before .before .before .before .pre .0 .2, c .before .before .before .before .pre .1, c .before .before .before .before .pre .2, c .before .before .before .before .pre .3, c .pair-site .ensures .0, c .pair-site .ensures .1), omega (arith, c .before .before .loop .inv .0, c .before .before .loop .inv .1, c .before .before .loop .inv .3, c .before .loop-test .taken, c .before .before .before .before .pre .0 .0, c .before .before .before .before .pre .0 .1, c .before .before .before .before .pre .0 .2, c .before .before .before .before .pre .1, c .before .before .before .before .pre .2, c .before .before .before .before .pre .3, c .pair-site .ensures .0, c .pair-site .ensures .1), ap (λ n. markAll (set (l .marks) n 1) (map (maskAt (a .d) (a .first) (a .i)) (range (l .j + 1) (a .to - (l .j + 1))))) p
+    ∙ sym (ap (markAll (l .marks)) (masks-turn (maskAt (a .d) (a .first) (a .i)) (a .to) (l .j) (c .before .loop-test .taken))) ∙ l .inv .2, length-set (l .marks) (a .first + c .pair-site .result) 1 ∙ l .inv .3)
+
+same-length : tie.Need-same-length Inv-loop μ-loop
+same-length c = c .before .loop .inv .3
+
+returns : tie.Need-returns Inv-loop μ-loop
+returns c = sym (ap (markAll (c .before .loop .marks)) (masks-end (maskAt (c .before .before .before .args .d) (c .before .before .before .args .first) (c .before .before .before .args .i)) (c .before .before .before .args .to) (c .before .loop .j) (c .loop-test .left))) ∙ c .before .loop .inv .2
+
+pub mark-masks-spec : {M : Type 1} → statement M
+mark-masks-spec =
+    tie.close
+    (tie.spec
+    Inv-loop
+    μ-loop
+    loop-holds
+    pair-site-requires
+    add-marks
+    slice-write-marks
+    add-j
+    loop-less
+    loop-again
+    same-length
+    returns)

@@ -1,0 +1,107 @@
+-- `evaluation::reach::pass_owns` meets its contract.
+use Rattle.evaluation.proofs.reach.pass_owns.Statement.{statement}
+use Rattle.evaluation.proofs.reach.pass_owns.Tie as tie
+use borrow.Author.Needs.{needs}
+use mathlib.Core.Path.{_≡_, refl, sym, ap, ap₂, subst, _∙_}
+use Prim.Native.Nat.{ℕ, _+_, _-_, _*_, _≤_, _<_}
+use native.Mathlib.Omega.{arith}
+use lib.ListN.{length, set, length-set}
+use Rattle.circuit.specs.Lists.{_⊕_, nth, range}
+use Rattle.evaluation.proofs.Bounds.{eights, sixteens}
+use Rattle.evaluation.specs.Places.{wordA, wordB, rowStart, pairSite, slotOf, cellRow, pairAt, ownAt, cellAt, outAt, maskAt, sumAt, heldAt}
+use Rattle.evaluation.specs.Marks.{markAll, handedOn, sixes, outWires, Moves}
+use Rattle.evaluation.proofs.Moved.{mark-append, handed-length, moves-none, moves-then, moves-for, moves-at, cell-moved, sixes-turn, sixes-end, out-moved, row-moved, rows-moved, own-moved, and-moved, zero-is}
+use Rattle.evaluation.specs.Gates.{OwnGates, CellGates, CellsGates, RowsGates, OwnsGates, OutGates, AndGates}
+use Rattle.evaluation.proofs.Rows.{pair-early, own-early, cell-room, slot-low, slot-high, row-next, row-room}
+use mathlib.Core.List.{List, [], _∷_, _++_}
+use Rattle.circuit.specs.Wires.{Gate}
+
+abbrev Inv-loop : tie.InvT-loop
+Inv-loop marks₀ first d ops start i₀ marks i = (i ≤ d) × Moves (OwnsGates d first (wordA ops) (wordB d ops)) (ownAt d first i) (ownAt d first d) marks₀ marks
+
+abbrev μ-loop : tie.MeasureT-loop
+μ-loop marks₀ first d ops start i₀ marks i = i
+
+sub-start : tie.Need-sub-start Inv-loop μ-loop
+sub-start c = omega (arith, c .before .before .pre .0 .0, c .before .before .pre .0 .1, c .before .before .pre .0 .2, c .before .before .pre .1, c .before .before .pre .2, eights (c .before .before .args .d) (c .before .before .args .d - 1) (omega (arith, c .before .before .pre .0 .2)) (omega (arith, c .before .before .pre .0 .2)))
+
+mul-start : tie.Need-mul-start Inv-loop μ-loop
+mul-start c = record { fits = omega (arith, c .before .before .pre .0 .0, c .before .before .pre .0 .1, c .before .before .pre .0 .2, c .before .before .pre .1, c .before .before .pre .2, eights (c .before .before .args .d) (c .before .before .args .d - 1) (omega (arith, c .before .before .pre .0 .2)) (omega (arith, c .before .before .pre .0 .2))) }
+
+add-start : tie.Need-add-start Inv-loop μ-loop
+add-start c = record { fits = omega (arith, c .before .before .pre .0 .0, c .before .before .pre .0 .1, c .before .before .pre .0 .2, c .before .before .pre .1, c .before .before .pre .2, eights (c .before .before .args .d) (c .before .before .args .d - 1) (omega (arith, c .before .before .pre .0 .2)) (omega (arith, c .before .before .pre .0 .2))) }
+
+loop-holds : tie.Need-loop-holds Inv-loop μ-loop
+loop-holds c = (omega arith, moves-none (ownAt (c .before .before .args .d) (c .before .before .args .first) (c .before .before .args .d)) (c .before .before .args .marks .now))
+
+sub-i : tie.Need-sub-i Inv-loop μ-loop
+sub-i c = omega (arith, c .before .before .before .before .pre .0 .0, c .before .before .before .before .pre .0 .1, c .before .before .before .before .pre .0 .2, c .before .before .before .before .pre .1, c .before .before .before .before .pre .2, c .before .loop .inv .0, c .before .loop .inv .1 .size, c .loop-test .taken, eights (c .before .before .before .before .args .d) (c .before .before .before .before .args .d - 1) (omega (arith, c .before .before .before .before .pre .0 .2)) (omega (arith, c .before .before .before .before .pre .0 .2)))
+
+add-a : tie.Need-add-a Inv-loop μ-loop
+add-a c = record { fits = omega (arith, c .before .before .before .before .pre .0 .0, c .before .before .before .before .pre .0 .1, c .before .before .before .before .pre .0 .2, c .before .before .before .before .pre .1, c .before .before .before .before .pre .2, c .before .loop .inv .0, c .before .loop .inv .1 .size, c .loop-test .taken, eights (c .before .before .before .before .args .d) (c .before .before .before .before .args .d - 1) (omega (arith, c .before .before .before .before .pre .0 .2)) (omega (arith, c .before .before .before .before .pre .0 .2))) }
+
+mul-a : tie.Need-mul-a Inv-loop μ-loop
+mul-a c = search needs
+
+shared-slice-read-a : tie.Need-shared-slice-read-a Inv-loop μ-loop
+shared-slice-read-a c = omega (arith, c .before .before .before .before .before .pre .0 .0, c .before .before .before .before .before .pre .0 .1, c .before .before .before .before .before .pre .0 .2, c .before .before .before .before .before .pre .1, c .before .before .before .before .before .pre .2, c .before .before .loop .inv .0, c .before .before .loop .inv .1 .size, c .before .loop-test .taken, eights (c .before .before .before .before .before .args .d) (c .before .before .before .before .before .args .d - 1) (omega (arith, c .before .before .before .before .before .pre .0 .2)) (omega (arith, c .before .before .before .before .before .pre .0 .2)))
+
+cast-a : tie.Need-cast-a Inv-loop μ-loop
+cast-a c = record { fits = omega (arith, c .before .before .before .before .before .pre .0 .0, c .before .before .before .before .before .pre .0 .1, c .before .before .before .before .before .pre .0 .2, c .before .before .before .before .before .pre .1, c .before .before .before .before .before .pre .2, c .before .before .loop .inv .0, c .before .before .loop .inv .1 .size, c .before .loop-test .taken, eights (c .before .before .before .before .before .args .d) (c .before .before .before .before .before .args .d - 1) (omega (arith, c .before .before .before .before .before .pre .0 .2)) (omega (arith, c .before .before .before .before .before .pre .0 .2)), c .before .before .before .before .before .pre .3 (c .before .before .loop .i - 1) (omega (arith, c .before .before .loop .inv .0, c .before .loop-test .taken)), own-early (c .before .before .before .before .before .args .d) (c .before .before .before .before .before .args .first) (c .before .before .before .before .before .args .d) (c .before .before .loop .i - 1) (omega (arith, c .before .before .loop .inv .0, c .before .loop-test .taken))) }
+
+mul-own : tie.Need-mul-own Inv-loop μ-loop
+mul-own c = record { fits = omega (arith, c .before .before .before .before .before .pre .0 .0, c .before .before .before .before .before .pre .0 .1, c .before .before .before .before .before .pre .0 .2, c .before .before .before .before .before .pre .1, c .before .before .before .before .before .pre .2, c .before .before .loop .inv .0, c .before .before .loop .inv .1 .size, c .before .loop-test .taken, eights (c .before .before .before .before .before .args .d) (c .before .before .before .before .before .args .d - 1) (omega (arith, c .before .before .before .before .before .pre .0 .2)) (omega (arith, c .before .before .before .before .before .pre .0 .2))) }
+
+add-own : tie.Need-add-own Inv-loop μ-loop
+add-own c = record { fits = omega (arith, c .before .before .before .before .before .pre .0 .0, c .before .before .before .before .before .pre .0 .1, c .before .before .before .before .before .pre .0 .2, c .before .before .before .before .before .pre .1, c .before .before .before .before .before .pre .2, c .before .before .loop .inv .0, c .before .before .loop .inv .1 .size, c .before .loop-test .taken, eights (c .before .before .before .before .before .args .d) (c .before .before .before .before .before .args .d - 1) (omega (arith, c .before .before .before .before .before .pre .0 .2)) (omega (arith, c .before .before .before .before .before .pre .0 .2))) }
+
+add-hand-on : tie.Need-add-hand-on Inv-loop μ-loop
+add-hand-on c = record { fits = omega (arith, c .before .before .before .before .before .before .pre .0 .0, c .before .before .before .before .before .before .pre .0 .1, c .before .before .before .before .before .before .pre .0 .2, c .before .before .before .before .before .before .pre .1, c .before .before .before .before .before .before .pre .2, c .before .before .before .loop .inv .0, c .before .before .before .loop .inv .1 .size, c .before .before .loop-test .taken, eights (c .before .before .before .before .before .before .args .d) (c .before .before .before .before .before .before .args .d - 1) (omega (arith, c .before .before .before .before .before .before .pre .0 .2)) (omega (arith, c .before .before .before .before .before .before .pre .0 .2))) }
+
+hand-on-requires : tie.Need-hand-on-requires Inv-loop μ-loop
+hand-on-requires c κs = (omega (arith, c .before .before .before .before .before .before .pre .0 .0, c .before .before .before .before .before .before .pre .0 .1, c .before .before .before .before .before .before .pre .0 .2, c .before .before .before .before .before .before .pre .1, c .before .before .before .before .before .before .pre .2, c .before .before .before .loop .inv .0, c .before .before .before .loop .inv .1 .size, c .before .before .loop-test .taken, eights (c .before .before .before .before .before .before .args .d) (c .before .before .before .before .before .before .args .d - 1) (omega (arith, c .before .before .before .before .before .before .pre .0 .2)) (omega (arith, c .before .before .before .before .before .before .pre .0 .2)), c .before .before .before .before .before .before .pre .3 (c .before .before .before .loop .i - 1) (omega (arith, c .before .before .before .loop .inv .0, c .before .before .loop-test .taken)), own-early (c .before .before .before .before .before .before .args .d) (c .before .before .before .before .before .before .args .first) (c .before .before .before .before .before .before .args .d) (c .before .before .before .loop .i - 1) (omega (arith, c .before .before .before .loop .inv .0, c .before .before .loop-test .taken))), omega (arith, c .before .before .before .before .before .before .pre .0 .0, c .before .before .before .before .before .before .pre .0 .1, c .before .before .before .before .before .before .pre .0 .2, c .before .before .before .before .before .before .pre .1, c .before .before .before .before .before .before .pre .2, c .before .before .before .loop .inv .0, c .before .before .before .loop .inv .1 .size, c .before .before .loop-test .taken, eights (c .before .before .before .before .before .before .args .d) (c .before .before .before .before .before .before .args .d - 1) (omega (arith, c .before .before .before .before .before .before .pre .0 .2)) (omega (arith, c .before .before .before .before .before .before .pre .0 .2)), c .before .before .before .before .before .before .pre .3 (c .before .before .before .loop .i - 1) (omega (arith, c .before .before .before .loop .inv .0, c .before .before .loop-test .taken)), own-early (c .before .before .before .before .before .before .args .d) (c .before .before .before .before .before .before .args .first) (c .before .before .before .before .before .before .args .d) (c .before .before .before .loop .i - 1) (omega (arith, c .before .before .before .loop .inv .0, c .before .before .loop-test .taken))), omega (arith, c .before .before .before .before .before .before .pre .0 .0, c .before .before .before .before .before .before .pre .0 .1, c .before .before .before .before .before .before .pre .0 .2, c .before .before .before .before .before .before .pre .1, c .before .before .before .before .before .before .pre .2, c .before .before .before .loop .inv .0, c .before .before .before .loop .inv .1 .size, c .before .before .loop-test .taken, eights (c .before .before .before .before .before .before .args .d) (c .before .before .before .before .before .before .args .d - 1) (omega (arith, c .before .before .before .before .before .before .pre .0 .2)) (omega (arith, c .before .before .before .before .before .before .pre .0 .2)), c .before .before .before .before .before .before .pre .3 (c .before .before .before .loop .i - 1) (omega (arith, c .before .before .before .loop .inv .0, c .before .before .loop-test .taken)), own-early (c .before .before .before .before .before .before .args .d) (c .before .before .before .before .before .before .args .first) (c .before .before .before .before .before .before .args .d) (c .before .before .before .loop .i - 1) (omega (arith, c .before .before .before .loop .inv .0, c .before .before .loop-test .taken))))
+
+loop-less : tie.Need-loop-less Inv-loop μ-loop
+loop-less c = omega (arith, c .before .before .before .before .before .before .before .before .before .pre .0 .0, c .before .before .before .before .before .before .before .before .before .pre .0 .1, c .before .before .before .before .before .before .before .before .before .pre .0 .2, c .before .before .before .before .before .before .before .before .before .pre .1, c .before .before .before .before .before .before .before .before .before .pre .2, c .before .before .before .before .before .before .loop .inv .0, c .before .before .before .before .before .before .loop .inv .1 .size, c .before .before .before .before .before .loop-test .taken, eights (c .before .before .before .before .before .before .before .before .before .args .d) (c .before .before .before .before .before .before .before .before .before .args .d - 1) (omega (arith, c .before .before .before .before .before .before .before .before .before .pre .0 .2)) (omega (arith, c .before .before .before .before .before .before .before .before .before .pre .0 .2)))
+
+loop-again : tie.Need-loop-again Inv-loop μ-loop
+loop-again c =
+    let a = c .before .before .before .before .before .before .before .before .before .args in
+    let l = c .before .before .before .before .before .before .loop in
+    let i = l .i - 1 in
+    let x = ownAt (a .d) (a .first) i in
+    let lt : i < a .d = omega (arith, c .before .before .before .before .before .before .before .before .before .pre .0 .0, c .before .before .before .before .before .before .before .before .before .pre .0 .1, c .before .before .before .before .before .before .before .before .before .pre .0 .2, c .before .before .before .before .before .before .before .before .before .pre .1, c .before .before .before .before .before .before .before .before .before .pre .2, c .before .before .before .before .before .before .loop .inv .0, c .before .before .before .before .before .before .loop .inv .1 .size, c .before .before .before .before .before .loop-test .taken, eights (c .before .before .before .before .before .before .before .before .before .args .d) (c .before .before .before .before .before .before .before .before .before .args .d - 1) (omega (arith, c .before .before .before .before .before .before .before .before .before .pre .0 .2)) (omega (arith, c .before .before .before .before .before .before .before .before .before .pre .0 .2))) in
+    (omega (arith, c .before .before .before .before .before .before .before .before .before .pre .0 .0, c .before .before .before .before .before .before .before .before .before .pre .0 .1, c .before .before .before .before .before .before .before .before .before .pre .0 .2, c .before .before .before .before .before .before .before .before .before .pre .1, c .before .before .before .before .before .before .before .before .before .pre .2, c .before .before .before .before .before .before .loop .inv .0, c .before .before .before .before .before .before .loop .inv .1 .size, c .before .before .before .before .before .loop-test .taken, eights (c .before .before .before .before .before .before .before .before .before .args .d) (c .before .before .before .before .before .before .before .before .before .args .d - 1) (omega (arith, c .before .before .before .before .before .before .before .before .before .pre .0 .2)) (omega (arith, c .before .before .before .before .before .before .before .before .before .pre .0 .2))), moves-then (omega (arith, c .before .before .before .before .before .before .before .before .before .pre .0 .0, c .before .before .before .before .before .before .before .before .before .pre .0 .1, c .before .before .before .before .before .before .before .before .before .pre .0 .2, c .before .before .before .before .before .before .before .before .before .pre .1, c .before .before .before .before .before .before .before .before .before .pre .2, c .before .before .before .before .before .before .loop .inv .0, c .before .before .before .before .before .before .loop .inv .1 .size, c .before .before .before .before .before .loop-test .taken, eights (c .before .before .before .before .before .before .before .before .before .args .d) (c .before .before .before .before .before .before .before .before .before .args .d - 1) (omega (arith, c .before .before .before .before .before .before .before .before .before .pre .0 .2)) (omega (arith, c .before .before .before .before .before .before .before .before .before .pre .0 .2)))) (l .inv .1) (moves-at refl (omega (arith, c .before .before .before .before .before .before .before .before .before .pre .0 .0, c .before .before .before .before .before .before .before .before .before .pre .0 .1, c .before .before .before .before .before .before .before .before .before .pre .0 .2, c .before .before .before .before .before .before .before .before .before .pre .1, c .before .before .before .before .before .before .before .before .before .pre .2, c .before .before .before .before .before .before .loop .inv .0, c .before .before .before .before .before .before .loop .inv .1 .size, c .before .before .before .before .before .loop-test .taken, eights (c .before .before .before .before .before .before .before .before .before .args .d) (c .before .before .before .before .before .before .before .before .before .args .d - 1) (omega (arith, c .before .before .before .before .before .before .before .before .before .pre .0 .2)) (omega (arith, c .before .before .before .before .before .before .before .before .before .pre .0 .2)))) (moves-for (λ g h. h i lt)
+    (subst (λ (n : List ℕ). Moves (OwnGates x (wordA (a .ops .now) i) (wordB (a .d) (a .ops .now) i)) x (x + 3) (l .marks) n) (sym (c .before .before .hand-on .ensures)) (own-moved x (wordA (a .ops .now) i) (wordB (a .d) (a .ops .now) i) (l .marks))))))
+
+same-length : tie.Need-same-length Inv-loop μ-loop
+same-length c = c .before .loop .inv .1 .size
+
+returns : tie.Need-returns Inv-loop μ-loop
+returns c =
+    let a = c .before .before .before .before .args in
+    moves-at (ap (ownAt (a .d) (a .first)) (zero-is (c .before .loop .i) (c .loop-test .left))) refl (c .before .loop .inv .1)
+
+pub pass-owns-spec : {M : Type 1} → statement M
+pass-owns-spec =
+    tie.close
+    (tie.spec
+    Inv-loop
+    μ-loop
+    sub-start
+    mul-start
+    add-start
+    loop-holds
+    sub-i
+    add-a
+    mul-a
+    shared-slice-read-a
+    cast-a
+    mul-own
+    add-own
+    add-hand-on
+    hand-on-requires
+    loop-less
+    loop-again
+    same-length
+    returns)

@@ -1,0 +1,79 @@
+-- `evaluation::reach::pass_ref` meets its contract.
+use Rattle.evaluation.proofs.reach.pass_ref.Statement.{statement}
+use Rattle.evaluation.proofs.reach.pass_ref.Tie as tie
+use mathlib.Core.Path.{_≡_, refl, sym, ap, ap₂, subst, _∙_}
+use Prim.Native.Nat.{ℕ, _+_, _-_, _*_, _≤_, _<_}
+use native.Mathlib.Omega.{arith}
+use lib.ListN.{length, set, length-set}
+use Rattle.circuit.specs.Lists.{_⊕_, nth, range}
+use Rattle.evaluation.specs.Places.{wordA, wordB, rowStart, pairSite, slotOf, cellRow, pairAt, ownAt, cellAt, outAt, maskAt, sumAt, heldAt}
+use Rattle.circuit.specs.Kinds.{pairs}
+use mathlib.Core.List.{List}
+use Rattle.evaluation.specs.Marks.{markAll, handedOn, sixes, outWires, Moves}
+use Rattle.evaluation.proofs.Moved.{mark-length, handed-length, moves-none, moves-then, moves-at, moves-stop, moves-stops, moves-gate, moves-unmarked, twice-moved, masks-turn, masks-end, sum-handed, sum-moved, held-moved, drawn-moved, zero-is}
+use Rattle.evaluation.specs.Gates.{RefGates}
+use borrow.Author.Needs.{needs}
+
+abbrev Inv-loop : tie.InvT-loop
+Inv-loop marks₀ first d ops i₀ marks i = (i ≤ d) × Moves (λ g. RefGates g d first (wordA ops)) (sumAt d first i) (first + (pairs d + 2 * d)) marks₀ marks
+
+abbrev μ-loop : tie.MeasureT-loop
+μ-loop marks₀ first d ops i₀ marks i = i
+
+loop-holds : tie.Need-loop-holds Inv-loop μ-loop
+loop-holds c = (omega arith, held-moved (c .before .before .args .d) (c .before .before .args .first) (wordA (c .before .before .args .ops .now)) (c .before .before .args .marks .now))
+
+sub-i : tie.Need-sub-i Inv-loop μ-loop
+sub-i c = omega (arith, c .before .before .before .before .pre .0 .0, c .before .before .before .before .pre .0 .1, c .before .before .before .before .pre .0 .2, c .before .before .before .before .pre .1, c .before .before .before .before .pre .2, c .before .loop .inv .0, c .before .loop .inv .1 .size, c .loop-test .taken)
+
+add-a : tie.Need-add-a Inv-loop μ-loop
+add-a c = record { fits = omega (arith, c .before .before .before .before .pre .0 .0, c .before .before .before .before .pre .0 .1, c .before .before .before .before .pre .0 .2, c .before .before .before .before .pre .1, c .before .before .before .before .pre .2, c .before .loop .inv .0, c .before .loop .inv .1 .size, c .loop-test .taken) }
+
+mul-a : tie.Need-mul-a Inv-loop μ-loop
+mul-a c = search needs
+
+shared-slice-read-a : tie.Need-shared-slice-read-a Inv-loop μ-loop
+shared-slice-read-a c = omega (arith, c .before .before .before .before .before .pre .0 .0, c .before .before .before .before .before .pre .0 .1, c .before .before .before .before .before .pre .0 .2, c .before .before .before .before .before .pre .1, c .before .before .before .before .before .pre .2, c .before .before .loop .inv .0, c .before .before .loop .inv .1 .size, c .before .loop-test .taken)
+
+cast-a : tie.Need-cast-a Inv-loop μ-loop
+cast-a c = record { fits = omega (arith, c .before .before .before .before .before .pre .0 .0, c .before .before .before .before .before .pre .0 .1, c .before .before .before .before .before .pre .0 .2, c .before .before .before .before .before .pre .1, c .before .before .before .before .before .pre .2, c .before .before .loop .inv .0, c .before .before .loop .inv .1 .size, c .before .loop-test .taken, c .before .before .before .before .before .pre .3 (c .before .before .loop .i - 1) (omega (arith, c .before .before .loop .inv .0, c .before .loop-test .taken))) }
+
+pass-sum-requires : tie.Need-pass-sum-requires Inv-loop μ-loop
+pass-sum-requires c κs = (c .before .before .before .before .before .before .pre .0, omega (arith, c .before .before .before .before .before .before .pre .0 .0, c .before .before .before .before .before .before .pre .0 .1, c .before .before .before .before .before .before .pre .0 .2, c .before .before .before .before .before .before .pre .1, c .before .before .before .before .before .before .pre .2, c .before .before .before .loop .inv .0, c .before .before .before .loop .inv .1 .size, c .before .before .loop-test .taken), c .before .before .before .before .before .before .pre .3 (c .before .before .before .loop .i - 1) (omega (arith, c .before .before .before .loop .inv .0, c .before .before .loop-test .taken)), omega (arith, c .before .before .before .before .before .before .pre .0 .0, c .before .before .before .before .before .before .pre .0 .1, c .before .before .before .before .before .before .pre .0 .2, c .before .before .before .before .before .before .pre .1, c .before .before .before .before .before .before .pre .2, c .before .before .before .loop .inv .0, c .before .before .before .loop .inv .1 .size, c .before .before .loop-test .taken))
+
+loop-less : tie.Need-loop-less Inv-loop μ-loop
+loop-less c = omega (arith, c .before .before .before .before .before .before .before .before .before .pre .0 .0, c .before .before .before .before .before .before .before .before .before .pre .0 .1, c .before .before .before .before .before .before .before .before .before .pre .0 .2, c .before .before .before .before .before .before .before .before .before .pre .1, c .before .before .before .before .before .before .before .before .before .pre .2, c .before .before .before .before .before .before .loop .inv .0, c .before .before .before .before .before .before .loop .inv .1 .size, c .before .before .before .before .before .loop-test .taken)
+
+loop-again : tie.Need-loop-again Inv-loop μ-loop
+loop-again c =
+    let a = c .before .before .before .before .before .before .before .before .before .args in
+    let l = c .before .before .before .before .before .before .loop in
+    let i = l .i - 1 in
+    (omega (arith, c .before .before .before .before .before .before .before .before .before .pre .0 .0, c .before .before .before .before .before .before .before .before .before .pre .0 .1, c .before .before .before .before .before .before .before .before .before .pre .0 .2, c .before .before .before .before .before .before .before .before .before .pre .1, c .before .before .before .before .before .before .before .before .before .pre .2, c .before .before .before .before .before .before .loop .inv .0, c .before .before .before .before .before .before .loop .inv .1 .size, c .before .before .before .before .before .loop-test .taken), moves-then (omega (arith, c .before .before .before .before .before .before .before .before .before .pre .0 .0, c .before .before .before .before .before .before .before .before .before .pre .0 .1, c .before .before .before .before .before .before .before .before .before .pre .0 .2, c .before .before .before .before .before .before .before .before .before .pre .1, c .before .before .before .before .before .before .before .before .before .pre .2, c .before .before .before .before .before .before .loop .inv .0, c .before .before .before .before .before .before .loop .inv .1 .size, c .before .before .before .before .before .loop-test .taken)) (l .inv .1) (moves-at refl (omega (arith, c .before .before .before .before .before .before .before .before .before .pre .0 .0, c .before .before .before .before .before .before .before .before .before .pre .0 .1, c .before .before .before .before .before .before .before .before .before .pre .0 .2, c .before .before .before .before .before .before .before .before .before .pre .1, c .before .before .before .before .before .before .before .before .before .pre .2, c .before .before .before .before .before .before .loop .inv .0, c .before .before .before .before .before .before .loop .inv .1 .size, c .before .before .before .before .before .loop-test .taken))
+    (subst (λ (n : List ℕ). Moves (λ g. RefGates g (a .d) (a .first) (wordA (a .ops .now))) (sumAt (a .d) (a .first) i) (sumAt (a .d) (a .first) (i + 1)) (l .marks) n) (sym (c .before .before .pass-sum .ensures)) (sum-moved (a .d) (a .first) (wordA (a .ops .now)) i (l .marks) (omega (arith, c .before .before .before .before .before .before .before .before .before .pre .0 .0, c .before .before .before .before .before .before .before .before .before .pre .0 .1, c .before .before .before .before .before .before .before .before .before .pre .0 .2, c .before .before .before .before .before .before .before .before .before .pre .1, c .before .before .before .before .before .before .before .before .before .pre .2, c .before .before .before .before .before .before .loop .inv .0, c .before .before .before .before .before .before .loop .inv .1 .size, c .before .before .before .before .before .loop-test .taken))))))
+
+same-length : tie.Need-same-length Inv-loop μ-loop
+same-length c = c .before .loop .inv .1 .size
+
+returns : tie.Need-returns Inv-loop μ-loop
+returns c =
+    let a = c .before .before .before .before .args in
+    moves-then (omega arith) (moves-at (ap (sumAt (a .d) (a .first)) (zero-is (c .before .loop .i) (c .loop-test .left))) refl (c .before .loop .inv .1)) (drawn-moved (a .d) (a .first) (wordA (a .ops .now)) (c .before .loop .marks))
+
+pub pass-ref-spec : {M : Type 1} → statement M
+pass-ref-spec =
+    tie.close
+    (tie.spec
+    Inv-loop
+    μ-loop
+    loop-holds
+    sub-i
+    add-a
+    mul-a
+    shared-slice-read-a
+    cast-a
+    pass-sum-requires
+    loop-less
+    loop-again
+    same-length
+    returns)

@@ -1,0 +1,70 @@
+-- `evaluation::reach::pass_rows` meets its contract.
+use Rattle.evaluation.proofs.reach.pass_rows.Statement.{statement}
+use Rattle.evaluation.proofs.reach.pass_rows.Tie as tie
+use borrow.Author.Needs.{needs}
+use mathlib.Core.Path.{_≡_, refl, sym, ap, ap₂, subst, _∙_}
+use Prim.Native.Nat.{ℕ, _+_, _-_, _*_, _≤_, _<_}
+use native.Mathlib.Omega.{arith}
+use lib.ListN.{length, set, length-set}
+use mathlib.Core.List.{List}
+use Rattle.evaluation.specs.Places.{wordA, wordB, rowStart, pairSite, slotOf, cellRow, pairAt, ownAt, cellAt, outAt, maskAt, sumAt, heldAt}
+use Rattle.evaluation.specs.Marks.{markAll, handedOn, sixes, outWires, Moves}
+use Rattle.evaluation.proofs.Moved.{mark-append, handed-length, moves-none, moves-then, moves-for, moves-at, cell-moved, sixes-turn, sixes-end, out-moved, row-moved, rows-moved, own-moved, and-moved, zero-is}
+use Rattle.evaluation.specs.Gates.{OwnGates, CellGates, CellsGates, RowsGates, OwnsGates, OutGates, AndGates}
+use Rattle.evaluation.proofs.Rows.{pair-early, own-early, cell-room, slot-low, slot-high, row-next, row-room}
+use Rattle.circuit.specs.Wires.{Gate}
+
+abbrev Inv-loop : tie.InvT-loop
+Inv-loop marks₀ first d ops i₀ marks i = (i ≤ d) × Moves (RowsGates d first (wordA ops) (wordB d ops)) (first + cellRow d i) (first + cellRow d d) marks₀ marks
+
+abbrev μ-loop : tie.MeasureT-loop
+μ-loop marks₀ first d ops i₀ marks i = i
+
+loop-holds : tie.Need-loop-holds Inv-loop μ-loop
+loop-holds c = (omega arith, moves-none (c .before .before .args .first + cellRow (c .before .before .args .d) (c .before .before .args .d)) (c .before .before .args .marks .now))
+
+sub-i : tie.Need-sub-i Inv-loop μ-loop
+sub-i c = omega (arith, c .before .before .before .before .pre .0 .0, c .before .before .before .before .pre .0 .1, c .before .before .before .before .pre .0 .2, c .before .before .before .before .pre .1, c .before .before .before .before .pre .2, c .before .loop .inv .0, c .before .loop .inv .1 .size, c .loop-test .taken)
+
+add-pass-row : tie.Need-add-pass-row Inv-loop μ-loop
+add-pass-row c = record { fits = omega (arith, c .before .before .before .before .before .pre .0 .0, c .before .before .before .before .before .pre .0 .1, c .before .before .before .before .before .pre .0 .2, c .before .before .before .before .before .pre .1, c .before .before .before .before .before .pre .2, c .before .before .loop .inv .0, c .before .before .loop .inv .1 .size, c .before .loop-test .taken) }
+
+pass-row-requires : tie.Need-pass-row-requires Inv-loop μ-loop
+pass-row-requires c κs = (c .before .before .before .before .before .pre .0, omega (arith, c .before .before .before .before .before .pre .0 .0, c .before .before .before .before .before .pre .0 .1, c .before .before .before .before .before .pre .0 .2, c .before .before .before .before .before .pre .1, c .before .before .before .before .before .pre .2, c .before .before .loop .inv .0, c .before .before .loop .inv .1 .size, c .before .loop-test .taken), omega arith, omega (arith, c .before .before .before .before .before .pre .0 .0, c .before .before .before .before .before .pre .0 .1, c .before .before .before .before .before .pre .0 .2, c .before .before .before .before .before .pre .1, c .before .before .before .before .before .pre .2, c .before .before .loop .inv .0, c .before .before .loop .inv .1 .size, c .before .loop-test .taken), (λ j l u e. omega arith), omega (arith, c .before .before .before .before .before .pre .0 .0, c .before .before .before .before .before .pre .0 .1, c .before .before .before .before .before .pre .0 .2, c .before .before .before .before .before .pre .1, c .before .before .before .before .before .pre .2, c .before .before .loop .inv .0, c .before .before .loop .inv .1 .size, c .before .loop-test .taken), c .before .before .before .before .before .pre .2, c .before .before .before .before .before .pre .3, c .before .before .before .before .before .pre .4)
+
+pass-row-requires-2 : tie.Need-pass-row-requires-2 Inv-loop μ-loop
+pass-row-requires-2 c κs = (c .before .before .before .before .before .before .before .before .before .pre .0, omega (arith, c .before .before .before .before .before .before .before .before .before .pre .0 .0, c .before .before .before .before .before .before .before .before .before .pre .0 .1, c .before .before .before .before .before .before .before .before .before .pre .0 .2, c .before .before .before .before .before .before .before .before .before .pre .1, c .before .before .before .before .before .before .before .before .before .pre .2, c .before .before .before .before .before .before .loop .inv .0, c .before .before .before .before .before .before .loop .inv .1 .size, c .before .before .before .before .before .loop-test .taken, c .before .before .before .pass-row .ensures .size), omega (arith, c .before .before .before .before .before .before .before .before .before .pre .0 .0, c .before .before .before .before .before .before .before .before .before .pre .0 .1, c .before .before .before .before .before .before .before .before .before .pre .0 .2, c .before .before .before .before .before .before .before .before .before .pre .1, c .before .before .before .before .before .before .before .before .before .pre .2, c .before .before .before .before .before .before .loop .inv .0, c .before .before .before .before .before .before .loop .inv .1 .size, c .before .before .before .before .before .loop-test .taken, c .before .before .before .pass-row .ensures .size), omega (arith, c .before .before .before .before .before .before .before .before .before .pre .0 .0, c .before .before .before .before .before .before .before .before .before .pre .0 .1, c .before .before .before .before .before .before .before .before .before .pre .0 .2, c .before .before .before .before .before .before .before .before .before .pre .1, c .before .before .before .before .before .before .before .before .before .pre .2, c .before .before .before .before .before .before .loop .inv .0, c .before .before .before .before .before .before .loop .inv .1 .size, c .before .before .before .before .before .loop-test .taken, c .before .before .before .pass-row .ensures .size), (λ j l u e. omega arith), omega arith, c .before .before .before .before .before .before .before .before .before .pre .2, c .before .before .before .before .before .before .before .before .before .pre .3, c .before .before .before .before .before .before .before .before .before .pre .4)
+
+loop-less : tie.Need-loop-less Inv-loop μ-loop
+loop-less c = omega (arith, c .before .before .before .before .before .before .before .before .before .before .before .before .pre .0 .0, c .before .before .before .before .before .before .before .before .before .before .before .before .pre .0 .1, c .before .before .before .before .before .before .before .before .before .before .before .before .pre .0 .2, c .before .before .before .before .before .before .before .before .before .before .before .before .pre .1, c .before .before .before .before .before .before .before .before .before .before .before .before .pre .2, c .before .before .before .before .before .before .before .before .before .loop .inv .0, c .before .before .before .before .before .before .before .before .before .loop .inv .1 .size, c .before .before .before .before .before .before .before .before .loop-test .taken, c .before .before .before .before .before .before .pass-row .ensures .size)
+
+loop-again : tie.Need-loop-again Inv-loop μ-loop
+loop-again c =
+    let a = c .before .before .before .before .before .before .before .before .before .before .before .before .args in
+    let l = c .before .before .before .before .before .before .before .before .before .loop in
+    let i = l .i - 1 in
+    let e : l .i ≡ i + 1 = omega (arith, c .before .before .before .before .before .before .before .before .before .before .before .before .pre .0 .0, c .before .before .before .before .before .before .before .before .before .before .before .before .pre .0 .1, c .before .before .before .before .before .before .before .before .before .before .before .before .pre .0 .2, c .before .before .before .before .before .before .before .before .before .before .before .before .pre .1, c .before .before .before .before .before .before .before .before .before .before .before .before .pre .2, c .before .before .before .before .before .before .before .before .before .loop .inv .0, c .before .before .before .before .before .before .before .before .before .loop .inv .1 .size, c .before .before .before .before .before .before .before .before .loop-test .taken, c .before .before .before .before .before .before .pass-row .ensures .size) in
+    (omega (arith, c .before .before .before .before .before .before .before .before .before .before .before .before .pre .0 .0, c .before .before .before .before .before .before .before .before .before .before .before .before .pre .0 .1, c .before .before .before .before .before .before .before .before .before .before .before .before .pre .0 .2, c .before .before .before .before .before .before .before .before .before .before .before .before .pre .1, c .before .before .before .before .before .before .before .before .before .before .before .before .pre .2, c .before .before .before .before .before .before .before .before .before .loop .inv .0, c .before .before .before .before .before .before .before .before .before .loop .inv .1 .size, c .before .before .before .before .before .before .before .before .loop-test .taken, c .before .before .before .before .before .before .pass-row .ensures .size), rows-moved (a .d) (a .first) (wordA (a .ops .now)) (wordB (a .d) (a .ops .now)) i (a .marks .now) (l .marks) (c .before .before .before .before .before .before .pass-row .last .0) (c .before .before .pass-row2 .last .0) (omega (arith, c .before .before .before .before .before .before .before .before .before .before .before .before .pre .0 .0, c .before .before .before .before .before .before .before .before .before .before .before .before .pre .0 .1, c .before .before .before .before .before .before .before .before .before .before .before .before .pre .0 .2, c .before .before .before .before .before .before .before .before .before .before .before .before .pre .1, c .before .before .before .before .before .before .before .before .before .before .before .before .pre .2, c .before .before .before .before .before .before .before .before .before .loop .inv .0, c .before .before .before .before .before .before .before .before .before .loop .inv .1 .size, c .before .before .before .before .before .before .before .before .loop-test .taken, c .before .before .before .before .before .before .pass-row .ensures .size))
+    (moves-at (ap (λ n. a .first + cellRow (a .d) n) e) refl (l .inv .1)) (c .before .before .before .before .before .before .pass-row .ensures) (c .before .before .pass-row2 .ensures))
+
+same-length : tie.Need-same-length Inv-loop μ-loop
+same-length c = c .before .loop .inv .1 .size
+
+returns : tie.Need-returns Inv-loop μ-loop
+returns c = moves-at (ap (λ n. c .before .before .before .before .args .first + cellRow (c .before .before .before .before .args .d) n) (zero-is (c .before .loop .i) (c .loop-test .left))) refl (c .before .loop .inv .1)
+
+pub pass-rows-spec : {M : Type 1} → statement M
+pass-rows-spec =
+    tie.close
+    (tie.spec
+    Inv-loop
+    μ-loop
+    loop-holds
+    sub-i
+    add-pass-row
+    pass-row-requires
+    pass-row-requires-2
+    loop-less
+    loop-again
+    same-length
+    returns)

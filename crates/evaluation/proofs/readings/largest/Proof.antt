@@ -1,0 +1,58 @@
+-- `evaluation::readings::largest` meets its contract.
+use Rattle.evaluation.proofs.readings.largest.Statement.{statement}
+use Rattle.evaluation.proofs.readings.largest.Tie as tie
+use mathlib.Core.Path.{_≡_, refl, sym, ap, ap₂, subst, _∙_}
+use Prim.Native.Nat.{ℕ, _+_, _-_, _*_, _≤_, _<_}
+use native.Mathlib.Omega.{arith}
+use lib.ListN.{length, set, length-set}
+use Rattle.circuit.specs.Lists.{_⊕_, nth, range}
+use Rattle.evaluation.proofs.Highest.{highest-turn}
+use borrow.Author.Needs.{needs}
+
+abbrev Inv-loop : tie.InvT-loop
+Inv-loop marks from count most₀ i₀ most i = (i ≤ count) × ((x : ℕ) → from ≤ x → x < from + i → nth marks x ≤ most)
+
+abbrev μ-loop : tie.MeasureT-loop
+μ-loop marks from count most₀ i₀ most i = count - i
+
+loop-holds : tie.Need-loop-holds Inv-loop μ-loop
+loop-holds c = (omega arith, λ x l u. absurd (omega arith))
+
+add-larger : tie.Need-add-larger Inv-loop μ-loop
+add-larger c = record { fits = omega (arith, c .before .loop .inv .0, c .loop-test .taken, c .before .before .before .pre, c .before .before .before .good .0 .0) }
+
+shared-slice-read-larger : tie.Need-shared-slice-read-larger Inv-loop μ-loop
+shared-slice-read-larger c = omega (arith, c .before .before .loop .inv .0, c .before .loop-test .taken, c .before .before .before .before .pre, c .before .before .before .before .good .0 .0)
+
+larger-requires : tie.Need-larger-requires Inv-loop μ-loop
+larger-requires c κs = search needs
+
+add-i : tie.Need-add-i Inv-loop μ-loop
+add-i c = record { fits = omega (arith, c .before .before .before .loop .inv .0, c .before .before .loop-test .taken, c .before .before .before .before .before .pre, c .before .before .before .before .before .good .0 .0) }
+
+loop-less : tie.Need-loop-less Inv-loop μ-loop
+loop-less c = omega (arith, c .before .before .before .loop .inv .0, c .before .before .loop-test .taken, c .before .before .before .before .before .pre, c .before .before .before .before .before .good .0 .0)
+
+loop-again : tie.Need-loop-again Inv-loop μ-loop
+loop-again c =
+    let a = c .before .before .before .before .before .args in
+    let l = c .before .before .before .loop in
+    (omega (arith, c .before .before .before .loop .inv .0, c .before .before .loop-test .taken, c .before .before .before .before .before .pre, c .before .before .before .before .before .good .0 .0), highest-turn (a .marks .now) (a .from) (l .i) (l .most) (c .larger .result) (l .inv .1) (c .larger .ensures .0) (c .larger .ensures .1))
+
+returns : tie.Need-returns Inv-loop μ-loop
+returns c = record { is = λ x l u. c .before .loop .inv .1 x l (omega (arith, c .before .loop .inv .0, c .loop-test .left, c .before .before .before .pre, c .before .before .before .good .0 .0)) }
+
+pub largest-spec : {M : Type 1} → statement M
+largest-spec =
+    tie.close
+    (tie.spec
+    Inv-loop
+    μ-loop
+    loop-holds
+    add-larger
+    shared-slice-read-larger
+    larger-requires
+    add-i
+    loop-less
+    loop-again
+    returns)

@@ -1,0 +1,67 @@
+-- `evaluation::readings::mark` meets its contract.
+use Rattle.evaluation.proofs.readings.mark.Statement.{statement}
+use Rattle.evaluation.proofs.readings.mark.Tie as tie
+use mathlib.Core.Path.{_≡_, refl, sym, ap, ap₂, subst, _∙_}
+use Prim.Native.Nat.{ℕ, _+_, _-_, _*_, _≤_, _<_}
+use native.Mathlib.Omega.{arith}
+use Rattle.circuit.specs.Lists.{_⊕_, nth, range}
+use lib.ListN.{length, drop, length-set}
+use Rattle.evaluation.specs.Marks.{markAll, handedOn, sixes, outWires, Moves}
+use Rattle.evaluation.proofs.Marking.{mark-turn, mark-end}
+use borrow.Author.Needs.{needs}
+
+abbrev Inv-loop : tie.InvT-loop
+Inv-loop marks₀ wires i₀ marks i = (i ≤ length wires) × (length marks ≡ length marks₀) × (markAll marks₀ wires ≡ markAll marks (drop i wires))
+
+abbrev μ-loop : tie.MeasureT-loop
+μ-loop marks₀ wires i₀ marks i = length wires - i
+
+loop-holds : tie.Need-loop-holds Inv-loop μ-loop
+loop-holds c = (search needs, refl, refl)
+
+mul-wire : tie.Need-mul-wire Inv-loop μ-loop
+mul-wire c = search needs
+
+shared-slice-read-wire : tie.Need-shared-slice-read-wire Inv-loop μ-loop
+shared-slice-read-wire c = search needs
+
+cast-wire : tie.Need-cast-wire Inv-loop μ-loop
+cast-wire c = record { fits = omega (arith, c .shared-slice-known .given (c .before .before .loop .i)) }
+
+slice-write-marks : tie.Need-slice-write-marks Inv-loop μ-loop
+slice-write-marks c = omega (arith, c .before .before .loop .inv .0, c .before .before .loop .inv .1, c .before .loop-test .taken, c .before .before .before .pre (c .before .before .loop .i) (c .before .loop-test .taken))
+
+add-i : tie.Need-add-i Inv-loop μ-loop
+add-i c = search needs
+
+loop-less : tie.Need-loop-less Inv-loop μ-loop
+loop-less c = search needs
+
+loop-again : tie.Need-loop-again Inv-loop μ-loop
+loop-again c =
+    let a = c .before .before .before .args in
+    let l = c .before .before .loop in
+    (omega (arith, c .before .before .loop .inv .0, c .before .before .loop .inv .1, c .before .loop-test .taken), length-set (l .marks) (nth (a .wires .now) (l .i)) 1 ∙ l .inv .1, l .inv .2 ∙ mark-turn (l .marks) (a .wires .now) (l .i) (c .before .loop-test .taken))
+
+same-length : tie.Need-same-length Inv-loop μ-loop
+same-length c = c .before .loop .inv .1
+
+returns : tie.Need-returns Inv-loop μ-loop
+returns c = sym (c .before .loop .inv .2 ∙ mark-end (c .before .loop .marks) (c .before .before .args .wires .now) (c .before .loop .i) (c .loop-test .left))
+
+pub mark-spec : {M : Type 1} → statement M
+mark-spec =
+    tie.close
+    (tie.spec
+    Inv-loop
+    μ-loop
+    loop-holds
+    mul-wire
+    shared-slice-read-wire
+    cast-wire
+    slice-write-marks
+    add-i
+    loop-less
+    loop-again
+    same-length
+    returns)

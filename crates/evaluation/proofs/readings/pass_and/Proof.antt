@@ -1,0 +1,61 @@
+-- `evaluation::readings::pass_and` meets its contract.
+use borrow.Author.Needs.{needs}
+use Rattle.evaluation.proofs.readings.pass_and.Statement.{statement}
+use Rattle.evaluation.proofs.readings.pass_and.Tie as tie
+use mathlib.Core.Path.{_≡_, refl, sym, ap, ap₂, subst, _∙_}
+use Prim.Native.Nat.{ℕ, _+_, _-_, _*_, _≤_, _<_}
+use native.Mathlib.Omega.{arith}
+use lib.ListN.{length, set, length-set}
+use Rattle.evaluation.proofs.Bounds.{eights, sixteens}
+use Rattle.evaluation.proofs.Moved.{mark-length, handed-length, moves-none, moves-then, moves-at, moves-stop, moves-stops, moves-gate, moves-unmarked, twice-moved, masks-turn, masks-end, sum-handed, sum-moved, held-moved, drawn-moved, zero-is}
+
+sub-largest : tie.Need-sub-largest
+sub-largest c = omega (arith, c .before .before .before .pre .0 .0, c .before .before .before .pre .0 .1, c .before .before .before .pre .0 .2, c .before .before .before .pre .1, eights (c .before .before .before .args .d) (c .before .before .before .args .d - 1) (omega (arith, c .before .before .before .pre .0 .2)) (omega (arith, c .before .before .before .pre .0 .2)))
+
+mul-largest : tie.Need-mul-largest
+mul-largest c = record { fits = omega (arith, c .before .before .before .pre .0 .0, c .before .before .before .pre .0 .1, c .before .before .before .pre .0 .2, c .before .before .before .pre .1, eights (c .before .before .before .args .d) (c .before .before .before .args .d - 1) (omega (arith, c .before .before .before .pre .0 .2)) (omega (arith, c .before .before .before .pre .0 .2))) }
+
+mul-largest-2 : tie.Need-mul-largest-2
+mul-largest-2 c = record { fits = omega (arith, c .before .before .before .pre .0 .0, c .before .before .before .pre .0 .1, c .before .before .before .pre .0 .2, c .before .before .before .pre .1, eights (c .before .before .before .args .d) (c .before .before .before .args .d - 1) (omega (arith, c .before .before .before .pre .0 .2)) (omega (arith, c .before .before .before .pre .0 .2))) }
+
+mul-largest-3 : tie.Need-mul-largest-3
+mul-largest-3 c = record { fits = omega (arith, c .before .before .before .pre .0 .0, c .before .before .before .pre .0 .1, c .before .before .before .pre .0 .2, c .before .before .before .pre .1, eights (c .before .before .before .args .d) (c .before .before .before .args .d - 1) (omega (arith, c .before .before .before .pre .0 .2)) (omega (arith, c .before .before .before .pre .0 .2))) }
+
+add-largest : tie.Need-add-largest
+add-largest c = record { fits = omega (arith, c .before .before .before .pre .0 .0, c .before .before .before .pre .0 .1, c .before .before .before .pre .0 .2, c .before .before .before .pre .1, eights (c .before .before .before .args .d) (c .before .before .before .args .d - 1) (omega (arith, c .before .before .before .pre .0 .2)) (omega (arith, c .before .before .before .pre .0 .2))) }
+
+largest-requires : tie.Need-largest-requires
+largest-requires c κs = omega (arith, c .before .before .before .pre .0 .0, c .before .before .before .pre .0 .1, c .before .before .before .pre .0 .2, c .before .before .before .pre .1, eights (c .before .before .before .args .d) (c .before .before .before .args .d - 1) (omega (arith, c .before .before .before .pre .0 .2)) (omega (arith, c .before .before .before .pre .0 .2)))
+
+same-length : tie.Need-same-length
+same-length c = refl
+
+returns : tie.Need-returns
+returns c =
+    let a = c .before .before .before .before .before .args in
+    moves-unmarked (a .first) (a .first + (7 * (a .d * (a .d - 1)) + 4 * a .d)) (a .marks .now) (λ x l u. omega (arith, c .before .largest .ensures .is x l u, c .if1 .taken))
+
+pass-and-requires : tie.Need-pass-and-requires
+pass-and-requires c κs = (c .before .before .before .before .before .before .pre .0, omega (arith, c .before .before .before .before .before .before .pre .0 .0, c .before .before .before .before .before .before .pre .0 .1, c .before .before .before .before .before .before .pre .0 .2, c .before .before .before .before .before .before .pre .1, eights (c .before .before .before .before .before .before .args .d) (c .before .before .before .before .before .before .args .d - 1) (omega (arith, c .before .before .before .before .before .before .pre .0 .2)) (omega (arith, c .before .before .before .before .before .before .pre .0 .2))), c .before .before .before .before .before .before .pre .2 .0, c .before .before .before .before .before .before .pre .2 .1, c .before .before .before .before .before .before .pre .2 .2)
+
+same-length-2 : tie.Need-same-length-2
+same-length-2 c = c .before .before .pass-and .ensures .size
+
+returns-2 : tie.Need-returns-2
+returns-2 c = c .before .before .pass-and .ensures
+
+pub pass-and-spec : {M : Type 1} → statement M
+pass-and-spec =
+    tie.close
+    (tie.spec
+    sub-largest
+    mul-largest
+    mul-largest-2
+    mul-largest-3
+    add-largest
+    largest-requires
+    same-length
+    returns
+    pass-and-requires
+    same-length-2
+    returns-2)

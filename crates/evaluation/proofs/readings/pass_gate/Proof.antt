@@ -1,0 +1,153 @@
+-- `evaluation::readings::pass_gate` meets its contract.
+use borrow.Author.Needs.{needs}
+use Rattle.evaluation.proofs.readings.pass_gate.Statement.{statement}
+use Rattle.evaluation.proofs.readings.pass_gate.Tie as tie
+use mathlib.Core.Path.{_≡_, refl, sym, ap, ap₂, subst, _∙_}
+use Prim.Native.Nat.{ℕ, _+_, _-_, _*_, _≤_, _<_}
+use native.Mathlib.Omega.{arith}
+use lib.ListN.{length, set, length-set}
+use Rattle.evaluation.proofs.Moved.{mark-length, handed-length, moves-none, moves-then, moves-at, moves-stop, moves-stops, moves-gate, moves-unmarked, twice-moved, masks-turn, masks-end, sum-handed, sum-moved, held-moved, drawn-moved, zero-is}
+use Rattle.evaluation.specs.Filling.{gateMakes}
+use Rattle.evaluation.specs.Marks.{handedOn, Moves, GateGates, GateEarly}
+use Rattle.checker.specs.declared.walk.Gate.{Gate as GateCode}
+use Rattle.circuit.specs.Wires.{Gate, sum, inverse}
+use mathlib.Core.List.{List, [], _∷_}
+
+enum-told : tie.Need-enum-told
+enum-told c = search needs
+
+enum-told-2 : tie.Need-enum-told-2
+enum-told-2 c = search needs
+
+enum-known-gate : tie.Need-enum-known-gate
+enum-known-gate c = search needs
+
+cast-hand-on : tie.Need-cast-hand-on
+cast-hand-on c = search needs
+
+cast-hand-on-2 : tie.Need-cast-hand-on-2
+cast-hand-on-2 c = search needs
+
+hand-on-requires : tie.Need-hand-on-requires
+hand-on-requires c κs =
+    let a = c .before .before .before .before .before .args in
+    let old = a .marks .now in
+    let same = c .before .before .gate .given .1 in
+    let early = subst (λ (g : GateCode). GateEarly g (a .first)) same (c .before .before .before .before .before .pre .1) in
+    let room = subst (λ (g : GateCode). a .first + gateMakes g (a .d) ≤ length old) same (c .before .before .before .before .before .pre .0) in
+    (omega arith, omega arith, omega arith)
+
+enum-known-gate-2 : tie.Need-enum-known-gate-2
+enum-known-gate-2 c = search needs
+
+cast-hand-on-3 : tie.Need-cast-hand-on-3
+cast-hand-on-3 c = search needs
+
+cast-hand-on-4 : tie.Need-cast-hand-on-4
+cast-hand-on-4 c = search needs
+
+hand-on-requires-2 : tie.Need-hand-on-requires-2
+hand-on-requires-2 c κs =
+    let a = c .before .before .before .before .before .args in
+    let old = a .marks .now in
+    let same = c .before .before .gate2 .given .1 in
+    let early = subst (λ (g : GateCode). GateEarly g (a .first)) same (c .before .before .before .before .before .pre .1) in
+    let room = subst (λ (g : GateCode). a .first + gateMakes g (a .d) ≤ length old) same (c .before .before .before .before .before .pre .0) in
+    (omega arith, omega arith, omega arith)
+
+enum-told-3 : tie.Need-enum-told-3
+enum-told-3 c = search needs
+
+enum-told-4 : tie.Need-enum-told-4
+enum-told-4 c = search needs
+
+returns : tie.Need-returns
+returns c =
+    let a = c .before .before .before .args in
+    let old = a .marks .now in
+    let same = c .enum-told .given .1 in
+    let early = subst (λ (g : GateCode). GateEarly g (a .first)) same (c .before .before .before .pre .1) in
+    let room = subst (λ (g : GateCode). a .first + gateMakes g (a .d) ≤ length old) same (c .before .before .before .pre .0) in
+    subst (λ (g : GateCode). Moves (GateGates g (a .d) (a .first)) (a .first) (a .first + gateMakes g (a .d)) old (old)) (sym same)
+    (moves-stops (a .first) (a .d) old (λ g h q l. h q l))
+
+returns-2 : tie.Need-returns-2
+returns-2 c =
+    let a = c .before .before .before .args in
+    let old = a .marks .now in
+    let same = c .enum-told2 .given .1 in
+    let early = subst (λ (g : GateCode). GateEarly g (a .first)) same (c .before .before .before .pre .1) in
+    let room = subst (λ (g : GateCode). a .first + gateMakes g (a .d) ≤ length old) same (c .before .before .before .pre .0) in
+    subst (λ (g : GateCode). Moves (GateGates g (a .d) (a .first)) (a .first) (a .first + gateMakes g (a .d)) old (old)) (sym same)
+    (moves-stop (a .first) old (λ g h. h))
+
+same-length : tie.Need-same-length
+same-length c = ap length (c .before .before .hand-on .ensures) ∙ handed-length (c .before .before .before .before .before .before .before .before .args .first) (c .before .before .before .before .before .gate .given .0 .0 ∷ c .before .before .before .before .before .gate .given .0 .1 .0 ∷ []) (c .before .before .before .before .before .before .before .before .args .marks .now)
+
+returns-3 : tie.Need-returns-3
+returns-3 c =
+    let a = c .before .before .before .before .before .before .before .before .args in
+    let old = a .marks .now in
+    let same = c .before .before .before .before .before .gate .given .1 in
+    let early = subst (λ (g : GateCode). GateEarly g (a .first)) same (c .before .before .before .before .before .before .before .before .pre .1) in
+    let room = subst (λ (g : GateCode). a .first + gateMakes g (a .d) ≤ length old) same (c .before .before .before .before .before .before .before .before .pre .0) in
+    subst (λ (g : GateCode). Moves (GateGates g (a .d) (a .first)) (a .first) (a .first + gateMakes g (a .d)) old (c .before .before .hand-on .last .0)) (sym same)
+    (subst (λ (n : List ℕ). Moves (λ g. g (a .first) ≡ sum (c .before .before .before .before .before .gate .given .0 .0 ∷ c .before .before .before .before .before .gate .given .0 .1 .0 ∷ [])) (a .first) (a .first + 1) old n) (sym (c .before .before .hand-on .ensures)) (moves-gate (a .first) (sum (c .before .before .before .before .before .gate .given .0 .0 ∷ c .before .before .before .before .before .gate .given .0 .1 .0 ∷ [])) old refl (λ g h. h)))
+
+same-length-2 : tie.Need-same-length-2
+same-length-2 c = ap length (c .before .before .hand-on2 .ensures) ∙ handed-length (c .before .before .before .before .before .before .before .before .args .first) (c .before .before .before .before .before .gate2 .given .0 .0 ∷ c .before .before .before .before .before .gate2 .given .0 .0 ∷ []) (c .before .before .before .before .before .before .before .before .args .marks .now)
+
+returns-4 : tie.Need-returns-4
+returns-4 c =
+    let a = c .before .before .before .before .before .before .before .before .args in
+    let old = a .marks .now in
+    let same = c .before .before .before .before .before .gate2 .given .1 in
+    let early = subst (λ (g : GateCode). GateEarly g (a .first)) same (c .before .before .before .before .before .before .before .before .pre .1) in
+    let room = subst (λ (g : GateCode). a .first + gateMakes g (a .d) ≤ length old) same (c .before .before .before .before .before .before .before .before .pre .0) in
+    subst (λ (g : GateCode). Moves (GateGates g (a .d) (a .first)) (a .first) (a .first + gateMakes g (a .d)) old (c .before .before .hand-on2 .last .0)) (sym same)
+    (subst (λ (n : List ℕ). Moves (λ g. g (a .first) ≡ inverse (c .before .before .before .before .before .gate2 .given .0 .0)) (a .first) (a .first + 1) old n) (sym (c .before .before .hand-on2 .ensures)) (twice-moved (a .first) (c .before .before .before .before .before .gate2 .given .0 .0) old (λ g h. h)))
+
+returns-5 : tie.Need-returns-5
+returns-5 c =
+    let a = c .before .before .before .args in
+    let old = a .marks .now in
+    let same = c .enum-told3 .given .1 in
+    let early = subst (λ (g : GateCode). GateEarly g (a .first)) same (c .before .before .before .pre .1) in
+    let room = subst (λ (g : GateCode). a .first + gateMakes g (a .d) ≤ length old) same (c .before .before .before .pre .0) in
+    subst (λ (g : GateCode). Moves (GateGates g (a .d) (a .first)) (a .first) (a .first + gateMakes g (a .d)) old (old)) (sym same)
+    (moves-stop (a .first) old (λ g h. h))
+
+returns-6 : tie.Need-returns-6
+returns-6 c =
+    let a = c .before .before .before .args in
+    let old = a .marks .now in
+    let same = c .enum-told4 .given .1 in
+    let early = subst (λ (g : GateCode). GateEarly g (a .first)) same (c .before .before .before .pre .1) in
+    let room = subst (λ (g : GateCode). a .first + gateMakes g (a .d) ≤ length old) same (c .before .before .before .pre .0) in
+    subst (λ (g : GateCode). Moves (GateGates g (a .d) (a .first)) (a .first) (a .first + gateMakes g (a .d)) old (old)) (sym same)
+    (moves-at refl (omega arith) (moves-none (a .first) old))
+
+pub pass-gate-spec : {M : Type 1} → statement M
+pass-gate-spec =
+    tie.close
+    (tie.spec
+    enum-told
+    enum-told-2
+    enum-known-gate
+    cast-hand-on
+    cast-hand-on-2
+    hand-on-requires
+    enum-known-gate-2
+    cast-hand-on-3
+    cast-hand-on-4
+    hand-on-requires-2
+    enum-told-3
+    enum-told-4
+    returns
+    returns-2
+    same-length
+    returns-3
+    same-length-2
+    returns-4
+    returns-5
+    returns-6)

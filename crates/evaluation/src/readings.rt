@@ -1,0 +1,195 @@
+// What probes read: marks on probed wires, moved on frame by frame from the last to the first, and shown where they end.
+ghost use mathlib.Core.Path.{_≡_};
+ghost use Prim.Native.Nat.{ℕ, _+_, _≤_, _<_};
+ghost use lib.ListN.{length};
+ghost use lib.Seq.{sets};
+ghost use Rattle.circuit.specs.Lists.{nth};
+ghost use Rattle.evaluation.specs.Filling.{gateMakes, frameMakes};
+ghost use Rattle.evaluation.specs.Gadgets.{Small, Roomy, Early};
+ghost use Rattle.evaluation.specs.Marks.{markAll, Moves, GateGates, FrameGates, GateEarly, FrameEarly, Most, shownAt, shownFrom};
+ghost use Rattle.evaluation.specs.Walking.{Walkable, Lists, Settles, Markable};
+use super::reach;
+use checker::walk::Frame;
+use checker::walk::Gate;
+use checker::walk::Step;
+use checker::walk::Walk;
+
+// A mark on each probed wire.
+pub(crate) fn mark(marks: &mut [u8], wires: &[u16])
+    requires { ⌜ ((x : ℕ) → x < length (now wires) → nth (now wires) x < length (now marks)) ⌝ }
+    ensures { λ _. ⌜ now (marks .exit) ≡ markAll (now (marks .entry)) (now (wires .entry)) ⌝ }
+{
+    let mut i = 0;
+    while i < wires.len() {
+        let wire = wires[i] as usize;
+        marks[wire] = 1;
+        i += 1;
+    }
+}
+
+// The largest mark of so many wires.
+fn largest(marks: &[u8], from: usize, count: usize) -> u8
+    requires { ⌜ from + count ≤ length (now marks) ⌝ }
+    ensures { λ r. ⌜ Most (now (marks .entry)) from count r ⌝ }
+{
+    let mut most: u8 = 0;
+    let mut i = 0;
+    while i < count {
+        most = larger(most, marks[from + i]);
+        i += 1;
+    }
+    most
+}
+
+// The larger of two bytes.
+fn larger(one: u8, other: u8) -> u8
+    ensures { λ r. ⌜ (one ≤ r) × (other ≤ r) ⌝ }
+{
+    if one < other { other } else { one }
+}
+
+// A gate's wires.
+fn pass_gate(marks: &mut [u8], gate: Gate, d: usize, first: usize)
+    requires { ⌜ (first + gateMakes gate d ≤ length (now marks)) × GateEarly gate first ⌝ }
+    ensures { λ _. ⌜ Moves (GateGates gate d first) first (first + gateMakes gate d) (now (marks .entry)) (now (marks .exit)) ⌝ }
+{
+    match gate {
+        Gate::In { stage: _ } => {}
+        Gate::Con {
+            label: _,
+            value: _,
+            stage: _,
+        } => {}
+        Gate::Xor {
+            first: one,
+            second: other,
+        } => {
+            reach::hand_on(marks, first, one as usize, other as usize);
+        }
+        Gate::Not { wire } => {
+            reach::hand_on(marks, first, wire as usize, wire as usize);
+        }
+        Gate::Reg { wire: _ } => {}
+        Gate::Out => {}
+    }
+}
+
+// AND's wires, where one of them is marked.
+fn pass_and(marks: &mut [u8], first: usize, d: usize, ops: &[u16])
+    requires { ⌜ Small first d × (first + frameMakes Frame.And d ≤ length (now marks)) × FrameEarly Frame.And d first (now ops) ⌝ }
+    ensures { λ _. ⌜ Moves (FrameGates Frame.And d first (now (ops .entry))) first (first + frameMakes Frame.And d) (now (marks .entry)) (now (marks .exit)) ⌝ }
+{
+    let most = largest(marks, first, 7 * (d * (d - 1)) + 4 * d);
+    if most < 1 {
+        return;
+    }
+    reach::pass_and(marks, first, d, ops);
+}
+
+// A frame's wires.
+fn pass_frame(marks: &mut [u8], frame: Frame, d: usize, first: usize, ops: &[u16])
+    requires { ⌜ Small first d × (first + frameMakes frame d ≤ length (now marks)) × FrameEarly frame d first (now ops) ⌝ }
+    ensures { λ _. ⌜ Moves (FrameGates frame d first (now (ops .entry))) first (first + frameMakes frame d) (now (marks .entry)) (now (marks .exit)) ⌝ }
+{
+    match frame {
+        Frame::Gate(gate) => {
+            pass_gate(marks, gate, d, first);
+        }
+        Frame::And => {
+            pass_and(marks, first, d, ops);
+        }
+        Frame::Ref => {
+            reach::pass_ref(marks, first, d, ops);
+        }
+    }
+}
+
+// The places of an accepted table's frames, and how many there are.
+pub(crate) fn list(table: &[u16], starts: &mut [u16]) -> usize
+    requires { ⌜ Walkable (now table) × (4096 ≤ length (now starts)) ⌝ }
+    ensures { λ r. ⌜ Lists (now (table .entry)) (now (starts .exit)) r × (r ≤ length (now (starts .exit))) ⌝ }
+{
+    let mut walk = Walk { d: table[1], at: 2 };
+    let mut count = 0;
+    loop {
+        let step = walk.step(table);
+        match step {
+            Step::End => {
+                return count;
+            }
+            Step::Refused { rule: _ } => {
+                return count;
+            }
+            Step::Next {
+                frame: _,
+                shape: _,
+                walk: next,
+            } => {
+                starts[count] = walk.at as u16;
+                count += 1;
+                walk = next;
+            }
+        }
+    }
+}
+
+// The marks moved on from the last frame to the first.
+pub(crate) fn settle(
+    table: &[u16],
+    starts: &[u16],
+    count: usize,
+    wires: usize,
+    marks: &mut [u8],
+)
+    requires { ⌜ Lists (now table) (now starts) count × (count ≤ length (now starts)) × Markable (now table) wires (now marks) ⌝ }
+    ensures { λ _. ⌜ Settles (now (table .entry)) wires (now (marks .entry)) (now (marks .exit)) ⌝ }
+{
+    let d = table[1];
+    let n = d as usize;
+    let mut w = wires;
+    let mut i = count;
+    while 0 < i {
+        i -= 1;
+        let walk = Walk {
+            d: d,
+            at: starts[i] as usize,
+        };
+        let step = walk.step(table);
+        match step {
+            Step::End => {
+                return;
+            }
+            Step::Refused { rule: _ } => {
+                return;
+            }
+            Step::Next {
+                frame,
+                shape,
+                walk: _,
+            } => {
+                let ops = walk.operands(table);
+                w -= shape.makes;
+                pass_frame(marks, frame, n, w, ops);
+            }
+        }
+    }
+}
+
+// A wire's byte on the reading sheet: its value where it is marked, 2 elsewhere.
+fn shown(mark: u8, value: u8) -> u8
+    ensures { λ r. ⌜ r ≡ shownAt mark value ⌝ }
+{
+    if mark < 1 { 2 } else { value }
+}
+
+// The reading sheet's 8,192 bytes.
+pub(crate) fn show(marks: &[u8], values: &[u8], reading: &mut [u8])
+    requires { ⌜ (8192 ≤ length (now marks)) × (8192 ≤ length (now values)) × (8192 ≤ length (now reading)) ⌝ }
+    ensures { λ _. ⌜ now (reading .exit) ≡ sets (now (reading .entry)) 0 (shownFrom (now (marks .entry)) (now (values .entry)) 0 8192) ⌝ }
+{
+    let mut x = 0;
+    while x < 8192 {
+        reading[x] = shown(marks[x], values[x]);
+        x += 1;
+    }
+}
