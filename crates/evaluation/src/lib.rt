@@ -50,6 +50,7 @@ fn judge(
         wires,
         randoms,
         latency: _,
+        inputs: _,
     } = verdict
     else {
         return verdict;
@@ -112,6 +113,7 @@ pub fn evaluate(
         wires,
         randoms: _,
         latency: _,
+        inputs: _,
     } = verdict
     else {
         return verdict;
@@ -163,6 +165,7 @@ pub fn read_probes(
         wires,
         randoms: _,
         latency: _,
+        inputs: _,
     } = verdict
     else {
         return verdict;

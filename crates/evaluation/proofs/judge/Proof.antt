@@ -1,6 +1,7 @@
 -- `evaluation::judge` meets its contract.
 use mathlib.Core.Path.{_≡_, sym, ap, subst, _∙_}
 use Prim.Native.Nat.{ℕ, _*_}
+use native.Mathlib.Omega.{arith}
 use lib.ListN.{length}
 use borrow.Author.Needs.{needs}
 use Rattle.circuit.specs.Rules.{checked}
@@ -32,7 +33,7 @@ returns c =
     let told : refused (e .0 .0) (e .0 .1 .0) (e .0 .1 .1 .0) ≡ verdictOf (a .table .now) N = sym (ap said (e .1)) ∙ c .before .before .before .before .check .ensures .0 in
     record {
       answers = λ sheets h. ap said (e .1) ∙ refused-first (a .table .now) (a .notes .now) (a .shares .now) (a .tape .now) sheets (a .probes .now) told;
-      noted = c .before .before .before .before .check .ensures .1;
+      noted = c .before .before .before .before .check .ensures .1 .0;
       holds = λ p. absurd (no-pass k told p);
     }
 
@@ -70,7 +71,7 @@ returns-2 c =
     let asked : c .before .before .before .before .before .before .expand .result ≡ k .inputs * k .d = c .before .before .before .before .before .before .expand .ensures .sharesAre ∙ ap (λ c. c .inputs * c .d) same in
     record {
       answers = λ sheets h. c .refusal .ensures ∙ sym (ap (answer k) (rule15 (a .table .now) (a .notes .now) (a .shares .now) (a .tape .now) sheets (a .probes .now) p (λ e. c .before .if1 .taken (e ∙ sym asked))));
-      noted = c .before .before .before .before .before .before .before .before .before .before .before .before .before .before .check .ensures .1;
+      noted = c .before .before .before .before .before .before .before .before .before .before .before .before .before .before .check .ensures .1 .0;
       holds = λ _. holds-same (a .table .now) N p (c .before .before .before .before .before .before .expand .ensures .holds);
     }
 
@@ -99,7 +100,7 @@ returns-3 c =
     let fifteen = c .before .before .if1 .left ∙ asked in
     record {
       answers = λ sheets h. c .refusal2 .ensures ∙ sym (ap (answer k) (rule16 (a .table .now) (a .notes .now) (a .shares .now) (a .tape .now) sheets (a .probes .now) p fifteen (λ e. c .before .if2 .taken (e ∙ sym randoms))));
-      noted = c .before .before .before .before .before .before .before .before .before .before .before .before .before .before .before .check .ensures .1;
+      noted = c .before .before .before .before .before .before .before .before .before .before .before .before .before .before .before .check .ensures .1 .0;
       holds = λ _. holds-same (a .table .now) N p (c .before .before .before .before .before .before .before .expand .ensures .holds);
     }
 
@@ -129,7 +130,7 @@ returns-4 c =
     let sixteen = c .before .before .if2 .left ∙ randoms in
     record {
       answers = λ sheets h. c .refusal3 .ensures ∙ sym (ap (answer k) (rule17 (a .table .now) (a .notes .now) (a .shares .now) (a .tape .now) sheets (a .probes .now) p fifteen sixteen (a .room) h (c .before .if3 .taken)));
-      noted = c .before .before .before .before .before .before .before .before .before .before .before .before .before .before .before .before .check .ensures .1;
+      noted = c .before .before .before .before .before .before .before .before .before .before .before .before .before .before .before .before .check .ensures .1 .0;
       holds = λ _. holds-same (a .table .now) N p (c .before .before .before .before .before .before .before .before .expand .ensures .holds);
     }
 
@@ -162,7 +163,7 @@ returns-5 c =
     let sixteen = c .before .before .before .before .if2 .left ∙ randoms in
     record {
       answers = λ sheets h. c .refusal4 .ensures ∙ sym (ap (answer k) (rule18-shares (a .table .now) (a .notes .now) (a .shares .now) (a .tape .now) sheets (a .probes .now) p fifteen sixteen (a .room) h (c .before .before .before .if3 .left) (c .before .before .first-over .result) (c .before .before .first-over .ensures) (c .before .if4 .taken)));
-      noted = c .before .before .before .before .before .before .before .before .before .before .before .before .before .before .before .before .before .before .check .ensures .1;
+      noted = c .before .before .before .before .before .before .before .before .before .before .before .before .before .before .before .before .before .before .check .ensures .1 .0;
       holds = λ _. holds-same (a .table .now) N p (c .before .before .before .before .before .before .before .before .before .before .expand .ensures .holds);
     }
 
@@ -170,7 +171,9 @@ first-over-requires-2 : tie.Need-first-over-requires-2
 first-over-requires-2 c κs = search needs
 
 add-refusal : tie.Need-add-refusal
-add-refusal c = search needs
+add-refusal c =
+    let good = c .before .before .before .before .before .before .before .before .before .before .before .before .before .before .before .before .before .before .before .before .before .before .before .before .before .before .before .before .good in
+    record { fits = omega (arith, good .1 .1 .0 .1, good .1 .1 .1 .0 .1) }
 
 refusal-requires-5 : tie.Need-refusal-requires-5
 refusal-requires-5 c κs = search needs
@@ -198,7 +201,7 @@ returns-6 c =
     let sixteen = c .before .before .before .before .before .before .if2 .left ∙ randoms in
     record {
       answers = λ sheets h. c .refusal5 .ensures ∙ sym (ap (answer k) (rule18-tape (a .table .now) (a .notes .now) (a .shares .now) (a .tape .now) sheets (a .probes .now) p fifteen sixteen (a .room) h (c .before .before .before .before .before .if3 .left) (c .before .before .before .before .first-over .result) (c .before .before .before .before .first-over .ensures) (c .before .before .before .if4 .left) (c .before .before .first-over2 .result) (c .before .before .first-over2 .ensures) (c .before .if5 .taken)));
-      noted = c .before .before .before .before .before .before .before .before .before .before .before .before .before .before .before .before .before .before .before .before .check .ensures .1;
+      noted = c .before .before .before .before .before .before .before .before .before .before .before .before .before .before .before .before .before .before .before .before .check .ensures .1 .0;
       holds = λ _. holds-same (a .table .now) N p (c .before .before .before .before .before .before .before .before .before .before .before .before .expand .ensures .holds);
     }
 
@@ -231,7 +234,7 @@ returns-7 c =
     let sixteen = c .before .before .before .before .before .before .before .before .if2 .left ∙ randoms in
     record {
       answers = λ sheets h. c .refusal6 .ensures ∙ sym (ap (answer k) (rule19 (a .table .now) (a .notes .now) (a .shares .now) (a .tape .now) sheets (a .probes .now) p fifteen sixteen (a .room) h (c .before .before .before .before .before .before .before .if3 .left) (c .before .before .before .before .before .before .first-over .result) (c .before .before .before .before .before .before .first-over .ensures) (c .before .before .before .before .before .if4 .left) (c .before .before .before .before .first-over2 .result) (c .before .before .before .before .first-over2 .ensures) (c .before .before .before .if5 .left) (c .before .before .first-missing .result) (subst (λ (n : ℕ). MissingFirst (a .probes .now) n (c .before .before .first-missing .result)) wires (c .before .before .first-missing .ensures)) (c .before .if6 .taken)));
-      noted = c .before .before .before .before .before .before .before .before .before .before .before .before .before .before .before .before .before .before .before .before .before .before .check .ensures .1;
+      noted = c .before .before .before .before .before .before .before .before .before .before .before .before .before .before .before .before .before .before .before .before .before .before .check .ensures .1 .0;
       holds = λ _. holds-same (a .table .now) N p (c .before .before .before .before .before .before .before .before .before .before .before .before .before .before .expand .ensures .holds);
     }
 
@@ -258,7 +261,7 @@ returns-8 c =
     let sixteen = c .before .before .before .before .before .before .before .if2 .left ∙ randoms in
     record {
       answers = λ sheets h. told ∙ ap (answer k) (p ∙ sym (all-pass (a .table .now) (a .notes .now) (a .shares .now) (a .tape .now) sheets (a .probes .now) p fifteen sixteen (a .room) h (c .before .before .before .before .before .before .if3 .left) (c .before .before .before .before .before .first-over .result) (c .before .before .before .before .before .first-over .ensures) (c .before .before .before .before .if4 .left) (c .before .before .before .first-over2 .result) (c .before .before .before .first-over2 .ensures) (c .before .before .if5 .left) (c .before .first-missing .result) (subst (λ (n : ℕ). MissingFirst (a .probes .now) n (c .before .first-missing .result)) wires (c .before .first-missing .ensures)) (c .if6 .left)));
-      noted = c .before .before .before .before .before .before .before .before .before .before .before .before .before .before .before .before .before .before .before .before .before .check .ensures .1;
+      noted = c .before .before .before .before .before .before .before .before .before .before .before .before .before .before .before .before .before .before .before .before .before .check .ensures .1 .0;
       holds = λ _. holds-same (a .table .now) N p (c .before .before .before .before .before .before .before .before .before .before .before .before .before .expand .ensures .holds);
     }
 
