@@ -22,7 +22,7 @@ use Rattle.circuit.specs.Rules.{Judgement, pass, refuse, need, _then_, wordsRul
 use Rattle.checker.specs.Walk.{kindCode, shapeCode, frameCode}
 use Rattle.checker.specs.Sheet.{noted, foundOf, madeWords, madeFrame, latencyFrame, judged, Told, FirstBroken, tallyOf, judgementIn, laterRule, notesAdded, FrameOf, Placed, Adds}
 use Rattle.checker.proofs.Numbers.{broken-ends}
-use Rattle.checker.proofs.MadeNotes.{madeBy, made-count, uses-few, made-stage, made-words, made-latency}
+use Rattle.checker.proofs.MadeNotes.{madeBy, made-count, uses-few, brings-few, made-stage, made-words, made-latency}
 use Rattle.circuit.proofs.Building.{size-extend}
 
 module _ {fr : Frame} {sh : ShapeCode} {d : ℕ} {ops : List ℕ} where
@@ -33,6 +33,10 @@ module _ {fr : Frame} {sh : ShapeCode} {d : ℕ} {ops : List ℕ} where
 
   pub frame-uses : FrameOf fr sh d ops → sh .uses ≤ sh .makes
   frame-uses o = rw (o .shape-is) (uses-few d (o .kind))
+
+  -- and brings in one secret bit at most
+  pub frame-brings : FrameOf fr sh d ops → sh .brings ≤ 1
+  frame-brings o = rw (o .shape-is) (brings-few d (o .kind))
 
 never-next : {rule word : ℕ} {t t′ : Tally} → Refused rule word ≡ Next t → t ≡ t′
 never-next e = let z : _≡_ {A = ℕ} 0 1 = cc in absurd (omega arith)
@@ -67,6 +71,9 @@ module _ {tally : Tally} {fr : Frame} {sh : ShapeCode} {d : ℕ} {ops old : List
 
     uses-is : sh .uses ≡ shape (k .d) kind .uses
     uses-is = ap (λ s. s .uses) (p .shape-is) ∙ ap (λ n. shape n kind .uses) (sym (p .shares))
+
+    brings-is : sh .brings ≡ shape (k .d) kind .brings
+    brings-is = ap (λ s. s .brings) (p .shape-is) ∙ ap (λ n. shape n kind .brings) (sym (p .shares))
 
     wires-is : tally .wires ≡ size k
     wires-is = ap (λ t. t .wires) (p .tally-is)
@@ -110,7 +117,7 @@ module _ {tally : Tally} {fr : Frame} {sh : ShapeCode} {d : ℕ} {ops old : List
         pub frame-added : tally .wires + sh .makes ≤ wireLimit → (latency : ℕ) → latency ≡ latencyFrame fr (tally .latency) (m .stage)
             → (new : List ℕ) → new ≡ sets old (2 * tally .wires) (madeWords m)
             → Adds tally fr sh d ops old new
-            (Next (record { frames = tally .frames + 1; wires = tally .wires + sh .makes; randoms = tally .randoms + sh .uses; latency = latency }))
+            (Next (record { frames = tally .frames + 1; wires = tally .wires + sh .makes; randoms = tally .randoms + sh .uses; latency = latency; inputs = tally .inputs + sh .brings }))
         frame-added h latency l new w = record {
           judgement = λ k kind p. sym (passes k kind p);
           next = λ k kind p t e. next-is (same k kind p) e;
@@ -126,14 +133,17 @@ module _ {tally : Tally} {fr : Frame} {sh : ShapeCode} {d : ℕ} {ops old : List
                 ∙ rw (le-leb (size k + shape (k .d) kind .makes) wireLimit (omega (arith, wires-is k kind p, makes-is k kind p)))
 
             same : (k : Circuit) (kind : Kind) (p : Placed k kind tally fr sh d ops old)
-                → _≡_ {A = Tally} (record { frames = tally .frames + 1; wires = tally .wires + sh .makes; randoms = tally .randoms + sh .uses; latency = latency }) (tallyOf (tally .frames + 1) (extend k ops kind))
-            same k kind p = λ i. record { frames = tally .frames + 1; wires = wires i; randoms = randoms i; latency = later i }
+                → _≡_ {A = Tally} (record { frames = tally .frames + 1; wires = tally .wires + sh .makes; randoms = tally .randoms + sh .uses; latency = latency; inputs = tally .inputs + sh .brings }) (tallyOf (tally .frames + 1) (extend k ops kind))
+            same k kind p = λ i. record { frames = tally .frames + 1; wires = wires i; randoms = randoms i; latency = later i; inputs = inputs i }
               where
                 wires : tally .wires + sh .makes ≡ size (extend k ops kind)
                 wires = ap₂ _+_ (wires-is k kind p) (makes-is k kind p) ∙ sym (size-extend k ops kind)
 
                 randoms : tally .randoms + sh .uses ≡ k .randoms + shape (k .d) kind .uses
                 randoms = ap₂ _+_ (ap (λ t. t .randoms) (p .tally-is)) (uses-is k kind p)
+
+                inputs : tally .inputs + sh .brings ≡ k .inputs + shape (k .d) kind .brings
+                inputs = ap₂ _+_ (ap (λ t. t .inputs) (p .tally-is)) (brings-is k kind p)
 
                 later : latency ≡ extend k ops kind .latency
                 later = l ∙ ap₂ (λ f t. latencyFrame f t (m .stage)) (p .frame-is) (ap (λ t. t .latency) (p .tally-is))

@@ -48,15 +48,15 @@ head-judged table room = go (leb (length table) tableLimit) (leb notesRoom room)
     go true true true true = refl
 
 pub head-refused : (table notes : List ℕ) (n : ℕ) → n ≡ headNumber table (length notes) → (n ≡ 0 → ⊥)
-    → (said (Refused n 0 (n / 4)) ≡ verdictOf table (length notes)) × (notes ≡ notesAfter (checked table (length notes) .circuit) notes)
+    → (said (Refused n 0 (n / 4)) ≡ verdictOf table (length notes)) × ((notes ≡ notesAfter (checked table (length notes) .circuit) notes) × Unit {0})
 unfolding checked notesAfter
 head-refused table notes n e h = rw (head-judged table (length notes), ← e) (go n h)
   where
     go : (n : ℕ) → (n ≡ 0 → ⊥)
         → (said (Refused n 0 (n / 4)) ≡ answer (onward (judged n 0 (n / 4)) (empty 0) (frames (empty (nth table 1)) 1 0 (drop 2 table)) .circuit) (onward (judged n 0 (n / 4)) (empty 0) (frames (empty (nth table 1)) 1 0 (drop 2 table)) .judgement))
-        × (notes ≡ notesAfter (onward (judged n 0 (n / 4)) (empty 0) (frames (empty (nth table 1)) 1 0 (drop 2 table)) .circuit) notes)
+        × ((notes ≡ notesAfter (onward (judged n 0 (n / 4)) (empty 0) (frames (empty (nth table 1)) 1 0 (drop 2 table)) .circuit) notes) × Unit {0})
     go zero z = absurd (z refl)
-    go (suc n) z = (refl, refl)
+    go (suc n) z = (refl, (refl, tt))
 
 -- what the loop keeps: the circuit of the frames so far, its notes, and that the rest of the table is still to be judged
 pub record Walking (table notes₀ notes : List ℕ) (d : ℕ) (walk : Walk) (tally : Tally) : Type 0 where
@@ -68,6 +68,7 @@ pub record Walking (table notes₀ notes : List ℕ) (d : ℕ) (walk : Walk) (ta
   pub tally-is : tally ≡ tallyOf (tally .frames) k
   pub few : size k ≤ wireLimit
   pub used : k .randoms ≤ size k
+  pub brought : k .inputs ≤ tally .frames
   pub counted : tally .frames ≤ walk .at
   pub inside : walk .at ≤ length table
   pub short : length table ≤ tableLimit
@@ -100,7 +101,7 @@ headed table room e =
     off e = absurd (omega arith)
 
 pub start : (table notes : List ℕ) → headNumber table (length notes) ≡ 0
-    → Walking table notes notes (nth table 1) (record { d = nth table 1; at = 2 }) (record { frames = 1; wires = 0; randoms = 0; latency = 0 })
+    → Walking table notes notes (nth table 1) (record { d = nth table 1; at = 2 }) (record { frames = 1; wires = 0; randoms = 0; latency = 0; inputs = 0 })
 unfolding checked notesAfter
 start table notes e =
     let h = headed table (length notes) e in
@@ -113,6 +114,7 @@ start table notes e =
       tally-is = refl;
       few = omega arith;
       used = omega arith;
+      brought = omega arith;
       counted = omega arith;
       inside = h .two;
       short = h .short;

@@ -52,6 +52,19 @@ uses-few d AND = omega arith
 uses-few d REF = omega arith
 uses-few d OUT = omega arith
 
+-- how many secret bits: one at most
+pub brings-few : (d : ℕ) (kind : Kind) → shape d kind .brings ≤ 1
+unfolding shape
+brings-few d HEAD = omega arith
+brings-few d IN = omega arith
+brings-few d CON = omega arith
+brings-few d XOR = omega arith
+brings-few d NOT = omega arith
+brings-few d REG = omega arith
+brings-few d AND = omega arith
+brings-few d REF = omega arith
+brings-few d OUT = omega arith
+
 -- the words of wires in the notes
 pub notes-append : (xs ys : List Wire) → each (xs ++ ys) (λ w. note (w .place)) ≡ each xs (λ w. note (w .place)) ++ each ys (λ w. note (w .place))
 notes-append [] ys = refl

@@ -22,7 +22,7 @@ use Rattle.circuit.specs.Lists.{nth, each}
 use Rattle.circuit.specs.Kinds.{Kind, HEAD, kindOf, shape, words}
 use Rattle.circuit.specs.Circuit.{Circuit, size, made, extend}
 use Rattle.circuit.specs.Rules.{Judgement, pass, refuse, frameRule, Checked, frames, checked}
-use Rattle.checker.specs.Said.{said}
+use Rattle.checker.specs.Said.{said, inputsAre}
 use Rattle.circuit.specs.Answer.{Answer, answer, verdictOf, note, notesAfter}
 use Rattle.checker.specs.Walk.{shapeCode, operandsAt, behind, stepAt}
 use Rattle.checker.specs.Sheet.{Tells, tallyOf, judgementIn, laterRule, notesAdded, FrameOf, Placed, Adds}
@@ -30,27 +30,29 @@ use Rattle.circuit.specs.Composition.{kindWord, Fits}
 use Rattle.circuit.proofs.Building.{size-extend}
 use Rattle.circuit.proofs.Steps.{frames-pass, frames-refuse}
 use Rattle.circuit.proofs.Fitting.{known, frame-pass}
-use Rattle.checker.proofs.MadeNotes.{uses-few}
+use Rattle.checker.proofs.MadeNotes.{uses-few, brings-few}
 use Rattle.checker.proofs.Telling.{tells, notes-more, notes-same, label-step}
 use Rattle.checker.proofs.Checking.{Walking, here, step-end, step-refused, AtFrame, step-next}
 
 -- what the call promises
 abbrev pub Promised : (table notes₀ notes : List ℕ) → Verdict → Type 0
-Promised table notes₀ notes verdict = (said verdict ≡ verdictOf table (length notes₀)) × (notes ≡ notesAfter (checked table (length notes₀) .circuit) notes₀)
+Promised table notes₀ notes verdict = (said verdict ≡ verdictOf table (length notes₀))
+    × ((notes ≡ notesAfter (checked table (length notes₀) .circuit) notes₀) × inputsAre verdict (checked table (length notes₀) .circuit .inputs))
 
 module _ {table notes₀ notes : List ℕ} {d : ℕ} {walk : Walk} {tally : Tally} (w : Walking table notes₀ notes d walk tally) where
   -- the rest of the table judged ends the check
-  ends : (c : Checked) → frames (w .k) (tally .frames) 0 (drop (walk .at) table) ≡ c → c .circuit ≡ w .k → (v : Verdict) → said v ≡ answer (c .circuit) (c .judgement) → Promised table notes₀ notes v
-  ends c e s v a = rw (w .rest, e) (a, w .notes-is ∙ ap (λ k. notesAfter k notes₀) (sym s))
+  ends : (c : Checked) → frames (w .k) (tally .frames) 0 (drop (walk .at) table) ≡ c → c .circuit ≡ w .k → (v : Verdict) → said v ≡ answer (c .circuit) (c .judgement) → inputsAre v (c .circuit .inputs)
+      → Promised table notes₀ notes v
+  ends c e s v a n = rw (w .rest, e) (a, (w .notes-is ∙ ap (λ k. notesAfter k notes₀) (sym s), n))
 
   -- the end of the table
-  pub way-end : step.End ≡ stepAt table (walk .d) (walk .at) → Promised table notes₀ notes (Accepted (tally .wires) (tally .randoms) (tally .latency))
+  pub way-end : step.End ≡ stepAt table (walk .d) (walk .at) → Promised table notes₀ notes (Accepted (tally .wires) (tally .randoms) (tally .latency) (tally .inputs))
   unfolding frames
-  way-end e = ends (record { circuit = w .k; judgement = pass }) (ap (frames (w .k) (tally .frames) 0) none) refl (Accepted (tally .wires) (tally .randoms) (tally .latency))
-      (ap (λ t. answer-of (t .wires) (t .randoms) (t .latency)) (w .tally-is))
+  way-end e = ends (record { circuit = w .k; judgement = pass }) (ap (frames (w .k) (tally .frames) 0) none) refl (Accepted (tally .wires) (tally .randoms) (tally .latency) (tally .inputs))
+      (ap (λ t. answer-of (t .wires) (t .randoms) (t .latency)) (w .tally-is)) (ap (λ t. t .inputs) (w .tally-is))
     where
       answer-of : ℕ → ℕ → ℕ → Answer
-      answer-of a b c = said (Accepted a b c)
+      answer-of a b c = said (Accepted a b c 0)
 
       none : drop (walk .at) table ≡ []
       none = drop-of-length-le table {i = walk .at} (step-end table (walk .d) (walk .at) e)
@@ -60,7 +62,7 @@ module _ {table notes₀ notes : List ℕ} {d : ℕ} {walk : Walk} {tally : Tall
       → Promised table notes₀ notes (Refused rule (tally .frames) word)
   refused-at rule word h e = ends (record { circuit = w .k; judgement = refuse rule (tally .frames) word })
       (ap (frames (w .k) (tally .frames) 0) (here table d (walk .at) h) ∙ frames-refuse (w .k) (tally .frames) (nth table (walk .at)) (drop (walk .at + 1) table) rule (tally .frames) word e) refl
-      (Refused rule (tally .frames) word) refl
+      (Refused rule (tally .frames) word) refl tt
 
   pub way-refused : (rule : ℕ) → step.Refused rule ≡ stepAt table (walk .d) (walk .at) → Promised table notes₀ notes (Refused rule (tally .frames) 0)
   way-refused rule e = let (h, r) = step-refused table (walk .d) (walk .at) rule e in
@@ -124,7 +126,7 @@ module _ {table notes₀ notes : List ℕ} {d : ℕ} {walk : Walk} {tally : Tall
       unfolding kind rest
       way-broken rule word s =
           let (v, n) = refused-at rule word (frame-at .inside) (judged-is ∙ broken-is rule word s) in
-          (v, broken-kept rule word s ∙ n)
+          (v, (broken-kept rule word s ∙ n .0, n .1))
 
       -- the frame is added
       pub turn : (t : Tally) → r ≡ added.Next t → Walking table notes₀ new d next t
@@ -146,6 +148,7 @@ module _ {table notes₀ notes : List ℕ} {d : ℕ} {walk : Walk} {tally : Tall
             tally-is = t-is ∙ ap (λ f. tallyOf f more) (sym f-is);
             few = omega (arith, size-extend (w .k) ops kind, passed .few);
             used = omega (arith, size-extend (w .k) ops kind, uses-few (w .k .d) kind, w .used);
+            brought = omega (arith, brings-few (w .k .d) kind, w .brought);
             counted = omega (arith, w .counted);
             inside = omega (arith, length-drop (walk .at + 1) table, frame-at .inside, whole);
             short = w .short;
@@ -178,6 +181,7 @@ pub record Bounded (notes : List ℕ) (tally : Tally) : Type 0 where
   pub wires : tally .wires ≤ 8192
   pub used : tally .randoms ≤ tally .wires
   pub frames : tally .frames ≤ 8192
+  pub inputs : tally .inputs ≤ tally .frames
 
 pub bounded : {table notes₀ notes : List ℕ} {d : ℕ} {walk : Walk} {tally : Tally} → Walking table notes₀ notes d walk tally → Bounded notes tally
 bounded w =
@@ -187,6 +191,7 @@ bounded w =
       wires = omega (arith, w .few);
       used = omega (arith, ap (λ t. t .randoms) (w .tally-is), w .used);
       frames = omega (arith, w .counted, w .inside, w .short);
+      inputs = omega (arith, ap (λ t. t .inputs) (w .tally-is), w .brought);
     }
 
 pub shares-few : {table notes₀ notes : List ℕ} {d : ℕ} {walk : Walk} {tally : Tally} → Walking table notes₀ notes d walk tally → d ≤ 8

@@ -181,7 +181,7 @@ latencyFrame frame.Ref latency at = latency
 
 -- the circuit so far as the code counts it
 abbrev pub tallyOf : (frames : ℕ) → Circuit → Tally
-tallyOf f k = record { frames = f; wires = size k; randoms = k .randoms; latency = k .latency }
+tallyOf f k = record { frames = f; wires = size k; randoms = k .randoms; latency = k .latency; inputs = k .inputs }
 
 -- what an added frame says of the frame of number f
 abbrev pub judgementIn : ℕ → Added → Judgement

@@ -12,12 +12,13 @@ use super::walk::Gate;
 use super::walk::word_at;
 use super::words;
 
-// The circuit so far: the number of frames with HEAD, of wires, of random bits, and the latency.
+// The circuit so far: the number of frames with HEAD, of wires, of random bits, the latency, and the number of INs.
 pub struct Tally {
     pub frames: usize,
     pub wires: usize,
     pub randoms: usize,
     pub latency: usize,
+    pub inputs: usize,
 }
 
 // The circuit with one frame more, or the rule that the frame breaks and the word.
@@ -130,7 +131,7 @@ pub(crate) fn add(
     ops: &[u16],
     notes: &mut [u16],
 ) -> Added
-    requires { ⌜ (16384 ≤ length (now notes)) × (tally .wires ≤ 8192) × (tally .randoms ≤ tally .wires) × (tally .frames ≤ 8192) ⌝ }
+    requires { ⌜ (16384 ≤ length (now notes)) × (tally .wires ≤ 8192) × (tally .randoms ≤ tally .wires) × (tally .frames ≤ 8192) × (tally .inputs ≤ tally .frames) ⌝ }
     requires { ⌜ (d ≤ 8) × FrameOf frame shape d (now ops) ⌝ }
     ensures { λ r. ⌜ Adds tally frame shape d (now (ops .entry)) (now (notes .entry)) (now (notes .exit)) r ⌝ }
 {
@@ -159,5 +160,6 @@ pub(crate) fn add(
         wires: wires + makes,
         randoms: tally.randoms + shape.uses,
         latency: latency_after(frame, tally.latency, stage),
+        inputs: tally.inputs + shape.brings,
     })
 }

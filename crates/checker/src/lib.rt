@@ -3,7 +3,7 @@
 ghost use mathlib.Core.Path.{_≡_};
 ghost use lib.ListN.{length};
 ghost use Rattle.circuit.specs.Rules.{checked};
-ghost use Rattle.checker.specs.Said.{said};
+ghost use Rattle.checker.specs.Said.{said, inputsAre};
 ghost use Rattle.circuit.specs.Answer.{verdictOf, notesAfter};
 ghost use Rattle.checker.specs.Sheet.{headNumber};
 
@@ -18,13 +18,14 @@ use frame::Tally;
 use walk::Step;
 use walk::Walk;
 
-// The answer: accepted with the numbers of wires and random bits and the latency, or refused with the number of the first
-// rule broken, the frame and the word.
+// The answer: accepted with the numbers of wires and random bits, the latency and the number of INs, or refused with the
+// number of the first rule broken, the frame and the word.
 pub enum Verdict {
     Accepted {
         wires: usize,
         randoms: usize,
         latency: usize,
+        inputs: usize,
     },
     Refused {
         rule: usize,
@@ -62,6 +63,7 @@ fn head_rule(table: &[u16], room: usize) -> usize
 pub fn check(table: &[u16], notes: &mut [u16]) -> Verdict
     ensures answered { λ r. ⌜ said r ≡ verdictOf (now (table .entry)) (length (now (notes .entry))) ⌝ }
     ensures noted { λ _. ⌜ now (notes .exit) ≡ notesAfter (checked (now (table .entry)) (length (now (notes .entry))) .circuit) (now (notes .entry)) ⌝ }
+    ensures brought { λ r. ⌜ inputsAre r (checked (now (table .entry)) (length (now (notes .entry))) .circuit .inputs) ⌝ }
 {
     let broken = head_rule(table, notes.len());
     if broken != 0 {
@@ -78,6 +80,7 @@ pub fn check(table: &[u16], notes: &mut [u16]) -> Verdict
         wires: 0,
         randoms: 0,
         latency: 0,
+        inputs: 0,
     };
     loop {
         let step = walk.step(table);
@@ -87,6 +90,7 @@ pub fn check(table: &[u16], notes: &mut [u16]) -> Verdict
                     wires: tally.wires,
                     randoms: tally.randoms,
                     latency: tally.latency,
+                    inputs: tally.inputs,
                 };
             }
             Step::Refused { rule } => {

@@ -23,6 +23,7 @@ fn put(verdict: Verdict, a: &mut u64, b: &mut u64, c: &mut u64) -> u64
             wires,
             randoms,
             latency,
+            inputs: _,
         } => {
             *a = wires as u64;
             *b = randoms as u64;

@@ -67,6 +67,7 @@ pub(crate) fn write(verdict: Verdict, out: &mut [u8]) -> usize
             wires,
             randoms,
             latency,
+            inputs: _,
         } => put_line(
             b"accepted wires ",
             wires,

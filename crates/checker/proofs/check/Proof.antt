@@ -66,7 +66,7 @@ add-requires c κs =
     let ops = now (c .before .operands .result) in
     let o = c .before .operands .ensures in
     let u = bounded w in
-    ((u .room, u .wires, u .used, u .frames), (shares-few w, frame-of w (found .0) (found .1 .0) (found .1 .1 .0) e ops o))
+    ((u .room, u .wires, u .used, u .frames, u .inputs), (shares-few w, frame-of w (found .0) (found .1 .0) (found .1 .1 .0) e ops o))
 
 enum-known-added : tie.Need-enum-known-added Inv-loop μ-loop
 enum-known-added c = search needs

@@ -23,7 +23,7 @@ same-length c = search needs
 
 -- src/lib.rt:43:1
 returns : tie.Need-returns
-returns c = (moved (c .before .before .before .before .before .before .check .ensures .0) (c .put .ensures), c .before .before .before .before .before .before .check .ensures .1)
+returns c = (moved (c .before .before .before .before .before .before .check .ensures .0) (c .put .ensures), c .before .before .before .before .before .before .check .ensures .1 .0)
 
 pub masked-check-spec : {M : Type 1} → statement M
 masked-check-spec = tie.close (tie.spec check-requires put-requires same-length returns)

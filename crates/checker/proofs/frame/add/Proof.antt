@@ -4,7 +4,7 @@ use native.Mathlib.Omega.{arith}
 use borrow.Author.Needs.{needs}
 use denote.Ref.{now}
 use Rattle.checker.specs.Sheet.{noted, madeFrame}
-use Rattle.checker.proofs.Adding.{frame-count, frame-uses, word-broken, stage-over, wires-over, frame-added}
+use Rattle.checker.proofs.Adding.{frame-count, frame-uses, frame-brings, word-broken, stage-over, wires-over, frame-added}
 use Rattle.checker.proofs.frame.add.Statement.{statement}
 use Rattle.checker.proofs.frame.add.Tie as tie
 
@@ -68,16 +68,19 @@ add-t24 c = record { fits = omega (arith, frame-uses (c .before .before .before 
 latency-after-requires : tie.Need-latency-after-requires
 latency-after-requires c κs = search needs
 
+add-t26 : tie.Need-add-t26
+add-t26 c = record { fits = omega (arith, frame-brings (c .before .before .before .before .before .before .before .before .before .before .before .before .before .before .before .before .before .before .before .before .before .pre .1 .1), c .before .before .before .before .before .before .before .before .before .before .before .before .before .before .before .before .before .before .before .before .before .pre .0 .3, c .before .before .before .before .before .before .before .before .before .before .before .before .before .before .before .before .before .before .before .before .before .pre .0 .4) }
+
 same-length-4 : tie.Need-same-length-4
 same-length-4 c = search needs
 
 returns-4 : tie.Need-returns-4
 returns-4 c =
-    let none = c .before .before .before .before .before .before .before .before .before .before .before .before .before .if1 .left in
-    let m = c .before .before .before .before .before .before .before .before .before .before .made-by .result in
-    let e = c .before .before .before .before .before .before .before .before .before .before .made-by .ensures .0 ∙ ap (λ n. madeFrame (c .before .before .before .before .before .before .before .before .before .before .before .before .before .before .before .before .before .before .before .args .frame) (c .before .before .before .before .before .before .before .before .before .before .before .before .before .before .before .before .before .before .before .args .d) n (noted (now (c .before .before .before .before .before .before .before .before .before .before .before .before .before .before .before .before .before .before .before .args .notes)) (c .before .before .before .before .before .before .before .before .before .before .before .before .before .before .before .before .before .before .before .args .tally .wires)) (now (c .before .before .before .before .before .before .before .before .before .before .before .before .before .before .before .before .before .before .before .args .ops))) (c .before .before .before .before .before .before .before .before .before .before .before .before .less .ensures) in
-    frame-added (c .before .before .before .before .before .before .before .before .before .before .before .before .before .before .before .first-broken .result) (c .before .before .before .before .before .before .before .before .before .before .before .before .before .before .before .first-broken .ensures) none m e (c .before .before .before .before .before .before .before .before .before .if2 .left) (omega (arith, c .before .before .before .before .before .before .before .before .before .before .before .before .before .before .before .before .before .before .before .pre .0 .1, c .before .before .before .before .before .before .before .before .if3 .left)) (c .latency-after .result) (c .latency-after .ensures)
-    (c .before .before .before .before .before .before .write .last .0) (c .before .before .before .before .before .before .write .ensures)
+    let none = c .before .before .before .before .before .before .before .before .before .before .before .before .before .before .before .if1 .left in
+    let m = c .before .before .before .before .before .before .before .before .before .before .before .before .made-by .result in
+    let e = c .before .before .before .before .before .before .before .before .before .before .before .before .made-by .ensures .0 ∙ ap (λ n. madeFrame (c .before .before .before .before .before .before .before .before .before .before .before .before .before .before .before .before .before .before .before .before .before .args .frame) (c .before .before .before .before .before .before .before .before .before .before .before .before .before .before .before .before .before .before .before .before .before .args .d) n (noted (now (c .before .before .before .before .before .before .before .before .before .before .before .before .before .before .before .before .before .before .before .before .before .args .notes)) (c .before .before .before .before .before .before .before .before .before .before .before .before .before .before .before .before .before .before .before .before .before .args .tally .wires)) (now (c .before .before .before .before .before .before .before .before .before .before .before .before .before .before .before .before .before .before .before .before .before .args .ops))) (c .before .before .before .before .before .before .before .before .before .before .before .before .before .before .less .ensures) in
+    frame-added (c .before .before .before .before .before .before .before .before .before .before .before .before .before .before .before .before .before .first-broken .result) (c .before .before .before .before .before .before .before .before .before .before .before .before .before .before .before .before .before .first-broken .ensures) none m e (c .before .before .before .before .before .before .before .before .before .before .before .if2 .left) (omega (arith, c .before .before .before .before .before .before .before .before .before .before .before .before .before .before .before .before .before .before .before .before .before .pre .0 .1, c .before .before .before .before .before .before .before .before .before .before .if3 .left)) (c .before .before .latency-after .result) (c .before .before .latency-after .ensures)
+    (c .before .before .before .before .before .before .before .before .write .last .0) (c .before .before .before .before .before .before .before .before .write .ensures)
 
 pub add-spec : {M : Type 1} → statement M
 add-spec =
@@ -98,5 +101,6 @@ add-spec =
     add-t23
     add-t24
     latency-after-requires
+    add-t26
     same-length-4
     returns-4)
