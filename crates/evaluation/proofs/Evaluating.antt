@@ -44,7 +44,7 @@ same-lists (x ∷ xs) [] e h = absurd (omega arith)
 same-lists (x ∷ xs) (y ∷ ys) e h = ap₂ (λ a b. a ∷ b) (h 0 (omega arith)) (same-lists xs ys (omega arith) (λ n l. h (suc n) (omega arith)))
 
 -- as many values as wires
-values-length : (sh t before : List Bool) (ws : List Wire) → length (valuesFrom sh t before ws) ≡ length before + length ws
+pub values-length : (sh t before : List Bool) (ws : List Wire) → length (valuesFrom sh t before ws) ≡ length before + length ws
 values-length sh t before [] = omega arith
 values-length sh t before (w ∷ ws) = values-length sh _ (before ++ (value (w .gate) (at before) sh t ∷ [])) ws ∙ omega (arith, length-append before (value (w .gate) (at before) sh t ∷ []))
 

@@ -13,6 +13,7 @@ use Rattle.circuit.specs.Kinds.{Kind, HEAD, IN, CON, XOR, NOT, REG, AND, REF, O
 use Rattle.circuit.specs.Circuit.{Circuit, size, isSet, place, stageShown, newStage, made, extend}
 use Rattle.circuit.specs.Composition.{Frame, Fits, fit-IN, fit-CON, fit-XOR, fit-NOT, fit-REG, fit-AND, fit-REF, fit-OUT, build}
 use Rattle.circuit.proofs.Base.{no-flip, AllFrom}
+use Rattle.circuit.proofs.Building.{size-extend}
 use Rattle.circuit.proofs.Judging.{named-made}
 use Rattle.circuit.proofs.Numbered.{all-at, get-all}
 use Rattle.circuit.proofs.Sizes.{made-size}
@@ -36,6 +37,23 @@ inputs-more k (f ∷ fs) = omega (arith, inputs-more (extend k (f .ops) (f .kind
 pub randoms-more : (k : Circuit) (fs : List Frame) → k .randoms ≤ build k fs .randoms
 randoms-more k [] = omega arith
 randoms-more k (f ∷ fs) = omega (arith, randoms-more (extend k (f .ops) (f .kind)) fs)
+
+-- each IN makes a wire for each share
+brings-most : (d : ℕ) (kind : Kind) → d * shape d kind .brings ≤ shape d kind .makes
+unfolding shape
+brings-most d HEAD = omega arith
+brings-most d IN = omega arith
+brings-most d CON = omega arith
+brings-most d XOR = omega arith
+brings-most d NOT = omega arith
+brings-most d REG = omega arith
+brings-most d AND = omega arith
+brings-most d REF = omega arith
+brings-most d OUT = omega arith
+
+pub inputs-few : (k : Circuit) (fs : List Frame) → k .inputs * k .d ≤ size k → build k fs .inputs * build k fs .d ≤ size (build k fs)
+inputs-few k [] h = h
+inputs-few k (f ∷ fs) h = inputs-few (extend k (f .ops) (f .kind)) fs (omega (arith, brings-most (k .d) (f .kind), size-extend k (f .ops) (f .kind)))
 
 -- a frame makes as many wires as its kind
 pub makes-same : (d : ℕ) (ops : List ℕ) (kind : Kind) → frameMakes (frameCode (kindCode kind) ops) d ≡ shape d kind .makes

@@ -27,3 +27,7 @@ pub mod Moved
 pub mod Marking
 pub mod Highest
 pub mod Settling
+-- The calls
+pub mod Refusals
+pub mod Answering
+pub mod Showing

@@ -8,7 +8,7 @@ use Rattle.circuit.specs.Lists.{nth}
 use Rattle.evaluation.specs.Marks.{markAll, shownAt, shownFrom}
 use lib.Seq.{sets, drop-cons}
 
-drop-turn : (xs : List ℕ) (i : ℕ) → i < length xs → drop i xs ≡ nth xs i ∷ drop (i + 1) xs
+pub drop-turn : (xs : List ℕ) (i : ℕ) → i < length xs → drop i xs ≡ nth xs i ∷ drop (i + 1) xs
 drop-turn xs i h = let e : suc i ≡ i + 1 = omega arith in drop-cons xs i 0 h ∙ ap (λ n. nth xs i ∷ drop n xs) e
 
 pub mark-turn : (marks xs : List ℕ) (i : ℕ) → i < length xs → markAll marks (drop i xs) ≡ markAll (set marks (nth xs i) 1) (drop (i + 1) xs)

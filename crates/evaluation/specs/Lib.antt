@@ -6,3 +6,5 @@ pub mod Gadgets
 pub mod Evaluating
 pub mod Marks
 pub mod Walking
+pub mod Refusing
+pub mod Calling

@@ -126,15 +126,7 @@ pub(crate) fn and(values: &mut [u8], first: usize, d: usize, ops: &[u16], tape: 
 }
 
 // The sum of a bit and REF's random bits of the share i and each from one to another.
-fn add_masks(
-    values: &[u8],
-    first: usize,
-    d: usize,
-    i: usize,
-    bit: u8,
-    from: usize,
-    to: usize,
-) -> u8
+fn add_masks(values: &[u8], first: usize, d: usize, i: usize, bit: u8, from: usize, to: usize) -> u8
     requires { ⌜ Small first d × (i < d) × (to ≤ d) × (first + pairs d ≤ length (now values)) × ((j : ℕ) → from ≤ j → j < to → j ≡ i → ⊥) × (from ≤ to) ⌝ }
     ensures { λ s. ⌜ Sums d first i bit from to (now (values .entry)) s ⌝ }
 {

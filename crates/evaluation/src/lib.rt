@@ -1,6 +1,154 @@
 // Evaluates accepted circuits, and reads what probes on their wires show.
+ghost use mathlib.Core.Path.{_≡_};
+ghost use mathlib.Core.List.{[], _∷_};
+ghost use Prim.Native.Nat.{_≤_, min};
+ghost use lib.ListN.{length};
+ghost use Rattle.circuit.specs.Answer.{refused as refusedAnswer};
+ghost use Rattle.checker.specs.Said.{said};
+ghost use Rattle.netlist.specs.Calls.{Accepts, circuitOf, written, callRule, callAnswer, callNotes, valueBytes, readingBytes};
+ghost use Rattle.netlist.specs.Values.{bits, valuesOf};
+ghost use Rattle.netlist.specs.Counts.{EqualCounts};
+ghost use Rattle.secrecy.specs.Gadgets.{Computes};
+ghost use Rattle.evaluation.specs.Calling.{Judged};
+use checker::Verdict;
+
 mod gadget;
 mod places;
 mod reach;
 mod readings;
+mod rules;
 mod values;
+
+// A refusal of the call, at a word.
+fn refusal(rule: usize, word: usize) -> Verdict
+    ensures { λ r. ⌜ said r ≡ refusedAnswer rule 0 word ⌝ }
+{
+    Verdict::Refused {
+        rule: rule,
+        frame: 0,
+        word: word,
+    }
+}
+
+// A call judged: by the checker, then by rules 15 to 19, the shortest sheet having so many bytes.
+fn judge(
+    table: &[u16],
+    notes: &mut [u16],
+    shares: &[u8],
+    tape: &[u8],
+    probes: &[u16],
+    room: usize,
+) -> Verdict
+    ensures { λ r. ⌜ Judged (now (table .entry)) (now (notes .entry)) (now (shares .entry)) (now (tape .entry)) (now (probes .entry)) room (now (notes .exit)) r ⌝ }
+{
+    let verdict = checker::check(table, notes);
+    let Verdict::Accepted {
+        wires,
+        randoms,
+        latency: _,
+        inputs,
+    } = verdict
+    else {
+        return verdict;
+    };
+    if shares.len() != inputs * table[1] as usize {
+        return refusal(15, 0);
+    }
+    if tape.len() != randoms {
+        return refusal(16, 0);
+    }
+    if room < 8192 {
+        return refusal(17, 0);
+    }
+    let share = rules::first_over(shares);
+    if share < shares.len() {
+        return refusal(18, share);
+    }
+    let drawn = rules::first_over(tape);
+    if drawn < tape.len() {
+        return refusal(18, shares.len() + drawn);
+    }
+    let probe = rules::first_missing(probes, wires);
+    if probe < probes.len() {
+        return refusal(19, probe);
+    }
+    verdict
+}
+
+// Writes the value of each wire of an accepted circuit, from its shares and its tape. A refusal leaves the values as found.
+pub fn evaluate(
+    table: &[u16],
+    notes: &mut [u16],
+    shares: &[u8],
+    tape: &[u8],
+    values: &mut [u8],
+) -> Verdict
+    ensures answered { λ r. ⌜ said r ≡ callAnswer (now (table .entry)) (now (notes .entry)) (now (shares .entry)) (now (tape .entry)) (now (values .entry) ∷ []) [] ⌝ }
+    ensures noted { λ _. ⌜ now (notes .exit) ≡ callNotes (now (table .entry)) (now (notes .entry)) (now (shares .entry)) (now (tape .entry)) ⌝ }
+    ensures valued { λ _. ⌜ now (values .exit) ≡ written (callRule (now (table .entry)) (now (notes .entry)) (now (shares .entry)) (now (tape .entry)) (now (values .entry) ∷ []) [])
+        (valueBytes (now (table .entry)) (now (notes .entry)) (now (shares .entry)) (now (tape .entry))) (now (values .entry)) ⌝ }
+    ensures computes { λ _. ⌜ (Accepts (now (table .entry)) (now (notes .entry))
+        → Computes (now (table .entry)) (valuesOf (circuitOf (now (table .entry)) (now (notes .entry)) .wires) (bits (now (shares .entry))) (bits (now (tape .entry))))) ⌝ }
+{
+    let room = values.len();
+    let none = &table[0..0];
+    let verdict = judge(table, notes, shares, tape, none, room);
+    let Verdict::Accepted {
+        wires: _,
+        randoms: _,
+        latency: _,
+        inputs: _,
+    } = verdict
+    else {
+        return verdict;
+    };
+    values::fill(table, shares, tape, values);
+    verdict
+}
+
+// The smaller of two numbers.
+fn smaller(one: usize, other: usize) -> usize
+    ensures { λ r. ⌜ r ≡ min one other ⌝ }
+{
+    if one <= other { one } else { other }
+}
+
+// Writes the value of each wire of an accepted circuit, and what the probes read. A refusal leaves both sheets as found.
+pub fn read_probes(
+    table: &[u16],
+    notes: &mut [u16],
+    shares: &[u8],
+    tape: &[u8],
+    values: &mut [u8],
+    probes: &[u16],
+    reading: &mut [u8],
+) -> Verdict
+    ensures answered { λ r. ⌜ said r ≡ callAnswer (now (table .entry)) (now (notes .entry)) (now (shares .entry)) (now (tape .entry)) (now (values .entry) ∷ now (reading .entry) ∷ []) (now (probes .entry)) ⌝ }
+    ensures noted { λ _. ⌜ now (notes .exit) ≡ callNotes (now (table .entry)) (now (notes .entry)) (now (shares .entry)) (now (tape .entry)) ⌝ }
+    ensures valued { λ _. ⌜ now (values .exit) ≡ written (callRule (now (table .entry)) (now (notes .entry)) (now (shares .entry)) (now (tape .entry)) (now (values .entry) ∷ now (reading .entry) ∷ []) (now (probes .entry)))
+        (valueBytes (now (table .entry)) (now (notes .entry)) (now (shares .entry)) (now (tape .entry))) (now (values .entry)) ⌝ }
+    ensures shown { λ _. ⌜ now (reading .exit) ≡ written (callRule (now (table .entry)) (now (notes .entry)) (now (shares .entry)) (now (tape .entry)) (now (values .entry) ∷ now (reading .entry) ∷ []) (now (probes .entry)))
+        (readingBytes (now (table .entry)) (now (notes .entry)) (now (shares .entry)) (now (tape .entry)) (now (probes .entry))) (now (reading .entry)) ⌝ }
+    ensures secret { λ _. ⌜ (Accepts (now (table .entry)) (now (notes .entry))
+        → EqualCounts (circuitOf (now (table .entry)) (now (notes .entry))) (now (probes .entry))) ⌝ }
+{
+    let room = smaller(values.len(), reading.len());
+    let verdict = judge(table, notes, shares, tape, probes, room);
+    let Verdict::Accepted {
+        wires,
+        randoms: _,
+        latency: _,
+        inputs: _,
+    } = verdict
+    else {
+        return verdict;
+    };
+    values::fill(table, shares, tape, values);
+    let mut starts = [0u16; 4096];
+    let mut marks = [0u8; 8192];
+    let frames = readings::list(table, &mut starts);
+    readings::mark(&mut marks, probes);
+    readings::settle(table, &starts, frames, wires, &mut marks);
+    readings::show(&marks, values, reading);
+    verdict
+}

@@ -78,15 +78,7 @@ fn pass_cell(marks: &mut [u8], at: usize, a: usize, b: usize, r: usize)
 }
 
 // The same of the share i and each from one to another.
-fn pass_row(
-    marks: &mut [u8],
-    first: usize,
-    d: usize,
-    i: usize,
-    ops: &[u16],
-    from: usize,
-    to: usize,
-)
+fn pass_row(marks: &mut [u8], first: usize, d: usize, i: usize, ops: &[u16], from: usize, to: usize)
     requires { ⌜ Small first d × (i < d) × (to ≤ d) × Roomy d first (now marks) × ((j : ℕ) → from ≤ j → j < to → j ≡ i → ⊥) × (from ≤ to) × (length (now ops) ≡ 1 + d + d) × Early first d (wordA (now ops)) × Early first d (wordB d (now ops)) ⌝ }
     ensures { λ _. ⌜ Moves (CellsGates d first (wordA (now (ops .entry))) (wordB d (now (ops .entry))) i) (cellAt d first i from) (cellAt d first i to) (now (marks .entry)) (now (marks .exit)) ⌝ }
 {

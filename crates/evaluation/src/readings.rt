@@ -134,13 +134,7 @@ pub(crate) fn list(table: &[u16], starts: &mut [u16]) -> usize
 }
 
 // The marks moved on from the last frame to the first.
-pub(crate) fn settle(
-    table: &[u16],
-    starts: &[u16],
-    count: usize,
-    wires: usize,
-    marks: &mut [u8],
-)
+pub(crate) fn settle(table: &[u16], starts: &[u16], count: usize, wires: usize, marks: &mut [u8])
     requires { ⌜ Lists (now table) (now starts) count × (count ≤ length (now starts)) × Markable (now table) wires (now marks) ⌝ }
     ensures { λ _. ⌜ Settles (now (table .entry)) wires (now (marks .entry)) (now (marks .exit)) ⌝ }
 {

@@ -45,11 +45,14 @@ loop-again c =
     let j = c .before .before .before .loop .j in
     let p = a .first + c .before .pair-site .result in
     let ep : p ≡ maskAt (a .d) (a .first) (a .i) j = omega (arith, c .before .pair-site .ensures .0) in
-    let lt = pair-lt (c .before .before .before .before .before .args .d) (c .before .before .before .before .before .args .i) (c .before .before .before .loop .j) (c .before .before .before .before .before .pre .1) (omega (arith, c .before .before .loop-test .taken, c .before .before .before .before .before .pre .2)) (c .before .before .before .before .before .pre .4 (c .before .before .before .loop .j) (c .before .before .before .loop .inv .0) (c .before .before .loop-test .taken)) in
-    (omega (arith, c .before .before .before .loop .inv .0, c .before .before .before .loop .inv .1, c .before .before .loop-test .taken, c .before .before .before .before .before .pre .0 .0, c .before .before .before .before .before .pre .0 .1, c .before .before .before .before .before .pre .0 .2, c .before .before .before .before .before .pre .1, c .before .before .before .before .before .pre .2, c .before .before .before .before .before .pre .3, c .before .pair-site .ensures .0, c .before .pair-site .ensures .1), omega (arith, c .before .before .before .loop .inv .0, c .before .before .before .loop .inv .1, c .before .before .loop-test .taken, c .before .before .before .before .before .pre .0 .0, c .before .before .before .before .before .pre .0 .1, c .before .before .before .before .before .pre .0 .2, c .before .before .before .before .before .pre .1, c .before .before .before .before .before .pre .2, c .before .before .before .before .before .pre .3, c .before .pair-site .ensures .0, c .before .pair-site .ensures .1), λ x q v k.
-    let f : ℕ → Bool = λ m. v (maskAt (a .d) (a .first) (a .i) m) in
-    adds-turn (nth (a .values .now) p) (f j) (total (range (j + 1) (a .to - (j + 1))) f) (c .before .before .before .loop .inv .2 x q v k) (total-turn f (a .to) j (c .before .before .loop-test .taken))
-    (k p (omega arith) (omega (arith, ep, lt)) ∙ ap (λ n. byte (v n)) ep))
+    let lt = pair-lt (c .before .before .before .before .before .args .d) (c .before .before .before .before .before .args .i) (c .before .before .before .loop .j) (c .before .before .before .before .before .pre .1) (omega (arith, c .before .before .loop-test .taken, c .before .before .before .before .before .pre .2)) (c .before .before .before .before .before .pre .4 (c .before .before .before .loop .j) (c .before .before .before .loop .inv .0) (c .before .before .loop-test .taken)) in (
+      omega (arith, c .before .before .before .loop .inv .0, c .before .before .before .loop .inv .1, c .before .before .loop-test .taken, c .before .before .before .before .before .pre .0 .0, c .before .before .before .before .before .pre .0 .1, c .before .before .before .before .before .pre .0 .2, c .before .before .before .before .before .pre .1, c .before .before .before .before .before .pre .2, c .before .before .before .before .before .pre .3, c .before .pair-site .ensures .0, c .before .pair-site .ensures .1),
+      omega (arith, c .before .before .before .loop .inv .0, c .before .before .before .loop .inv .1, c .before .before .loop-test .taken, c .before .before .before .before .before .pre .0 .0, c .before .before .before .before .before .pre .0 .1, c .before .before .before .before .before .pre .0 .2, c .before .before .before .before .before .pre .1, c .before .before .before .before .before .pre .2, c .before .before .before .before .before .pre .3, c .before .pair-site .ensures .0, c .before .pair-site .ensures .1),
+      λ x q v k.
+          let f : ℕ → Bool = λ m. v (maskAt (a .d) (a .first) (a .i) m) in
+          adds-turn (nth (a .values .now) p) (f j) (total (range (j + 1) (a .to - (j + 1))) f) (c .before .before .before .loop .inv .2 x q v k) (total-turn f (a .to) j (c .before .before .loop-test .taken))
+          (k p (omega arith) (omega (arith, ep, lt)) ∙ ap (λ n. byte (v n)) ep),
+    )
 
 returns : tie.Need-returns Inv-loop μ-loop
 returns c =

@@ -42,10 +42,11 @@ loop-less c = omega (arith, c .before .before .loop .inv .0, c .before .loop-tes
 loop-again : tie.Need-loop-again Inv-loop μ-loop
 loop-again c =
     let a = c .before .before .before .args in
-    let q = c .before .before .loop .q in
-    (omega (arith, c .before .before .loop .inv .0, c .before .loop-test .taken, c .before .before .before .pre .0, c .before .before .before .pre .1, c .before .before .loop .inv .1 .size, c .before .before .before .good .0 .0, c .before .before .before .good .1 .1 .0 .0),
-    fills-at refl (omega arith) (fills-set (nth (a .sheet .now) (a .from + q)) (c .before .before .loop .inv .1) (omega arith) (omega (arith, c .before .before .loop .inv .0, c .before .loop-test .taken, c .before .before .before .pre .0, c .before .before .before .pre .1, c .before .before .loop .inv .1 .size, c .before .before .before .good .0 .0, c .before .before .before .good .1 .1 .0 .0))
-    (λ v e k. set-byte (nth (a .sheet .now) (a .from + q)) (c .before .before .before .pre .2 (a .from + q)) ∙ ap byte (sym (e q (c .before .loop-test .taken))))))
+    let q = c .before .before .loop .q in (
+      omega (arith, c .before .before .loop .inv .0, c .before .loop-test .taken, c .before .before .before .pre .0, c .before .before .before .pre .1, c .before .before .loop .inv .1 .size, c .before .before .before .good .0 .0, c .before .before .before .good .1 .1 .0 .0),
+      fills-at refl (omega arith) (fills-set (nth (a .sheet .now) (a .from + q)) (c .before .before .loop .inv .1) (omega arith) (omega (arith, c .before .before .loop .inv .0, c .before .loop-test .taken, c .before .before .before .pre .0, c .before .before .before .pre .1, c .before .before .loop .inv .1 .size, c .before .before .before .good .0 .0, c .before .before .before .good .1 .1 .0 .0))
+          (λ v e k. set-byte (nth (a .sheet .now) (a .from + q)) (c .before .before .before .pre .2 (a .from + q)) ∙ ap byte (sym (e q (c .before .loop-test .taken))))),
+    )
 
 same-length : tie.Need-same-length Inv-loop μ-loop
 same-length c = c .before .loop .inv .1 .size

@@ -60,10 +60,11 @@ loop-again c =
     let a = c .before .before .before .args in
     let q = c .before .before .loop .q in
     let bit = nth (a .tape .now) (a .used + q) in
-    let is : bit ≡ byte (isSet bit) = set-byte bit (c .before .before .before .pre .2 (a .used + q)) in
-    (omega (arith, c .before .before .loop .inv .0, c .before .loop-test .taken, c .before .before .before .pre .0, c .before .before .before .pre .1, c .before .before .loop .inv .1 .size, c .before .before .before .good .0 .0, c .before .before .before .good .1 .1 .0 .0),
-    fills-at refl (omega arith) (fills-set bit (fills-set bit (c .before .before .loop .inv .1) (omega arith) (omega (arith, c .before .before .loop .inv .0, c .before .loop-test .taken, c .before .before .before .pre .0, c .before .before .before .pre .1, c .before .before .loop .inv .1 .size, c .before .before .before .good .0 .0, c .before .before .before .good .1 .1 .0 .0)) (λ v e k. is ∙ ap byte (sym (e q (c .before .loop-test .taken) .0))))
-    (omega arith) (omega (arith, c .before .before .loop .inv .0, c .before .loop-test .taken, c .before .before .before .pre .0, c .before .before .before .pre .1, c .before .before .loop .inv .1 .size, c .before .before .before .good .0 .0, c .before .before .before .good .1 .1 .0 .0)) (λ v e k. is ∙ ap byte (sym (e q (c .before .loop-test .taken) .1)))))
+    let is : bit ≡ byte (isSet bit) = set-byte bit (c .before .before .before .pre .2 (a .used + q)) in (
+      omega (arith, c .before .before .loop .inv .0, c .before .loop-test .taken, c .before .before .before .pre .0, c .before .before .before .pre .1, c .before .before .loop .inv .1 .size, c .before .before .before .good .0 .0, c .before .before .before .good .1 .1 .0 .0),
+      fills-at refl (omega arith) (fills-set bit (fills-set bit (c .before .before .loop .inv .1) (omega arith) (omega (arith, c .before .before .loop .inv .0, c .before .loop-test .taken, c .before .before .before .pre .0, c .before .before .before .pre .1, c .before .before .loop .inv .1 .size, c .before .before .before .good .0 .0, c .before .before .before .good .1 .1 .0 .0)) (λ v e k. is ∙ ap byte (sym (e q (c .before .loop-test .taken) .0))))
+          (omega arith) (omega (arith, c .before .before .loop .inv .0, c .before .loop-test .taken, c .before .before .before .pre .0, c .before .before .before .pre .1, c .before .before .loop .inv .1 .size, c .before .before .before .good .0 .0, c .before .before .before .good .1 .1 .0 .0)) (λ v e k. is ∙ ap byte (sym (e q (c .before .loop-test .taken) .1)))),
+    )
 
 same-length : tie.Need-same-length Inv-loop μ-loop
 same-length c = c .before .loop .inv .1 .size

@@ -56,10 +56,11 @@ loop-again c =
     let start = a .first + c .before .before .before .pairs .result in
     let here : a .first + pairs (a .d) + a .d + i ≡ start + a .d + i = omega (arith, c .before .before .before .pairs .ensures .0) in
     let from : start + i ≡ sumAt (a .d) (a .first) i = omega (arith, c .before .before .before .pairs .ensures .0) in
-    let there : a .first + pairs (a .d) + a .d + (i + 1) ≡ start + a .d + i + 1 = omega (arith, c .before .before .before .pairs .ensures .0) in
-    (omega (arith, c .before .before .loop .inv .0, c .before .loop-test .taken, c .before .before .before .before .before .pre .0 .0, c .before .before .before .before .before .pre .0 .1, c .before .before .before .before .before .pre .0 .2, c .before .before .before .before .before .pre .1, c .before .before .before .pairs .ensures .0, c .before .before .before .pairs .ensures .1, c .before .before .loop .inv .1 .size),
-    fills-at refl (sym there) (fills-set (nth (c .before .before .loop .values) (start + i)) (fills-at refl here (c .before .before .loop .inv .1)) (omega (arith, c .before .before .loop .inv .0, c .before .loop-test .taken, c .before .before .before .before .before .pre .0 .0, c .before .before .before .before .before .pre .0 .1, c .before .before .before .before .before .pre .0 .2, c .before .before .before .before .before .pre .1, c .before .before .before .pairs .ensures .0, c .before .before .before .pairs .ensures .1, c .before .before .loop .inv .1 .size)) (omega (arith, c .before .before .loop .inv .0, c .before .loop-test .taken, c .before .before .before .before .before .pre .0 .0, c .before .before .before .before .before .pre .0 .1, c .before .before .before .before .before .pre .0 .2, c .before .before .before .before .before .pre .1, c .before .before .before .pairs .ensures .0, c .before .before .before .pairs .ensures .1, c .before .before .loop .inv .1 .size))
-    (λ v e k. known-all (c .before .before .loop .inv .1) v e k (start + i) (omega arith) (omega (arith, c .before .before .loop .inv .0, c .before .loop-test .taken, c .before .before .before .before .before .pre .0 .0, c .before .before .before .before .before .pre .0 .1, c .before .before .before .before .before .pre .0 .2, c .before .before .before .before .before .pre .1, c .before .before .before .pairs .ensures .0, c .before .before .before .pairs .ensures .1, c .before .before .loop .inv .1 .size)) ∙ ap (λ n. byte (v n)) from ∙ ap byte (sym (e i (c .before .loop-test .taken))) ∙ ap (λ n. byte (v n)) here)))
+    let there : a .first + pairs (a .d) + a .d + (i + 1) ≡ start + a .d + i + 1 = omega (arith, c .before .before .before .pairs .ensures .0) in (
+      omega (arith, c .before .before .loop .inv .0, c .before .loop-test .taken, c .before .before .before .before .before .pre .0 .0, c .before .before .before .before .before .pre .0 .1, c .before .before .before .before .before .pre .0 .2, c .before .before .before .before .before .pre .1, c .before .before .before .pairs .ensures .0, c .before .before .before .pairs .ensures .1, c .before .before .loop .inv .1 .size),
+      fills-at refl (sym there) (fills-set (nth (c .before .before .loop .values) (start + i)) (fills-at refl here (c .before .before .loop .inv .1)) (omega (arith, c .before .before .loop .inv .0, c .before .loop-test .taken, c .before .before .before .before .before .pre .0 .0, c .before .before .before .before .before .pre .0 .1, c .before .before .before .before .before .pre .0 .2, c .before .before .before .before .before .pre .1, c .before .before .before .pairs .ensures .0, c .before .before .before .pairs .ensures .1, c .before .before .loop .inv .1 .size)) (omega (arith, c .before .before .loop .inv .0, c .before .loop-test .taken, c .before .before .before .before .before .pre .0 .0, c .before .before .before .before .before .pre .0 .1, c .before .before .before .before .before .pre .0 .2, c .before .before .before .before .before .pre .1, c .before .before .before .pairs .ensures .0, c .before .before .before .pairs .ensures .1, c .before .before .loop .inv .1 .size))
+          (λ v e k. known-all (c .before .before .loop .inv .1) v e k (start + i) (omega arith) (omega (arith, c .before .before .loop .inv .0, c .before .loop-test .taken, c .before .before .before .before .before .pre .0 .0, c .before .before .before .before .before .pre .0 .1, c .before .before .before .before .before .pre .0 .2, c .before .before .before .before .before .pre .1, c .before .before .before .pairs .ensures .0, c .before .before .before .pairs .ensures .1, c .before .before .loop .inv .1 .size)) ∙ ap (λ n. byte (v n)) from ∙ ap byte (sym (e i (c .before .loop-test .taken))) ∙ ap (λ n. byte (v n)) here)),
+    )
 
 same-length : tie.Need-same-length Inv-loop μ-loop
 same-length c = c .before .loop .inv .1 .size

@@ -70,9 +70,11 @@ loop-again c =
     let a = c .before .before .before .before .before .before .before .before .before .before .before .args in
     let i = c .before .before .before .before .before .before .before .loop .i in
     let l = c .before .before .before .before .before .before .loop-test .taken in
-    let here : a .first + pairs (a .d) + i ≡ a .first + c .before .before .before .before .before .before .before .before .pairs .result + i = omega (arith, c .before .before .before .before .before .before .before .before .pairs .ensures .0) in
-    (omega (arith, c .before .before .before .before .before .before .before .loop .inv .0, c .before .before .before .before .before .before .loop-test .taken, c .before .before .before .before .before .before .before .before .before .before .before .pre .0 .0, c .before .before .before .before .before .before .before .before .before .before .before .pre .0 .1, c .before .before .before .before .before .before .before .before .before .before .before .pre .0 .2, c .before .before .before .before .before .before .before .before .before .before .before .pre .1, c .before .before .before .before .before .before .before .before .before .before .before .pre .3, c .before .before .before .before .before .before .before .before .pairs .ensures .0, c .before .before .before .before .before .before .before .before .pairs .ensures .1, c .before .before .before .before .before .before .before .loop .inv .1 .size, c .before .before .before .before .before .before .before .before .before .before .before .pre .2 (c .before .before .before .before .before .before .before .loop .i) (c .before .before .before .before .before .before .loop-test .taken)), subst (λ (n : ℕ). Fills (Masked (a .d) (a .first) (wordA (a .ops .now))) (a .first + pairs (a .d)) (a .first + pairs (a .d) + (i + 1)) (a .values .now) (set (c .before .before .before .before .before .before .before .loop .values) n (c .add-masks2 .result))) here
-    (masked-turn (a .d) (a .first) (wordA (a .ops .now)) (a .values .now) (c .before .before .before .before .before .before .before .loop .values) i l (omega (arith, c .before .before .before .before .before .before .before .loop .inv .0, c .before .before .before .before .before .before .loop-test .taken, c .before .before .before .before .before .before .before .before .before .before .before .pre .0 .0, c .before .before .before .before .before .before .before .before .before .before .before .pre .0 .1, c .before .before .before .before .before .before .before .before .before .before .before .pre .0 .2, c .before .before .before .before .before .before .before .before .before .before .before .pre .1, c .before .before .before .before .before .before .before .before .before .before .before .pre .3, c .before .before .before .before .before .before .before .before .pairs .ensures .0, c .before .before .before .before .before .before .before .before .pairs .ensures .1, c .before .before .before .before .before .before .before .loop .inv .1 .size, c .before .before .before .before .before .before .before .before .before .before .before .pre .2 (c .before .before .before .before .before .before .before .loop .i) (c .before .before .before .before .before .before .loop-test .taken))) (c .before .before .before .before .before .before .before .before .before .before .before .pre .2 i l) (c .before .before .before .before .before .before .before .loop .inv .1) (c .before .before .add-masks .result) (c .add-masks2 .result) (c .before .before .add-masks .ensures) (c .add-masks2 .ensures)))
+    let here : a .first + pairs (a .d) + i ≡ a .first + c .before .before .before .before .before .before .before .before .pairs .result + i = omega (arith, c .before .before .before .before .before .before .before .before .pairs .ensures .0) in (
+      omega (arith, c .before .before .before .before .before .before .before .loop .inv .0, c .before .before .before .before .before .before .loop-test .taken, c .before .before .before .before .before .before .before .before .before .before .before .pre .0 .0, c .before .before .before .before .before .before .before .before .before .before .before .pre .0 .1, c .before .before .before .before .before .before .before .before .before .before .before .pre .0 .2, c .before .before .before .before .before .before .before .before .before .before .before .pre .1, c .before .before .before .before .before .before .before .before .before .before .before .pre .3, c .before .before .before .before .before .before .before .before .pairs .ensures .0, c .before .before .before .before .before .before .before .before .pairs .ensures .1, c .before .before .before .before .before .before .before .loop .inv .1 .size, c .before .before .before .before .before .before .before .before .before .before .before .pre .2 (c .before .before .before .before .before .before .before .loop .i) (c .before .before .before .before .before .before .loop-test .taken)),
+      subst (λ (n : ℕ). Fills (Masked (a .d) (a .first) (wordA (a .ops .now))) (a .first + pairs (a .d)) (a .first + pairs (a .d) + (i + 1)) (a .values .now) (set (c .before .before .before .before .before .before .before .loop .values) n (c .add-masks2 .result))) here
+          (masked-turn (a .d) (a .first) (wordA (a .ops .now)) (a .values .now) (c .before .before .before .before .before .before .before .loop .values) i l (omega (arith, c .before .before .before .before .before .before .before .loop .inv .0, c .before .before .before .before .before .before .loop-test .taken, c .before .before .before .before .before .before .before .before .before .before .before .pre .0 .0, c .before .before .before .before .before .before .before .before .before .before .before .pre .0 .1, c .before .before .before .before .before .before .before .before .before .before .before .pre .0 .2, c .before .before .before .before .before .before .before .before .before .before .before .pre .1, c .before .before .before .before .before .before .before .before .before .before .before .pre .3, c .before .before .before .before .before .before .before .before .pairs .ensures .0, c .before .before .before .before .before .before .before .before .pairs .ensures .1, c .before .before .before .before .before .before .before .loop .inv .1 .size, c .before .before .before .before .before .before .before .before .before .before .before .pre .2 (c .before .before .before .before .before .before .before .loop .i) (c .before .before .before .before .before .before .loop-test .taken))) (c .before .before .before .before .before .before .before .before .before .before .before .pre .2 i l) (c .before .before .before .before .before .before .before .loop .inv .1) (c .before .before .add-masks .result) (c .add-masks2 .result) (c .before .before .add-masks .ensures) (c .add-masks2 .ensures)),
+    )
 
 same-length : tie.Need-same-length Inv-loop μ-loop
 same-length c = c .before .loop .inv .1 .size

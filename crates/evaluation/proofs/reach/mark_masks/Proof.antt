@@ -42,9 +42,13 @@ loop-again : tie.Need-loop-again Inv-loop μ-loop
 loop-again c =
     let a = c .before .before .before .before .args in
     let l = c .before .before .loop in
-    let p : a .first + c .pair-site .result ≡ maskAt (a .d) (a .first) (a .i) (l .j) = omega (arith, c .pair-site .ensures .0) in
-    (omega (arith, c .before .before .loop .inv .0, c .before .before .loop .inv .1, c .before .before .loop .inv .3, c .before .loop-test .taken, c .before .before .before .before .pre .0 .0, c .before .before .before .before .pre .0 .1, c .before .before .before .before .pre .0 .2, c .before .before .before .before .pre .1, c .before .before .before .before .pre .2, c .before .before .before .before .pre .3, c .pair-site .ensures .0, c .pair-site .ensures .1), omega (arith, c .before .before .loop .inv .0, c .before .before .loop .inv .1, c .before .before .loop .inv .3, c .before .loop-test .taken, c .before .before .before .before .pre .0 .0, c .before .before .before .before .pre .0 .1, c .before .before .before .before .pre .0 .2, c .before .before .before .before .pre .1, c .before .before .before .before .pre .2, c .before .before .before .before .pre .3, c .pair-site .ensures .0, c .pair-site .ensures .1), ap (λ n. markAll (set (l .marks) n 1) (map (maskAt (a .d) (a .first) (a .i)) (range (l .j + 1) (a .to - (l .j + 1))))) p
-    ∙ sym (ap (markAll (l .marks)) (masks-turn (maskAt (a .d) (a .first) (a .i)) (a .to) (l .j) (c .before .loop-test .taken))) ∙ l .inv .2, length-set (l .marks) (a .first + c .pair-site .result) 1 ∙ l .inv .3)
+    let p : a .first + c .pair-site .result ≡ maskAt (a .d) (a .first) (a .i) (l .j) = omega (arith, c .pair-site .ensures .0) in (
+      omega (arith, c .before .before .loop .inv .0, c .before .before .loop .inv .1, c .before .before .loop .inv .3, c .before .loop-test .taken, c .before .before .before .before .pre .0 .0, c .before .before .before .before .pre .0 .1, c .before .before .before .before .pre .0 .2, c .before .before .before .before .pre .1, c .before .before .before .before .pre .2, c .before .before .before .before .pre .3, c .pair-site .ensures .0, c .pair-site .ensures .1),
+      omega (arith, c .before .before .loop .inv .0, c .before .before .loop .inv .1, c .before .before .loop .inv .3, c .before .loop-test .taken, c .before .before .before .before .pre .0 .0, c .before .before .before .before .pre .0 .1, c .before .before .before .before .pre .0 .2, c .before .before .before .before .pre .1, c .before .before .before .before .pre .2, c .before .before .before .before .pre .3, c .pair-site .ensures .0, c .pair-site .ensures .1),
+      ap (λ n. markAll (set (l .marks) n 1) (map (maskAt (a .d) (a .first) (a .i)) (range (l .j + 1) (a .to - (l .j + 1))))) p
+          ∙ sym (ap (markAll (l .marks)) (masks-turn (maskAt (a .d) (a .first) (a .i)) (a .to) (l .j) (c .before .loop-test .taken))) ∙ l .inv .2,
+      length-set (l .marks) (a .first + c .pair-site .result) 1 ∙ l .inv .3,
+    )
 
 same-length : tie.Need-same-length Inv-loop μ-loop
 same-length c = c .before .loop .inv .3

@@ -70,9 +70,11 @@ loop-again c =
     let l = c .before .before .before .before .before .before .loop in
     let i = l .i - 1 in
     let x = ownAt (a .d) (a .first) i in
-    let lt : i < a .d = omega (arith, c .before .before .before .before .before .before .before .before .before .pre .0 .0, c .before .before .before .before .before .before .before .before .before .pre .0 .1, c .before .before .before .before .before .before .before .before .before .pre .0 .2, c .before .before .before .before .before .before .before .before .before .pre .1, c .before .before .before .before .before .before .before .before .before .pre .2, c .before .before .before .before .before .before .loop .inv .0, c .before .before .before .before .before .before .loop .inv .1 .size, c .before .before .before .before .before .loop-test .taken, eights (c .before .before .before .before .before .before .before .before .before .args .d) (c .before .before .before .before .before .before .before .before .before .args .d - 1) (omega (arith, c .before .before .before .before .before .before .before .before .before .pre .0 .2)) (omega (arith, c .before .before .before .before .before .before .before .before .before .pre .0 .2))) in
-    (omega (arith, c .before .before .before .before .before .before .before .before .before .pre .0 .0, c .before .before .before .before .before .before .before .before .before .pre .0 .1, c .before .before .before .before .before .before .before .before .before .pre .0 .2, c .before .before .before .before .before .before .before .before .before .pre .1, c .before .before .before .before .before .before .before .before .before .pre .2, c .before .before .before .before .before .before .loop .inv .0, c .before .before .before .before .before .before .loop .inv .1 .size, c .before .before .before .before .before .loop-test .taken, eights (c .before .before .before .before .before .before .before .before .before .args .d) (c .before .before .before .before .before .before .before .before .before .args .d - 1) (omega (arith, c .before .before .before .before .before .before .before .before .before .pre .0 .2)) (omega (arith, c .before .before .before .before .before .before .before .before .before .pre .0 .2))), moves-then (omega (arith, c .before .before .before .before .before .before .before .before .before .pre .0 .0, c .before .before .before .before .before .before .before .before .before .pre .0 .1, c .before .before .before .before .before .before .before .before .before .pre .0 .2, c .before .before .before .before .before .before .before .before .before .pre .1, c .before .before .before .before .before .before .before .before .before .pre .2, c .before .before .before .before .before .before .loop .inv .0, c .before .before .before .before .before .before .loop .inv .1 .size, c .before .before .before .before .before .loop-test .taken, eights (c .before .before .before .before .before .before .before .before .before .args .d) (c .before .before .before .before .before .before .before .before .before .args .d - 1) (omega (arith, c .before .before .before .before .before .before .before .before .before .pre .0 .2)) (omega (arith, c .before .before .before .before .before .before .before .before .before .pre .0 .2)))) (l .inv .1) (moves-at refl (omega (arith, c .before .before .before .before .before .before .before .before .before .pre .0 .0, c .before .before .before .before .before .before .before .before .before .pre .0 .1, c .before .before .before .before .before .before .before .before .before .pre .0 .2, c .before .before .before .before .before .before .before .before .before .pre .1, c .before .before .before .before .before .before .before .before .before .pre .2, c .before .before .before .before .before .before .loop .inv .0, c .before .before .before .before .before .before .loop .inv .1 .size, c .before .before .before .before .before .loop-test .taken, eights (c .before .before .before .before .before .before .before .before .before .args .d) (c .before .before .before .before .before .before .before .before .before .args .d - 1) (omega (arith, c .before .before .before .before .before .before .before .before .before .pre .0 .2)) (omega (arith, c .before .before .before .before .before .before .before .before .before .pre .0 .2)))) (moves-for (λ g h. h i lt)
-    (subst (λ (n : List ℕ). Moves (OwnGates x (wordA (a .ops .now) i) (wordB (a .d) (a .ops .now) i)) x (x + 3) (l .marks) n) (sym (c .before .before .hand-on .ensures)) (own-moved x (wordA (a .ops .now) i) (wordB (a .d) (a .ops .now) i) (l .marks))))))
+    let lt : i < a .d = omega (arith, c .before .before .before .before .before .before .before .before .before .pre .0 .0, c .before .before .before .before .before .before .before .before .before .pre .0 .1, c .before .before .before .before .before .before .before .before .before .pre .0 .2, c .before .before .before .before .before .before .before .before .before .pre .1, c .before .before .before .before .before .before .before .before .before .pre .2, c .before .before .before .before .before .before .loop .inv .0, c .before .before .before .before .before .before .loop .inv .1 .size, c .before .before .before .before .before .loop-test .taken, eights (c .before .before .before .before .before .before .before .before .before .args .d) (c .before .before .before .before .before .before .before .before .before .args .d - 1) (omega (arith, c .before .before .before .before .before .before .before .before .before .pre .0 .2)) (omega (arith, c .before .before .before .before .before .before .before .before .before .pre .0 .2))) in (
+      omega (arith, c .before .before .before .before .before .before .before .before .before .pre .0 .0, c .before .before .before .before .before .before .before .before .before .pre .0 .1, c .before .before .before .before .before .before .before .before .before .pre .0 .2, c .before .before .before .before .before .before .before .before .before .pre .1, c .before .before .before .before .before .before .before .before .before .pre .2, c .before .before .before .before .before .before .loop .inv .0, c .before .before .before .before .before .before .loop .inv .1 .size, c .before .before .before .before .before .loop-test .taken, eights (c .before .before .before .before .before .before .before .before .before .args .d) (c .before .before .before .before .before .before .before .before .before .args .d - 1) (omega (arith, c .before .before .before .before .before .before .before .before .before .pre .0 .2)) (omega (arith, c .before .before .before .before .before .before .before .before .before .pre .0 .2))),
+      moves-then (omega (arith, c .before .before .before .before .before .before .before .before .before .pre .0 .0, c .before .before .before .before .before .before .before .before .before .pre .0 .1, c .before .before .before .before .before .before .before .before .before .pre .0 .2, c .before .before .before .before .before .before .before .before .before .pre .1, c .before .before .before .before .before .before .before .before .before .pre .2, c .before .before .before .before .before .before .loop .inv .0, c .before .before .before .before .before .before .loop .inv .1 .size, c .before .before .before .before .before .loop-test .taken, eights (c .before .before .before .before .before .before .before .before .before .args .d) (c .before .before .before .before .before .before .before .before .before .args .d - 1) (omega (arith, c .before .before .before .before .before .before .before .before .before .pre .0 .2)) (omega (arith, c .before .before .before .before .before .before .before .before .before .pre .0 .2)))) (l .inv .1) (moves-at refl (omega (arith, c .before .before .before .before .before .before .before .before .before .pre .0 .0, c .before .before .before .before .before .before .before .before .before .pre .0 .1, c .before .before .before .before .before .before .before .before .before .pre .0 .2, c .before .before .before .before .before .before .before .before .before .pre .1, c .before .before .before .before .before .before .before .before .before .pre .2, c .before .before .before .before .before .before .loop .inv .0, c .before .before .before .before .before .before .loop .inv .1 .size, c .before .before .before .before .before .loop-test .taken, eights (c .before .before .before .before .before .before .before .before .before .args .d) (c .before .before .before .before .before .before .before .before .before .args .d - 1) (omega (arith, c .before .before .before .before .before .before .before .before .before .pre .0 .2)) (omega (arith, c .before .before .before .before .before .before .before .before .before .pre .0 .2)))) (moves-for (λ g h. h i lt)
+          (subst (λ (n : List ℕ). Moves (OwnGates x (wordA (a .ops .now) i) (wordB (a .d) (a .ops .now) i)) x (x + 3) (l .marks) n) (sym (c .before .before .hand-on .ensures)) (own-moved x (wordA (a .ops .now) i) (wordB (a .d) (a .ops .now) i) (l .marks))))),
+    )
 
 same-length : tie.Need-same-length Inv-loop μ-loop
 same-length c = c .before .loop .inv .1 .size

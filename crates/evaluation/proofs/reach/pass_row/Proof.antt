@@ -90,11 +90,14 @@ loop-again c =
     let j = l .j - 1 in
     let e : l .j ≡ j + 1 = omega (arith, c .before .before .before .before .before .before .before .loop-test .taken) in
     let x : a .first + c .before .before .before .before .before .before .before .before .before .cell-row .result + 6 * c .before .before .before .slot .result ≡ cellAt (a .d) (a .first) (a .i) j = omega (arith, c .before .before .before .before .before .before .before .before .before .cell-row .ensures .0, c .before .before .before .slot .ensures .0) in
-    let r : a .first + 2 * c .before .before .before .before .before .pair-site .result ≡ pairAt (a .d) (a .first) (a .i) j = omega (arith, c .before .before .before .before .before .pair-site .ensures .0) in
-    (omega (arith, c .before .before .before .before .before .before .before .loop-test .taken), omega (arith, l .inv .1), row-moved (a .d) (a .first) (wordA (a .ops .now)) (wordB (a .d) (a .ops .now)) (a .i) j (cellAt (a .d) (a .first) (a .i) (a .to)) (a .marks .now) (l .marks) (c .before .before .pass-cell .last .0) (omega (arith, c .before .before .before .before .before .before .before .before .loop .inv .1, c .before .before .before .before .before .before .before .loop-test .taken, c .before .before .before .before .before .before .before .before .before .before .before .before .before .pre .2)) (c .before .before .before .before .before .before .before .before .before .before .before .before .before .pre .4 (c .before .before .before .before .before .before .before .before .loop .j - 1) (omega (arith, c .before .before .before .before .before .before .before .loop-test .taken)) (omega (arith, c .before .before .before .before .before .before .before .before .loop .inv .1, c .before .before .before .before .before .before .before .loop-test .taken)))
-    (slots-up (a .d) (a .first) (a .i) (j + 1) (a .to) (omega (arith, l .inv .1, c .before .before .before .before .before .before .before .loop-test .taken)))
-    (moves-at (ap (cellAt (a .d) (a .first) (a .i)) e) refl (l .inv .2))
-    (subst₂ (λ p q. Moves (CellGates p (wordA (a .ops .now) (a .i)) (wordB (a .d) (a .ops .now) j) q) p (p + 6) (l .marks) (c .before .before .pass-cell .last .0)) x r (c .before .before .pass-cell .ensures)))
+    let r : a .first + 2 * c .before .before .before .before .before .pair-site .result ≡ pairAt (a .d) (a .first) (a .i) j = omega (arith, c .before .before .before .before .before .pair-site .ensures .0) in (
+      omega (arith, c .before .before .before .before .before .before .before .loop-test .taken),
+      omega (arith, l .inv .1),
+      row-moved (a .d) (a .first) (wordA (a .ops .now)) (wordB (a .d) (a .ops .now)) (a .i) j (cellAt (a .d) (a .first) (a .i) (a .to)) (a .marks .now) (l .marks) (c .before .before .pass-cell .last .0) (omega (arith, c .before .before .before .before .before .before .before .before .loop .inv .1, c .before .before .before .before .before .before .before .loop-test .taken, c .before .before .before .before .before .before .before .before .before .before .before .before .before .pre .2)) (c .before .before .before .before .before .before .before .before .before .before .before .before .before .pre .4 (c .before .before .before .before .before .before .before .before .loop .j - 1) (omega (arith, c .before .before .before .before .before .before .before .loop-test .taken)) (omega (arith, c .before .before .before .before .before .before .before .before .loop .inv .1, c .before .before .before .before .before .before .before .loop-test .taken)))
+          (slots-up (a .d) (a .first) (a .i) (j + 1) (a .to) (omega (arith, l .inv .1, c .before .before .before .before .before .before .before .loop-test .taken)))
+          (moves-at (ap (cellAt (a .d) (a .first) (a .i)) e) refl (l .inv .2))
+          (subst₂ (λ p q. Moves (CellGates p (wordA (a .ops .now) (a .i)) (wordB (a .d) (a .ops .now) j) q) p (p + 6) (l .marks) (c .before .before .pass-cell .last .0)) x r (c .before .before .pass-cell .ensures)),
+    )
 
 same-length : tie.Need-same-length Inv-loop μ-loop
 same-length c = c .before .loop .inv .2 .size

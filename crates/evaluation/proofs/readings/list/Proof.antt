@@ -129,9 +129,12 @@ loop-again c =
     let g = c .before .before .step2 .given in
     let d = nth table 1 in
     let e : stepAt table d (l .walk .at) ≡ Next (g .0 .0) (g .0 .1 .0) (g .0 .1 .1 .0) = subst (λ n. stepAt table n (l .walk .at) ≡ Next (g .0 .0) (g .0 .1 .0) (g .0 .1 .1 .0)) (l .inv .0) (sym (c .before .before .before .before .step .ensures) ∙ g .1) in
-    let t = listed-next (pre .0 .accepted) (l .starts) (l .walk .at) (l .count) (l .inv .2 (pre .0 .room) (pre .0 .accepted)) d (second-word (pre .0 .accepted)) (g .0 .0) (g .0 .1 .0) (g .0 .1 .1 .0) e in
-    (t .same ∙ sym (second-word (pre .0 .accepted)), length-set (l .starts) (l .count) (l .walk .at) ∙ l .inv .1, λ room q.
-    listed-next q (l .starts) (l .walk .at) (l .count) (l .inv .2 room q) d (second-word q) (g .0 .0) (g .0 .1 .0) (g .0 .1 .1 .0) e .next (omega (arith, t .small, l .inv .1, pre .1)))
+    let t = listed-next (pre .0 .accepted) (l .starts) (l .walk .at) (l .count) (l .inv .2 (pre .0 .room) (pre .0 .accepted)) d (second-word (pre .0 .accepted)) (g .0 .0) (g .0 .1 .0) (g .0 .1 .1 .0) e in (
+      t .same ∙ sym (second-word (pre .0 .accepted)),
+      length-set (l .starts) (l .count) (l .walk .at) ∙ l .inv .1,
+      λ room q.
+          listed-next q (l .starts) (l .walk .at) (l .count) (l .inv .2 room q) d (second-word q) (g .0 .0) (g .0 .1 .0) (g .0 .1 .1 .0) e .next (omega (arith, t .small, l .inv .1, pre .1)),
+    )
 
 pub list-spec : {M : Type 1} → statement M
 list-spec =

@@ -136,9 +136,11 @@ pass-frame-requires c κs =
     let g = c .before .before .before .before .step2 .given in
     let e : stepAt table d at ≡ Next (g .0 .0) (g .0 .1 .0) (g .0 .1 .1 .0) = sym (c .before .before .before .before .before .before .step .ensures) ∙ g .1 in
     let t = frame-handed (pre .2 .accepted) (a .marks .now) (l .marks) (l .w) i at (place .0) (place .1) inside so-far d (second-word (pre .2 .accepted)) (g .0 .0) (g .0 .1 .0) (g .0 .1 .1 .0) e in
-    let o : c .before .before .operands .result .now ≡ operandsAt table d at = c .before .before .operands .ensures in
-    (t .small, omega (arith, t .few-made, l .inv .1, pre .2 .roomy),
-    subst (FrameEarly (g .0 .0) d (l .w - g .0 .1 .0 .makes)) (sym o) (t .early))
+    let o : c .before .before .operands .result .now ≡ operandsAt table d at = c .before .before .operands .ensures in (
+      t .small,
+      omega (arith, t .few-made, l .inv .1, pre .2 .roomy),
+      subst (FrameEarly (g .0 .0) d (l .w - g .0 .1 .0 .makes)) (sym o) (t .early),
+    )
 
 loop-less : tie.Need-loop-less Inv-loop μ-loop
 loop-less c = omega (arith, c .before .before .before .before .before .before .before .before .before .before .before .loop-test .taken)
@@ -155,15 +157,18 @@ loop-again c =
     let turn : l .i ≡ i + 1 = omega (arith, c .before .before .before .before .before .before .before .before .before .before .before .loop-test .taken) in
     let g = c .before .before .before .before .before .before .before .step2 .given in
     let e : stepAt table d at ≡ Next (g .0 .0) (g .0 .1 .0) (g .0 .1 .1 .0) = sym (c .before .before .before .before .before .before .before .before .before .step .ensures) ∙ g .1 in
-    let o : c .before .before .before .before .before .operands .result .now ≡ operandsAt table d at = c .before .before .before .before .before .operands .ensures in
-    (omega (arith, l .inv .0), c .before .before .pass-frame .ensures .size ∙ l .inv .1, λ room q h.
-    let st = pre .0 .is (room) (q) in
-    let inside : i < length ((q) .fs) = omega (arith, st .0, l .inv .0, turn) in
-    let place = st .1 i (omega (arith, l .inv .0, turn)) in
-    let so-far = subst (SettledTo (q) (a .marks .now) (l .marks) (l .w)) turn (l .inv .2 (room) (q) (h)) in
-    let t = frame-handed (q) (a .marks .now) (l .marks) (l .w) i at (place .0) (place .1) inside so-far d (second-word (q)) (g .0 .0) (g .0 .1 .0) (g .0 .1 .1 .0) e in
-    t .next (c .before .before .pass-frame .last .0) (settled-size q (l .marks) (omega (arith, l .inv .1, pre .2 .roomy)))
-    (subst (λ (x : List ℕ). Moves (FrameGates (g .0 .0) d (l .w - g .0 .1 .0 .makes) x) (l .w - g .0 .1 .0 .makes) (l .w - g .0 .1 .0 .makes + frameMakes (g .0 .0) d) (l .marks) (c .before .before .pass-frame .last .0)) o (c .before .before .pass-frame .ensures)))
+    let o : c .before .before .before .before .before .operands .result .now ≡ operandsAt table d at = c .before .before .before .before .before .operands .ensures in (
+      omega (arith, l .inv .0),
+      c .before .before .pass-frame .ensures .size ∙ l .inv .1,
+      λ room q h.
+          let st = pre .0 .is (room) (q) in
+          let inside : i < length ((q) .fs) = omega (arith, st .0, l .inv .0, turn) in
+          let place = st .1 i (omega (arith, l .inv .0, turn)) in
+          let so-far = subst (SettledTo (q) (a .marks .now) (l .marks) (l .w)) turn (l .inv .2 (room) (q) (h)) in
+          let t = frame-handed (q) (a .marks .now) (l .marks) (l .w) i at (place .0) (place .1) inside so-far d (second-word (q)) (g .0 .0) (g .0 .1 .0) (g .0 .1 .1 .0) e in
+          t .next (c .before .before .pass-frame .last .0) (settled-size q (l .marks) (omega (arith, l .inv .1, pre .2 .roomy)))
+          (subst (λ (x : List ℕ). Moves (FrameGates (g .0 .0) d (l .w - g .0 .1 .0 .makes) x) (l .w - g .0 .1 .0 .makes) (l .w - g .0 .1 .0 .makes + frameMakes (g .0 .0) d) (l .marks) (c .before .before .pass-frame .last .0)) o (c .before .before .pass-frame .ensures)),
+    )
 
 same-length-3 : tie.Need-same-length-3 Inv-loop μ-loop
 same-length-3 c = c .before .loop .inv .1
@@ -172,8 +177,11 @@ returns-3 : tie.Need-returns-3 Inv-loop μ-loop
 returns-3 c =
     let a = c .before .before .before .before .before .before .args in
     let l = c .before .loop in
-    record { is = λ room q h. subst (λ (k : Circuit). (probes : List ℕ) → ((x : ℕ) → isSet (nth (a .marks .now) x) ≡ mem x probes) → ((x : ℕ) → mem x probes ≡ true → x < length (k .wires))
-    → (x : ℕ) → (isSet (nth (l .marks) x) ≡ mem x (stops (k .wires) probes)) × (isSet (nth (l .marks) x) ≡ true → x < length (k .wires))) (sym (q .circuit-is)) (settled-end q (a .marks .now) (l .marks) (l .w) (l .i) (c .loop-test .left) (l .inv .2 room q h)); kept = l .inv .1 }
+    record {
+      is = λ room q h. subst (λ (k : Circuit). (probes : List ℕ) → ((x : ℕ) → isSet (nth (a .marks .now) x) ≡ mem x probes) → ((x : ℕ) → mem x probes ≡ true → x < length (k .wires))
+          → (x : ℕ) → (isSet (nth (l .marks) x) ≡ mem x (stops (k .wires) probes)) × (isSet (nth (l .marks) x) ≡ true → x < length (k .wires))) (sym (q .circuit-is)) (settled-end q (a .marks .now) (l .marks) (l .w) (l .i) (c .loop-test .left) (l .inv .2 room q h));
+      kept = l .inv .1;
+    }
 
 pub settle-spec : {M : Type 1} → statement M
 settle-spec =

@@ -52,8 +52,10 @@ returns c =
     let pre = c .before .before .before .before .before .before .before .before .before .pre in
     let l = c .before .before .before .loop in
     let table = a .table .now in
-    record { is = λ room q s. all-filled q (a .shares .now) (a .tape .now) s (a .values .now) (l .values) (l .walk .at) (l .ends .wires) (l .ends .shares) (l .ends .randoms) (l .inv .1 room q s)
-    (subst (λ n. stepAt table n (l .walk .at) ≡ End) (l .inv .0 ∙ second-word q) (sym (c .before .before .step .ensures) ∙ c .enum-told .given .1)) (pre .roomy) }
+    record {
+      is = λ room q s. all-filled q (a .shares .now) (a .tape .now) s (a .values .now) (l .values) (l .walk .at) (l .ends .wires) (l .ends .shares) (l .ends .randoms) (l .inv .1 room q s)
+          (subst (λ n. stepAt table n (l .walk .at) ≡ End) (l .inv .0 ∙ second-word q) (sym (c .before .before .step .ensures) ∙ c .enum-told .given .1)) (pre .roomy);
+    }
 
 enum-told-2 : tie.Need-enum-told-2 Inv-loop μ-loop
 enum-told-2 c = search needs
@@ -91,9 +93,13 @@ write-frame-requires c κs =
     let d = nth table 1 in
     let e : stepAt table d (l .walk .at) ≡ Next (g .0 .0) (g .0 .1 .0) (g .0 .1 .1 .0) = subst (λ n. stepAt table n (l .walk .at) ≡ Next (g .0 .0) (g .0 .1 .0) (g .0 .1 .1 .0)) (l .inv .0) (sym (c .before .before .before .before .before .step .ensures) ∙ g .1) in
     let t = frame-taken (pre .accepted) (a .shares .now) (a .tape .now) (pre .supplied) (a .values .now) (l .values) (l .walk .at) (l .ends .wires) (l .ends .shares) (l .ends .randoms) (l .inv .1 (pre .room) (pre .accepted) (pre .supplied)) d (second-word (pre .accepted)) (g .0 .0) (g .0 .1 .0) (g .0 .1 .1 .0) e in
-    let o : c .before .operands .result .now ≡ operandsAt table d (l .walk .at) = c .before .operands .ensures ∙ ap (λ n. operandsAt table n (l .walk .at)) (l .inv .0) in
-    (t .small, omega (arith, t .few, l .inv .1 (pre .room) (pre .accepted) (pre .supplied) .sized, pre .roomy),
-    subst (λ (x : List ℕ). FrameReady (g .0 .0) d (l .ends .wires) (l .ends .shares) (l .ends .randoms) x (length (a .shares .now)) (length (a .tape .now))) (sym o) (t .ready), pre .supplied .shareBits, pre .supplied .tapeBits)
+    let o : c .before .operands .result .now ≡ operandsAt table d (l .walk .at) = c .before .operands .ensures ∙ ap (λ n. operandsAt table n (l .walk .at)) (l .inv .0) in (
+      t .small,
+      omega (arith, t .few, l .inv .1 (pre .room) (pre .accepted) (pre .supplied) .sized, pre .roomy),
+      subst (λ (x : List ℕ). FrameReady (g .0 .0) d (l .ends .wires) (l .ends .shares) (l .ends .randoms) x (length (a .shares .now)) (length (a .tape .now))) (sym o) (t .ready),
+      pre .supplied .shareBits,
+      pre .supplied .tapeBits,
+    )
 
 add-t19 : tie.Need-add-t19 Inv-loop μ-loop
 add-t19 c =
@@ -165,10 +171,12 @@ loop-again c =
     let d = nth table 1 in
     let e : stepAt table d (l .walk .at) ≡ Next (g .0 .0) (g .0 .1 .0) (g .0 .1 .1 .0) = subst (λ n. stepAt table n (l .walk .at) ≡ Next (g .0 .0) (g .0 .1 .0) (g .0 .1 .1 .0)) (l .inv .0) (sym (c .before .before .before .before .before .before .before .before .before .before .before .before .before .before .step .ensures) ∙ g .1) in
     let t = frame-taken (pre .accepted) (a .shares .now) (a .tape .now) (pre .supplied) (a .values .now) (l .values) (l .walk .at) (l .ends .wires) (l .ends .shares) (l .ends .randoms) (l .inv .1 (pre .room) (pre .accepted) (pre .supplied)) d (second-word (pre .accepted)) (g .0 .0) (g .0 .1 .0) (g .0 .1 .1 .0) e in
-    let o : c .before .before .before .before .before .before .before .before .before .before .operands .result .now ≡ operandsAt table d (l .walk .at) = c .before .before .before .before .before .before .before .before .before .before .operands .ensures ∙ ap (λ n. operandsAt table n (l .walk .at)) (l .inv .0) in
-    (t .same, λ room q s.
-    frame-taken q (a .shares .now) (a .tape .now) s (a .values .now) (l .values) (l .walk .at) (l .ends .wires) (l .ends .shares) (l .ends .randoms) (l .inv .1 room q s) d (second-word q) (g .0 .0) (g .0 .1 .0) (g .0 .1 .1 .0) e .next
-    (c .before .before .before .before .before .before .before .before .write-frame .last .0) (subst (λ (x : List ℕ). Fills (FrameValues (g .0 .0) d (l .ends .wires) (l .ends .shares) (l .ends .randoms) x (a .shares .now) (a .tape .now)) (l .ends .wires) (l .ends .wires + frameMakes (g .0 .0) d) (l .values) (c .before .before .before .before .before .before .before .before .write-frame .last .0)) o (c .before .before .before .before .before .before .before .before .write-frame .ensures)))
+    let o : c .before .before .before .before .before .before .before .before .before .before .operands .result .now ≡ operandsAt table d (l .walk .at) = c .before .before .before .before .before .before .before .before .before .before .operands .ensures ∙ ap (λ n. operandsAt table n (l .walk .at)) (l .inv .0) in (
+      t .same,
+      λ room q s.
+          frame-taken q (a .shares .now) (a .tape .now) s (a .values .now) (l .values) (l .walk .at) (l .ends .wires) (l .ends .shares) (l .ends .randoms) (l .inv .1 room q s) d (second-word q) (g .0 .0) (g .0 .1 .0) (g .0 .1 .1 .0) e .next
+          (c .before .before .before .before .before .before .before .before .write-frame .last .0) (subst (λ (x : List ℕ). Fills (FrameValues (g .0 .0) d (l .ends .wires) (l .ends .shares) (l .ends .randoms) x (a .shares .now) (a .tape .now)) (l .ends .wires) (l .ends .wires + frameMakes (g .0 .0) d) (l .values) (c .before .before .before .before .before .before .before .before .write-frame .last .0)) o (c .before .before .before .before .before .before .before .before .write-frame .ensures)),
+    )
 
 pub fill-spec : {M : Type 1} → statement M
 fill-spec =

@@ -1,0 +1,60 @@
+-- `evaluation::rules::first_missing` meets its contract.
+use mathlib.Core.Path.{_≡_}
+use Prim.Native.Nat.{_≤_, _-_}
+use native.Mathlib.Omega.{arith}
+use lib.ListN.{length}
+use borrow.Author.Needs.{needs}
+use Rattle.circuit.specs.Circuit.{Circuit, size}
+use Rattle.netlist.specs.Calls.{probesRule}
+use Rattle.evaluation.proofs.Refusals.{Passed, passed-start, probe-turn, probe-found, probe-end}
+use Rattle.evaluation.proofs.rules.first_missing.Statement.{statement}
+use Rattle.evaluation.proofs.rules.first_missing.Tie as tie
+
+abbrev Inv-loop : tie.InvT-loop
+Inv-loop probes wires i₀ i = (i ≤ length probes) × ((k : Circuit) → size k ≡ wires → Passed (probesRule k) probes i)
+
+abbrev μ-loop : tie.MeasureT-loop
+μ-loop probes wires i₀ i = length probes - i
+
+loop-holds : tie.Need-loop-holds Inv-loop μ-loop
+loop-holds c = (search needs, λ k e. passed-start (probesRule k) (c .args .probes .now))
+
+mul-if1 : tie.Need-mul-if1 Inv-loop μ-loop
+mul-if1 c = search needs
+
+shared-slice-read-if1 : tie.Need-shared-slice-read-if1 Inv-loop μ-loop
+shared-slice-read-if1 c = search needs
+
+cast-if1 : tie.Need-cast-if1 Inv-loop μ-loop
+cast-if1 c = record { fits = omega (arith, c .shared-slice-known .given (c .before .before .loop .i)) }
+
+returns : tie.Need-returns Inv-loop μ-loop
+returns c = record { is = λ k e. probe-found k (c .before .before .before .before .args .probes .now) (c .before .before .before .loop .i) (c .before .before .before .loop .inv .1 k e) (c .before .before .loop-test .taken) (omega arith) }
+
+add-i : tie.Need-add-i Inv-loop μ-loop
+add-i c = search needs
+
+loop-less : tie.Need-loop-less Inv-loop μ-loop
+loop-less c = search needs
+
+loop-again : tie.Need-loop-again Inv-loop μ-loop
+loop-again c = (omega arith, λ k e. probe-turn k (c .before .before .before .before .args .probes .now) (c .before .before .before .loop .i) (c .before .before .before .loop .inv .1 k e) (c .before .before .loop-test .taken) (omega arith))
+
+returns-2 : tie.Need-returns-2 Inv-loop μ-loop
+returns-2 c = record { is = λ k e. probe-end k (c .before .before .args .probes .now) (c .before .loop .i) (c .before .loop .inv .1 k e) (c .loop-test .left) }
+
+pub first-missing-spec : {M : Type 1} → statement M
+first-missing-spec =
+    tie.close
+    (tie.spec
+    Inv-loop
+    μ-loop
+    loop-holds
+    mul-if1
+    shared-slice-read-if1
+    cast-if1
+    returns
+    add-i
+    loop-less
+    loop-again
+    returns-2)
