@@ -6,24 +6,23 @@ use lib.ListN.{set, length, drop, length-set}
 use lib.Seq.{sets}
 use denote.Ref.{now}
 use borrow.Author.Needs.{needs}
-use Rattle.text.specs.declared.digits.Word.{Word}
 use Rattle.text.specs.Scan.{wordsAt}
 use Rattle.text.proofs.line.store.Tie as tie
 use Rattle.text.proofs.Scanning.{store-turn}
 use Rattle.text.proofs.line.store.Statement.{statement}
 
 abbrev Inv-loop : tie.InvT-loop
-Inv-loop text at count table₀ from i₀ to₀ left₀ table i to left = (i + 5 * left ≤ length text) × (to + left ≤ length table) × (length table ≡ length table₀)
+Inv-loop codes text at count table₀ from i₀ to₀ left₀ table i to left = (i + 5 * left ≤ length text) × (to + left ≤ length table) × (length table ≡ length table₀)
     × (sets table₀ from (wordsAt count (drop at text)) ≡ sets table to (wordsAt left (drop i text)))
 
 abbrev μ-loop : tie.MeasureT-loop
-μ-loop text at count table₀ from i₀ to₀ left₀ table i to left = left
+μ-loop codes text at count table₀ from i₀ to₀ left₀ table i to left = left
 
 loop-holds : tie.Need-loop-holds Inv-loop μ-loop
 loop-holds c = (omega arith, omega arith, refl, refl)
 
-word-at-requires : tie.Need-word-at-requires Inv-loop μ-loop
-word-at-requires c κs = search needs
+value-requires : tie.Need-value-requires Inv-loop μ-loop
+value-requires c κs = search needs
 
 mul-table : tie.Need-mul-table Inv-loop μ-loop
 mul-table c = search needs
@@ -44,12 +43,12 @@ loop-less : tie.Need-loop-less Inv-loop μ-loop
 loop-less c = search needs
 
 loop-again : tie.Need-loop-again Inv-loop μ-loop
-loop-again c = let k = c .before .before .loop in let t = now (c .before .before .before .before .before .args .text) in let v = c .word-at .result .value in (
+loop-again c = let k = c .before .before .loop in let t = now (c .before .before .before .before .before .args .text) in let v = c .value .result in (
   omega arith,
   omega (arith, length-set (k .table) (k .to) v),
   omega (arith, length-set (k .table) (k .to) v),
   k .inv .3 ∙ store-turn (k .table) t (k .to) (k .left) (k .i) (omega arith)
-      ∙ ap (λ (x : ℕ). sets (set (k .table) (k .to) x) (k .to + 1) (wordsAt (k .left - 1) (drop (k .i + 5) t))) (sym (ap (λ (w : Word). w .value) (c .word-at .ensures))),
+      ∙ ap (λ (x : ℕ). sets (set (k .table) (k .to) x) (k .to + 1) (wordsAt (k .left - 1) (drop (k .i + 5) t))) (sym (c .value .ensures)),
 )
 
 same-length : tie.Need-same-length Inv-loop μ-loop
@@ -66,7 +65,7 @@ store-spec =
     Inv-loop
     μ-loop
     loop-holds
-    word-at-requires
+    value-requires
     mul-table
     slice-write-table
     add-i
