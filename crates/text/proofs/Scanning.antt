@@ -5,13 +5,14 @@ use mathlib.Core.List.{List, [], _∷_}
 use Prim.Native.Nat.{ℕ, zero, suc, _+_, _-_, _≤_, _<_}
 use native.Mathlib.Omega.{arith}
 use lib.Dec.{leb, ltb, eqb}
-use lib.ListN.{length, getD, drop, set, length-drop}
+use lib.ListN.{length, getD, drop, set, length-drop, length-append}
 use lib.Seq.{sets, drop-drop}
 use borrow.Author.Tests.{eqb-true, leb-true, leb-false, le-leb}
 use Rattle.circuit.proofs.Base.{cases}
+use Rattle.circuit.proofs.Sizes.{labels-map}
 use Rattle.circuit.specs.Limits.{tableLimit}
 use Rattle.circuit.specs.Circuit.{empty}
-use Rattle.circuit.specs.Kinds.{order, kindOf, words}
+use Rattle.circuit.specs.Kinds.{Kind, HEAD, IN, CON, XOR, NOT, REG, AND, REF, OUT, order, share, before, row, shape, kindOf, words}
 use Rattle.circuit.specs.Rules.{Judgement, pass, refuse, need, _then_, wordRule}
 use Rattle.text.specs.Lines.{lineFeed, space, areDigits}
 use Rattle.text.specs.Reader.{roomRule}
@@ -49,6 +50,19 @@ store-turn t bytes to (suc left) i h =
     let e : suc to ≡ to + 1 = omega arith in
     let f : suc left - 1 ≡ left = omega arith in
     rw (f, drop-drop 5 i bytes, e)
+
+-- a kind's number of words
+pub words-most : (d : ℕ) (kind : Kind) → words d kind ≤ 3 + d + d
+unfolding shape
+words-most d HEAD = omega arith
+words-most d IN = omega arith
+words-most d CON = omega arith
+words-most d XOR = omega arith
+words-most d NOT = omega arith
+words-most d REG = omega arith
+words-most d AND = omega (arith, length-append (row share 1 d) (row before 1 d), labels-map d (λ i. share i 1), labels-map d (λ i. before i 1))
+words-most d REF = omega (arith, labels-map d (λ i. share i 1))
+words-most d OUT = omega (arith, labels-map d (λ i. share i 0))
 
 -- the words that fit a table are those that fit its limit
 pub same-room : (room n count : ℕ) → roomRule (limitOf room) n count ≡ roomRule room n count

@@ -53,8 +53,8 @@ fn read_by(codes: &[u8; 512], text: &[u8], table: &mut [u16]) -> TextVerdict
     let mut line: usize = 1;
     let mut stored: usize = 2;
     while at < text.len() {
-        let count = line::count(codes, text, at);
-        let broken = rules::frame_rule(codes, text, at, count, d, stored, room);
+        let size = line::size(codes, text, at);
+        let broken = rules::frame_rule(codes, text, at, size, d, stored, room);
         if broken != 0 {
             return TextVerdict::Refused {
                 rule: broken,
@@ -63,10 +63,10 @@ fn read_by(codes: &[u8; 512], text: &[u8], table: &mut [u16]) -> TextVerdict
             };
         }
         table[stored] = digits::value(codes, text, at);
-        line::store(codes, text, at + 5, count - 1, table, stored + 1);
-        at += 5 * count;
+        let end = at + size;
+        stored = line::store(codes, text, at + 5, end, table, stored + 1);
+        at = end;
         line += 1;
-        stored += count;
     }
     TextVerdict::Accepted { words: stored }
 }

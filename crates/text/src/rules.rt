@@ -1,4 +1,4 @@
-// The rules of a line, by its count of words and its first words. A rule's number, 0 where none is broken.
+// The rules of a line, by its size and its first words. A rule's number, 0 where none is broken.
 ghost use mathlib.Core.Path.{_≡_};
 ghost use Prim.Native.Nat.{ℕ, _+_, _*_, _≤_};
 ghost use lib.ListN.{length, drop};
@@ -15,12 +15,12 @@ pub(crate) fn limit(room: usize) -> usize
     if room <= 8192 { room } else { 8192 }
 }
 
-// 21: a line's words fit the table behind those stored, and do not pass 8,192.
-fn room_rule(room: usize, stored: usize, count: usize) -> usize
+// 21: a line's words, of five bytes each, fit the table behind those stored, and do not pass 8,192.
+fn room_rule(room: usize, stored: usize, size: usize) -> usize
     requires { ⌜ (stored ≤ room) × (room ≤ 8192) ⌝ }
-    ensures { λ r. ⌜ ((n : ℕ) → ruled r n 0 ≡ roomRule room n (stored + count)) ⌝ }
+    ensures { λ r. ⌜ ((n count : ℕ) → size ≡ 5 * count → ruled r n 0 ≡ roomRule room n (stored + count)) ⌝ }
 {
-    if room - stored < count { 21 } else { 0 }
+    if 5 * (room - stored) < size { 21 } else { 0 }
 }
 
 // The first line: 3 where there is none; 20; 3, two words and kind 0; 4, its d; 21.
@@ -31,11 +31,11 @@ pub(crate) fn head_rule(codes: &[u8; 512], text: &[u8], room: usize) -> usize
     if text.len() == 0 {
         return 3;
     }
-    let count = line::count(codes, text, 0);
-    if count == 0 {
+    let size = line::size(codes, text, 0);
+    if size == 0 {
         return 20;
     }
-    if count != 2 {
+    if size != 10 {
         return 3;
     }
     if digits::value(codes, text, 0) != 0 {
@@ -48,7 +48,7 @@ pub(crate) fn head_rule(codes: &[u8; 512], text: &[u8], room: usize) -> usize
     if 8 < d {
         return 4;
     }
-    room_rule(room, 0, count)
+    room_rule(room, 0, size)
 }
 
 // The word at which the first line breaks a rule.
@@ -63,15 +63,15 @@ pub(crate) fn frame_rule(
     codes: &[u8; 512],
     text: &[u8],
     at: usize,
-    count: usize,
+    size: usize,
     d: u16,
     stored: usize,
     room: usize,
 ) -> usize
-    requires { ⌜ (now codes ≡ codeTable) × (at + 5 * count ≤ length (now text)) × (stored ≤ room) × (room ≤ 8192) ⌝ }
-    ensures { λ r. ⌜ ((n : ℕ) → ruled r n 0 ≡ frameByCount room d n stored (valueIn (drop at (now (text .entry)))) count) ⌝ }
+    requires { ⌜ (now codes ≡ codeTable) × (at ≤ length (now text)) × (size ≡ 5 * countFrom 1 (drop at (now text))) × (stored ≤ room) × (room ≤ 8192) ⌝ }
+    ensures { λ r. ⌜ ((n : ℕ) → ruled r n 0 ≡ frameByCount room d n stored (valueIn (drop at (now (text .entry)))) (countFrom 1 (drop at (now (text .entry))))) ⌝ }
 {
-    if count == 0 {
+    if size == 0 {
         return 20;
     }
     let kind = digits::value(codes, text, at);
@@ -82,8 +82,8 @@ pub(crate) fn frame_rule(
         return 5;
     }
     let shape = kinds::decide(kind, d);
-    if count - 1 != shape.words {
+    if size != 5 * shape.words + 5 {
         return 6;
     }
-    room_rule(room, stored, count)
+    room_rule(room, stored, size)
 }

@@ -1,7 +1,7 @@
 -- `text::read_by` meets its contract. At the head of the loop `Progress` holds; the measure is what is left of the text.
 use mathlib.Core.Path.{_≡_, refl, sym, ap, subst, _∙_}
 use mathlib.Core.List.{List}
-use Prim.Native.Nat.{ℕ, _+_, _*_, _-_, _≤_}
+use Prim.Native.Nat.{ℕ, _+_, _*_, _-_, _/_, _≤_}
 use native.Mathlib.Omega.{arith}
 use lib.ListN.{set, length, take, drop, length-set, length-drop}
 use lib.Seq.{sets, length-take-le}
@@ -87,7 +87,7 @@ judged c =
     let bytes = drop (l .loop .at) (text (first l)) in
     let h : ruled (c .frame-rule .result) (l .loop .line) 0
     ≡ frameByCount (limitOf (length (lent (first l)))) (order (l .before)) (l .loop .line) (l .loop .stored) (valueIn bytes) (countFrom 1 bytes)
-    = rw (c .before .count .ensures, first l .before .limit .ensures) at (c .frame-rule .ensures (l .loop .line)) in
+    = rw (first l .before .limit .ensures) at (c .frame-rule .ensures (l .loop .line)) in
     h ∙ same-frame (length (lent (first l))) (order (l .before)) (l .loop .line) (l .loop .stored) (valueIn bytes) (countFrom 1 bytes)
 
 passes : (c : tie.Else2 Inv-loop μ-loop) → pass ≡ here (c .before .before .before .before)
@@ -97,12 +97,15 @@ passes c = rw (c .if2 .left) at (judged (c .before))
 abbrev line-at : tie.Else2 Inv-loop μ-loop → tie.At-loop Inv-loop μ-loop
 line-at c = c .before .before .before .before
 
+abbrev count : tie.At-loop Inv-loop μ-loop → ℕ
+count l = countFrom 1 (drop (l .loop .at) (text (first l)))
+
 numbers : (c : tie.Else2 Inv-loop μ-loop)
-    → let l = line-at c in Fitting (length (text (first l))) (l .loop .at) (l .loop .stored) (length (lent (first l))) (c .before .before .count .result)
-numbers c =
-    let l = line-at c in
-    subst (λ (n : ℕ). Fitting (length (text (first l))) (l .loop .at) (l .loop .stored) (length (lent (first l))) n) (sym (c .before .before .count .ensures))
-    (passing _ _ _ _ _ _ _ _ (progress l) (c .before .before .before .loop-test .taken) (passes c))
+    → let l = line-at c in Fitting (length (text (first l))) (l .loop .at) (l .loop .stored) (length (lent (first l))) (count l)
+numbers c = passing _ _ _ _ _ _ _ _ (progress (line-at c)) (c .before .before .before .loop-test .taken) (passes c)
+
+measured : (c : tie.Else2 Inv-loop μ-loop) → c .before .before .size .result ≡ 5 * count (line-at c)
+measured c = c .before .before .size .ensures
 
 -- the table is as it was lent, past the words stored
 kept : (c : tie.At-loop Inv-loop μ-loop) → drop (c .loop .stored) (c .loop .table) ≡ drop (c .loop .stored) (lent (first c))
@@ -160,18 +163,17 @@ loop-holds c =
     subst (λ (n : ℕ). Progress (text l) (begun c) n (order c) (begun c) 10 1 2) (sym (sized c))
     (subst (λ (t : List ℕ). Progress (text l) t room (order c) t 10 1 2) (sym (begins c)) p)
 
-count-requires : tie.Need-count-requires Inv-loop μ-loop
-count-requires c κs = (known (first (c .before)), omega (arith, progress (c .before) .within))
+size-requires : tie.Need-size-requires Inv-loop μ-loop
+size-requires c κs = (known (first (c .before)), omega (arith, progress (c .before) .within))
 
 frame-rule-requires : tie.Need-frame-rule-requires Inv-loop μ-loop
 frame-rule-requires c κs =
     let l = c .before .before in
     let p = progress l in
-    let bytes = drop (l .loop .at) (text (first l)) in
-    let e : c .count .result ≡ countFrom 1 bytes = c .count .ensures in
     let room = length (lent (first l)) in (
       known (first l),
-      omega (arith, line-fits bytes, length-drop (l .loop .at) (text (first l))),
+      p .within,
+      c .size .ensures,
       rw (first l .before .limit .ensures) (limit-least room (l .loop .stored) (p .fits) (p .limit)),
       rw (first l .before .limit .ensures) (limit-most room),
     )
@@ -196,33 +198,32 @@ mul-table c = search needs
 slice-write-table-3 : tie.Need-slice-write-table-3 Inv-loop μ-loop
 slice-write-table-3 c = let p = c .before in let f = numbers p in omega (arith, f .room-left, f .some, progress (line-at p) .size)
 
+add-end : tie.Need-add-end Inv-loop μ-loop
+add-end c = let p = c .before in let f = numbers p in let g = first (line-at p) .before .before .before .before .good in record { fits = omega (arith, f .inside, measured p) }
+
 add-store : tie.Need-add-store Inv-loop μ-loop
 add-store c = let p = c .before in let f = numbers p in let g = first (line-at p) .before .before .before .before .good in record { fits = omega (arith, f .inside, f .some) }
-
-sub-store : tie.Need-sub-store Inv-loop μ-loop
-sub-store c = omega (arith, numbers (c .before) .some)
 
 add-store-2 : tie.Need-add-store-2 Inv-loop μ-loop
 add-store-2 c = record { fits = omega (arith, numbers (c .before .before) .limit) }
 
 store-requires : tie.Need-store-requires Inv-loop μ-loop
-store-requires c κs = let p = c .before .before in let f = numbers p in (known (first (line-at p)), omega (arith, f .inside, f .some), simp length-set (omega (arith, f .room-left, f .some, progress (line-at p) .size)))
-
-mul-at : tie.Need-mul-at Inv-loop μ-loop
-mul-at c = let p = c .before .before .before .before .before in let f = numbers p in let g = first (line-at p) .before .before .before .before .good in record { fits = omega (arith, f .inside) }
-
-add-at : tie.Need-add-at Inv-loop μ-loop
-add-at c = let p = c .before .before .before .before .before in let f = numbers p in let g = first (line-at p) .before .before .before .before .good in record { fits = omega (arith, f .inside) }
+store-requires c κs =
+    let p = c .before .before in
+    let f = numbers p in
+    let e = measured p in (
+      known (first (line-at p)),
+      omega (arith, f .some),
+      omega (arith, f .inside),
+      simp length-set (omega (arith, f .room-left, f .some, progress (line-at p) .size)),
+    )
 
 add-line : tie.Need-add-line Inv-loop μ-loop
-add-line c = let p = c .before .before .before .before .before in let f = numbers p in let g = first (line-at p) .before .before .before .before .good in let i = progress (line-at p) in
+add-line c = let p = c .before .before .before .before .before in let f = numbers p in let i = progress (line-at p) in let g = first (line-at p) .before .before .before .before .good in
     record { fits = omega (arith, i .lines, i .within, f .inside, f .some) }
 
-add-stored : tie.Need-add-stored Inv-loop μ-loop
-add-stored c = record { fits = omega (arith, numbers (c .before .before .before .before .before) .limit) }
-
 loop-less : tie.Need-loop-less Inv-loop μ-loop
-loop-less c = let f = numbers (c .before .before .before .before .before) in omega (arith, f .inside, f .some)
+loop-less c = let p = c .before .before .before .before .before in let f = numbers p in omega (arith, f .inside, f .some, measured p)
 
 loop-again : tie.Need-loop-again Inv-loop μ-loop
 loop-again c =
@@ -230,17 +231,27 @@ loop-again c =
     let l = line-at p in
     let k = l .loop in
     let t = text (first l) in
-    let bytes = drop (k .at) t in
-    let count = p .before .before .count in
-    let after : ℕ → ℕ → List ℕ → Type 0 = λ n size table. Progress t (begun (l .before)) size (order (l .before)) table (k .at + 5 * n) (k .line + 1) (k .stored + n) in
+    let n = count l in
+    let size = p .before .before .size .result in
+    let v = c .before .before .before .before .value3 in
+    let stored = c .before .before .store in
+    let f = numbers p in
+    let z = measured p in
+    let e : k .at + 5 * n ≡ k .at + size = omega arith in
+    let m : (k .at + size - (k .at + 5)) / 5 ≡ n - 1 = omega (arith, f .some) in
+    let o : k .stored + n ≡ stored .result = omega (arith, f .some, stored .ensures .0, m) in
+    let w = stored .ensures .1
+    ∙ ap (λ (x : ℕ). sets (set (k .table) (k .stored) (v .result)) (k .stored + 1) (wordsAt x (drop (k .at + 5) t))) m
+    ∙ ap (λ (x : ℕ). sets (set (k .table) (k .stored) x) (k .stored + 1) (wordsAt (n - 1) (drop (k .at + 5) t))) (v .ensures)
+    ∙ sym (store-turn (k .table) t (k .stored) n (k .at) (f .some)) in
+    let after : ℕ → List ℕ → ℕ → ℕ → Type 0 = λ room table at count. Progress t (begun (l .before)) room (order (l .before)) table at (k .line + 1) count in
     let room = length (lent (first l)) in
-    let e = c .before .before .store .ensures
-    ∙ ap (λ (x : ℕ). sets (set (k .table) (k .stored) x) (k .stored + 1) (wordsAt (count .result - 1) (drop (k .at + 5) t))) (c .before .before .before .before .value3 .ensures)
-    ∙ sym (store-turn (k .table) t (k .stored) (count .result) (k .at) (numbers p .some)) in
-    let step = subst (λ (n : ℕ). after n room (sets (k .table) (k .stored) (wordsAt n bytes))) (sym (count .ensures))
-    (turn _ _ _ _ _ _ _ _ (progress l) (p .before .before .before .loop-test .taken) (passes p)) in
-    subst (λ (n : ℕ). after (count .result) n (c .before .before .store .last .1 .1 .1 .1 .0)) (sym (sized (l .before)))
-    (subst (λ (x : List ℕ). after (count .result) room x) (sym e) step)
+    let next = turn _ _ _ _ _ _ _ _ (progress l) (p .before .before .before .loop-test .taken) (passes p) in
+    let table = stored .last .1 .1 .1 .1 .0 in
+    subst (λ (x : ℕ). after x table (k .at + size) (stored .result)) (sym (sized (l .before)))
+    (subst (λ (x : ℕ). after room table (k .at + size) x) o
+    (subst (λ (x : ℕ). after room table x (k .stored + n)) e
+    (subst (λ (x : List ℕ). after room x (k .at + 5 * n) (k .stored + n)) (sym w) next)))
 
 same-length-2 : tie.Need-same-length-2 Inv-loop μ-loop
 same-length-2 c = progress (c .before) .size
@@ -266,21 +277,18 @@ read-by-spec =
     slice-write-table
     slice-write-table-2
     loop-holds
-    count-requires
+    size-requires
     frame-rule-requires
     same-length
     returns-2
     value-requires-3
     mul-table
     slice-write-table-3
+    add-end
     add-store
-    sub-store
     add-store-2
     store-requires
-    mul-at
-    add-at
     add-line
-    add-stored
     loop-less
     loop-again
     same-length-2

@@ -1,46 +1,67 @@
 -- `text::rules::frame_rule` meets its contract: each return decides the tests before it.
-use mathlib.Core.Path.{sym, ap}
-use Prim.Native.Nat.{suc}
+use mathlib.Core.Path.{_≡_, sym, ap}
+use Prim.Native.Nat.{ℕ, suc, _+_, _≤_, _<_}
 use native.Mathlib.Omega.{arith}
+use lib.ListN.{drop, length-drop}
+use denote.Ref.{now}
 use borrow.Author.Tests.{eq-eqb, ne-eqb, lt-ltb, le-leb, lt-leb}
+use borrow.Author.Needs.{needs}
 use Rattle.checker.specs.declared.kinds.Shape.{Shape}
 use Rattle.circuit.specs.Kinds.{words, kindOf}
-use borrow.Author.Needs.{needs}
-use Rattle.text.proofs.rules.frame_rule.Statement.{statement}
+use Rattle.text.specs.Scan.{countFrom}
 use Rattle.text.proofs.rules.frame_rule.Tie as tie
+use Rattle.text.proofs.Reading.{line-fits}
+use Rattle.text.proofs.Scanning.{words-most}
+use Rattle.text.proofs.rules.frame_rule.Statement.{statement}
+
+-- how many words the line has
+abbrev count : tie.Start → ℕ
+count s = countFrom 1 (drop (s .args .at) (now (s .args .text)))
+
+-- the kind's number of words is small
+small : (c : tie.After-struct-known) → c .before .decide .result .words ≤ 131073
+small c =
+    let w = ap (λ (x : Shape). x .words) (c .before .decide .ensures) in
+    let d = c .before .before .before .before .before .before .before .args .d in
+    let h : d < 65536 = search needs in
+    omega (arith, words-most d (kindOf (c .before .before .before .before .value .result)))
 
 returns : tie.Need-returns
-returns c = λ n. rw (c .if1 .taken)
+returns c = let s = c .before .before in let a = s .args in let m = count s in let z : m ≡ 0 = omega (arith, s .pre .2) in λ n. rw z
 
 value-requires : tie.Need-value-requires
-value-requires c κs = search needs
+value-requires c κs = let s = c .before .before in let a = s .args in let m = count s in
+    (s .pre .0, omega (arith, s .pre, line-fits (drop (a .at) (now (a .text))), length-drop (a .at) (now (a .text))))
 
 returns-2 : tie.Need-returns-2
-returns-2 c = let a = c .before .before .before .before .args in let k = c .before .value in
-    λ n. rw (sym (k .ensures), lt-ltb 0 (a .count) (omega arith), lt-leb 1 (k .result) (c .if2 .taken))
+returns-2 c = let s = c .before .before .before .before in let a = s .args in let m = count s in let k = c .before .value in
+    λ n. rw (sym (k .ensures), lt-ltb 0 m (omega (arith, s .pre .2)), lt-leb 1 (k .result) (c .if2 .taken))
 
 returns-3 : tie.Need-returns-3
-returns-3 c = let a = c .before .before .before .before .before .args in let k = c .before .before .value in
-    λ n. rw (sym (k .ensures), lt-ltb 0 (a .count) (omega arith), le-leb 1 (k .result) (omega arith), lt-leb (k .result) 8 (c .if3 .taken))
+returns-3 c = let s = c .before .before .before .before .before in let a = s .args in let m = count s in let k = c .before .before .value in
+    λ n. rw (sym (k .ensures), lt-ltb 0 m (omega (arith, s .pre .2)), le-leb 1 (k .result) (omega arith), lt-leb (k .result) 8 (c .if3 .taken))
 
 decide-requires : tie.Need-decide-requires
 decide-requires c κs = search needs
 
-sub-if4 : tie.Need-sub-if4
-sub-if4 c = search needs
+mul-if4 : tie.Need-mul-if4
+mul-if4 c = record { fits = omega (arith, small c) }
+
+add-if4 : tie.Need-add-if4
+add-if4 c = record { fits = omega (arith, small c) }
 
 returns-4 : tie.Need-returns-4
-returns-4 c = let a = c .before .before .before .before .before .before .before .before .args in let k = c .before .before .before .before .before .value in
-    let w = ap (λ (s : Shape). s .words) (c .before .before .decide .ensures) in
-    λ n. rw (sym (k .ensures), lt-ltb 0 (a .count) (omega arith), le-leb 1 (k .result) (omega arith), le-leb (k .result) 8 (omega arith), ne-eqb (a .count) (suc (words (a .d) (kindOf (k .result)))) (λ e. c .if4 .taken (omega arith)))
+returns-4 c = let s = c .before .before .before .before .before .before .before .before in let a = s .args in let m = count s in let k = c .before .before .before .before .before .value in
+    let w = ap (λ (x : Shape). x .words) (c .before .before .decide .ensures) in
+    λ n. rw (sym (k .ensures), lt-ltb 0 m (omega (arith, s .pre .2)), le-leb 1 (k .result) (omega arith), le-leb (k .result) 8 (omega arith), ne-eqb m (suc (words (a .d) (kindOf (k .result)))) (λ e. c .if4 .taken (omega (arith, s .pre .2))))
 
 room-rule-requires : tie.Need-room-rule-requires
 room-rule-requires c κs = search needs
 
 returns-5 : tie.Need-returns-5
-returns-5 c = let a = c .before .before .before .before .before .before .before .before .before .args in let k = c .before .before .before .before .before .before .value in
-    let w = ap (λ (s : Shape). s .words) (c .before .before .before .decide .ensures) in
-    λ n. rw (sym (k .ensures), lt-ltb 0 (a .count) (omega arith), le-leb 1 (k .result) (omega arith), le-leb (k .result) 8 (omega arith), eq-eqb (a .count) (suc (words (a .d) (kindOf (k .result)))) (omega arith)) (c .room-rule .ensures n)
+returns-5 c = let s = c .before .before .before .before .before .before .before .before .before in let a = s .args in let m = count s in let k = c .before .before .before .before .before .before .value in
+    let w = ap (λ (x : Shape). x .words) (c .before .before .before .decide .ensures) in
+    λ n. rw (sym (k .ensures), lt-ltb 0 m (omega (arith, s .pre .2)), le-leb 1 (k .result) (omega arith), le-leb (k .result) 8 (omega arith), eq-eqb m (suc (words (a .d) (kindOf (k .result)))) (omega (arith, s .pre .2))) (c .room-rule .ensures n m (s .pre .2))
 
 pub frame-rule-spec : {M : Type 1} → statement M
 frame-rule-spec =
@@ -51,7 +72,8 @@ frame-rule-spec =
     returns-2
     returns-3
     decide-requires
-    sub-if4
+    mul-if4
+    add-if4
     returns-4
     room-rule-requires
     returns-5)
