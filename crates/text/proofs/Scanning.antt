@@ -2,7 +2,7 @@
 use mathlib.Core.Path.{_≡_, refl, ap}
 use mathlib.Core.Bool.{cond, _&&_}
 use mathlib.Core.List.{List, [], _∷_}
-use Prim.Native.Nat.{ℕ, zero, suc, _+_, _-_, _≤_, _<_}
+use Prim.Native.Nat.{ℕ, zero, suc, _+_, _*_, _-_, _≤_, _<_}
 use native.Mathlib.Omega.{arith}
 use lib.Dec.{leb, ltb, eqb}
 use lib.ListN.{length, getD, drop, set, length-drop, length-append}
@@ -16,7 +16,7 @@ use Rattle.circuit.specs.Kinds.{Kind, HEAD, IN, CON, XOR, NOT, REG, AND, REF, O
 use Rattle.circuit.specs.Rules.{Judgement, pass, refuse, need, _then_, wordRule}
 use Rattle.text.specs.Lines.{lineFeed, space, areDigits}
 use Rattle.text.specs.Reader.{roomRule}
-use Rattle.text.specs.Scan.{valueIn, countFrom, wordsAt, limitOf, ruled, headWord, headByCount, frameByCount}
+use Rattle.text.specs.Scan.{valueIn, countFrom, behindLine, wordsAt, limitOf, ruled, headWord, headByCount, frameByCount}
 use Rattle.text.proofs.Hex.{five}
 
 short-count : (n : ℕ) (bytes : List ℕ) → length bytes < 5 → countFrom n bytes ≡ 0
@@ -40,6 +40,19 @@ module _ (n : ℕ) (l : List ℕ) (i : ℕ) (h : i + 5 ≤ length l) where
       0
   unfolding countFrom
   count-turn = let u : n + 1 ≡ suc n = omega arith in rw (u, five l i h)
+
+-- the place behind a line tells its count
+pub behind-some : (at count : ℕ) → 0 < count → behindLine at count ≡ at + 5 * count
+behind-some at zero h = absurd (omega arith)
+behind-some at (suc n) h = refl
+
+pub behind-none : (at count : ℕ) → behindLine at count ≡ 0 → count ≡ 0
+behind-none at zero h = refl
+behind-none at (suc n) h = absurd (omega arith)
+
+pub behind-known : (at count : ℕ) → (behindLine at count ≡ 0 → ⊥) → (behindLine at count ≡ at + 5 * count) × (0 < count)
+behind-known at zero h = absurd (h refl)
+behind-known at (suc n) h = (refl, omega arith)
 
 -- a turn of the store
 pub store-turn : (t bytes : List ℕ) (to left i : ℕ) → 0 < left

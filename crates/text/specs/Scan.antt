@@ -54,6 +54,11 @@ countFrom n (a ∷ b ∷ c ∷ e ∷ s ∷ rest) =
     (cond (eqb s lineFeed) n (cond (eqb s space) (countFrom (suc n) rest) 0))
     0
 
+-- the place behind a line of so many words; 0 for a line that is not of the form
+abbrev pub behindLine : (at count : ℕ) → ℕ
+behindLine at zero = zero
+behindLine at (suc n) = at + 5 * suc n
+
 -- so many words in a row, five bytes apart
 unfoldable pub wordsAt : ℕ → List ℕ → List ℕ
 wordsAt zero bytes = []

@@ -53,8 +53,8 @@ fn read_by(codes: &[u8; 512], text: &[u8], table: &mut [u16]) -> TextVerdict
     let mut line: usize = 1;
     let mut stored: usize = 2;
     while at < text.len() {
-        let size = line::size(codes, text, at);
-        let broken = rules::frame_rule(codes, text, at, size, d, stored, room);
+        let end = line::end(codes, text, at);
+        let broken = rules::frame_rule(codes, text, at, end, d, stored, room);
         if broken != 0 {
             return TextVerdict::Refused {
                 rule: broken,
@@ -63,7 +63,6 @@ fn read_by(codes: &[u8; 512], text: &[u8], table: &mut [u16]) -> TextVerdict
             };
         }
         table[stored] = digits::value(codes, text, at);
-        let end = at + size;
         stored = line::store(codes, text, at + 5, end, table, stored + 1);
         at = end;
         line += 1;

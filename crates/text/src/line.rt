@@ -1,16 +1,16 @@
-// A line of the text: its size, and its words stored.
+// A line of the text: where it ends, and its words stored.
 ghost use mathlib.Core.Path.{_≡_};
 ghost use Prim.Native.Nat.{_+_, _*_, _-_, _/_, _≤_};
 ghost use lib.ListN.{length, drop};
 ghost use lib.Seq.{sets};
-ghost use Rattle.text.specs.Scan.{codeTable, countFrom, wordsAt};
+ghost use Rattle.text.specs.Scan.{codeTable, countFrom, behindLine, wordsAt};
 use super::digits;
 
-// How many bytes the line at a place has, with its line feed: five for each word, which are its four digits and the byte
-// behind them. 0 where the line is not of the form.
-pub(crate) fn size(codes: &[u8; 512], text: &[u8], at: usize) -> usize
+// The place behind the line at a place; 0 where the line is not of the form. Each word is four digits and a byte behind them,
+// the line feed behind the last.
+pub(crate) fn end(codes: &[u8; 512], text: &[u8], at: usize) -> usize
     requires { ⌜ (now codes ≡ codeTable) × (at ≤ length (now text)) ⌝ }
-    ensures { λ r. ⌜ r ≡ 5 * countFrom 1 (drop at (now (text .entry))) ⌝ }
+    ensures { λ r. ⌜ r ≡ behindLine at (countFrom 1 (drop at (now (text .entry)))) ⌝ }
 {
     if text.len() < 5 {
         return 0;
@@ -25,7 +25,7 @@ pub(crate) fn size(codes: &[u8; 512], text: &[u8], at: usize) -> usize
         i += 5;
         if mark != 32 {
             if mark == 10 {
-                return i - at;
+                return i;
             }
             return 0;
         }

@@ -1,9 +1,9 @@
-// The rules of a line, by its size and its first words. A rule's number, 0 where none is broken.
+// The rules of a line, by where it ends and its first words. A rule's number, 0 where none is broken.
 ghost use mathlib.Core.Path.{_≡_};
 ghost use Prim.Native.Nat.{ℕ, _+_, _*_, _≤_};
 ghost use lib.ListN.{length, drop};
 ghost use Rattle.text.specs.Reader.{roomRule};
-ghost use Rattle.text.specs.Scan.{codeTable, limitOf, ruled, headWord, countFrom, valueIn, headByCount, frameByCount};
+ghost use Rattle.text.specs.Scan.{codeTable, limitOf, ruled, headWord, countFrom, behindLine, valueIn, headByCount, frameByCount};
 use super::digits;
 use super::line;
 use checker::kinds;
@@ -31,11 +31,11 @@ pub(crate) fn head_rule(codes: &[u8; 512], text: &[u8], room: usize) -> usize
     if text.len() == 0 {
         return 3;
     }
-    let size = line::size(codes, text, 0);
-    if size == 0 {
+    let end = line::end(codes, text, 0);
+    if end == 0 {
         return 20;
     }
-    if size != 10 {
+    if end != 10 {
         return 3;
     }
     if digits::value(codes, text, 0) != 0 {
@@ -48,7 +48,7 @@ pub(crate) fn head_rule(codes: &[u8; 512], text: &[u8], room: usize) -> usize
     if 8 < d {
         return 4;
     }
-    room_rule(room, 0, size)
+    room_rule(room, 0, end)
 }
 
 // The word at which the first line breaks a rule.
@@ -63,15 +63,15 @@ pub(crate) fn frame_rule(
     codes: &[u8; 512],
     text: &[u8],
     at: usize,
-    size: usize,
+    end: usize,
     d: u16,
     stored: usize,
     room: usize,
 ) -> usize
-    requires { ⌜ (now codes ≡ codeTable) × (at ≤ length (now text)) × (size ≡ 5 * countFrom 1 (drop at (now text))) × (stored ≤ room) × (room ≤ 8192) ⌝ }
+    requires { ⌜ (now codes ≡ codeTable) × (at ≤ length (now text)) × (end ≡ behindLine at (countFrom 1 (drop at (now text)))) × (stored ≤ room) × (room ≤ 8192) ⌝ }
     ensures { λ r. ⌜ ((n : ℕ) → ruled r n 0 ≡ frameByCount room d n stored (valueIn (drop at (now (text .entry)))) (countFrom 1 (drop at (now (text .entry))))) ⌝ }
 {
-    if size == 0 {
+    if end == 0 {
         return 20;
     }
     let kind = digits::value(codes, text, at);
@@ -82,6 +82,7 @@ pub(crate) fn frame_rule(
         return 5;
     }
     let shape = kinds::decide(kind, d);
+    let size = end - at;
     if size != 5 * shape.words + 5 {
         return 6;
     }

@@ -13,7 +13,7 @@ use Rattle.text.specs.Answer.{tableAfter}
 use Rattle.text.specs.Scan.{codeTable, valueIn, countFrom, wordsAt, limitOf, ruled, headWord, frameByCount}
 use Rattle.text.proofs.read_by.Tie as tie
 use Rattle.text.proofs.Reading.{stop, line-fits}
-use Rattle.text.proofs.Scanning.{store-turn, same-head, same-frame, limit-most, limit-least}
+use Rattle.text.proofs.Scanning.{behind-some, store-turn, same-head, same-frame, limit-most, limit-least}
 use Rattle.text.proofs.Progress.{Progress, Fitting, headHere, head-refused, head-fits, start, rest-behind, rule-broken, passing, refused, ended, turn, table-after}
 use Rattle.text.proofs.read_by.Statement.{statement}
 
@@ -104,8 +104,8 @@ numbers : (c : tie.Else2 Inv-loop μ-loop)
     → let l = line-at c in Fitting (length (text (first l))) (l .loop .at) (l .loop .stored) (length (lent (first l))) (count l)
 numbers c = passing _ _ _ _ _ _ _ _ (progress (line-at c)) (c .before .before .before .loop-test .taken) (passes c)
 
-measured : (c : tie.Else2 Inv-loop μ-loop) → c .before .before .size .result ≡ 5 * count (line-at c)
-measured c = c .before .before .size .ensures
+measured : (c : tie.Else2 Inv-loop μ-loop) → c .before .before .end .result ≡ line-at c .loop .at + 5 * count (line-at c)
+measured c = c .before .before .end .ensures ∙ behind-some (line-at c .loop .at) (count (line-at c)) (numbers c .some)
 
 -- the table is as it was lent, past the words stored
 kept : (c : tie.At-loop Inv-loop μ-loop) → drop (c .loop .stored) (c .loop .table) ≡ drop (c .loop .stored) (lent (first c))
@@ -163,8 +163,8 @@ loop-holds c =
     subst (λ (n : ℕ). Progress (text l) (begun c) n (order c) (begun c) 10 1 2) (sym (sized c))
     (subst (λ (t : List ℕ). Progress (text l) t room (order c) t 10 1 2) (sym (begins c)) p)
 
-size-requires : tie.Need-size-requires Inv-loop μ-loop
-size-requires c κs = (known (first (c .before)), omega (arith, progress (c .before) .within))
+end-requires : tie.Need-end-requires Inv-loop μ-loop
+end-requires c κs = (known (first (c .before)), omega (arith, progress (c .before) .within))
 
 frame-rule-requires : tie.Need-frame-rule-requires Inv-loop μ-loop
 frame-rule-requires c κs =
@@ -173,7 +173,7 @@ frame-rule-requires c κs =
     let room = length (lent (first l)) in (
       known (first l),
       p .within,
-      c .size .ensures,
+      c .end .ensures,
       rw (first l .before .limit .ensures) (limit-least room (l .loop .stored) (p .fits) (p .limit)),
       rw (first l .before .limit .ensures) (limit-most room),
     )
@@ -197,9 +197,6 @@ mul-table c = search needs
 
 slice-write-table-3 : tie.Need-slice-write-table-3 Inv-loop μ-loop
 slice-write-table-3 c = let p = c .before in let f = numbers p in omega (arith, f .room-left, f .some, progress (line-at p) .size)
-
-add-end : tie.Need-add-end Inv-loop μ-loop
-add-end c = let p = c .before in let f = numbers p in let g = first (line-at p) .before .before .before .before .good in record { fits = omega (arith, f .inside, measured p) }
 
 add-store : tie.Need-add-store Inv-loop μ-loop
 add-store c = let p = c .before in let f = numbers p in let g = first (line-at p) .before .before .before .before .good in record { fits = omega (arith, f .inside, f .some) }
@@ -232,13 +229,12 @@ loop-again c =
     let k = l .loop in
     let t = text (first l) in
     let n = count l in
-    let size = p .before .before .size .result in
+    let end = p .before .before .end .result in
     let v = c .before .before .before .before .value3 in
     let stored = c .before .before .store in
     let f = numbers p in
     let z = measured p in
-    let e : k .at + 5 * n ≡ k .at + size = omega arith in
-    let m : (k .at + size - (k .at + 5)) / 5 ≡ n - 1 = omega (arith, f .some) in
+    let m : (end - (k .at + 5)) / 5 ≡ n - 1 = omega (arith, f .some) in
     let o : k .stored + n ≡ stored .result = omega (arith, f .some, stored .ensures .0, m) in
     let w = stored .ensures .1
     ∙ ap (λ (x : ℕ). sets (set (k .table) (k .stored) (v .result)) (k .stored + 1) (wordsAt x (drop (k .at + 5) t))) m
@@ -248,9 +244,9 @@ loop-again c =
     let room = length (lent (first l)) in
     let next = turn _ _ _ _ _ _ _ _ (progress l) (p .before .before .before .loop-test .taken) (passes p) in
     let table = stored .last .1 .1 .1 .1 .0 in
-    subst (λ (x : ℕ). after x table (k .at + size) (stored .result)) (sym (sized (l .before)))
-    (subst (λ (x : ℕ). after room table (k .at + size) x) o
-    (subst (λ (x : ℕ). after room table x (k .stored + n)) e
+    subst (λ (x : ℕ). after x table end (stored .result)) (sym (sized (l .before)))
+    (subst (λ (x : ℕ). after room table end x) o
+    (subst (λ (x : ℕ). after room table x (k .stored + n)) (sym z)
     (subst (λ (x : List ℕ). after room x (k .at + 5 * n) (k .stored + n)) (sym w) next)))
 
 same-length-2 : tie.Need-same-length-2 Inv-loop μ-loop
@@ -277,14 +273,13 @@ read-by-spec =
     slice-write-table
     slice-write-table-2
     loop-holds
-    size-requires
+    end-requires
     frame-rule-requires
     same-length
     returns-2
     value-requires-3
     mul-table
     slice-write-table-3
-    add-end
     add-store
     add-store-2
     store-requires

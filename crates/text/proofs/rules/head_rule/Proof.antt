@@ -1,15 +1,15 @@
 -- `text::rules::head_rule` meets its contract: each return decides the tests before it.
-use mathlib.Core.Path.{_≡_, sym}
-use Prim.Native.Nat.{ℕ, _*_, _≤_}
+use mathlib.Core.Path.{_≡_, sym, _∙_}
+use Prim.Native.Nat.{ℕ, _*_, _≤_, _<_}
 use native.Mathlib.Omega.{arith}
 use lib.ListN.{length}
 use denote.Ref.{now}
 use borrow.Author.Tests.{ne-eqb, lt-ltb, le-leb, lt-leb}
 use borrow.Author.Needs.{needs}
 use Rattle.text.specs.Reader.{roomRule}
-use Rattle.text.specs.Scan.{countFrom, ruled}
+use Rattle.text.specs.Scan.{countFrom, behindLine, ruled}
 use Rattle.text.proofs.rules.head_rule.Tie as tie
-use Rattle.text.proofs.Scanning.{room-word}
+use Rattle.text.proofs.Scanning.{behind-none, behind-known, room-word}
 use Rattle.text.proofs.Reading.{line-fits}
 use Rattle.text.proofs.rules.head_rule.Statement.{statement}
 
@@ -17,11 +17,17 @@ use Rattle.text.proofs.rules.head_rule.Statement.{statement}
 abbrev count : tie.Start → ℕ
 count s = countFrom 1 (now (s .args .text))
 
+-- a line of the form ends behind its words
+measured : (c : tie.Else2) → let s = c .before .before .before .before in (c .before .end .result ≡ 5 * count s) × (0 < count s)
+measured c =
+    let s = c .before .before .before .before in
+    let e : c .before .end .result ≡ behindLine 0 (count s) = c .before .end .ensures in
+    let k = behind-known 0 (count s) (λ z. c .if2 .left (e ∙ z)) in
+    (omega (arith, k .0), k .1)
+
 -- a line of ten bytes has two words, and lies in the text
 two : (c : tie.Else3) → count (c .before .before .before .before .before) ≡ 2
-two c =
-    let e : c .before .before .size .result ≡ 5 * count (c .before .before .before .before .before) = c .before .before .size .ensures in
-    omega (arith, c .if3 .left)
+two c = omega (arith, measured (c .before), c .if3 .left)
 
 inside : (c : tie.Else3) → 10 ≤ length (now (c .before .before .before .before .before .args .text))
 inside c = omega (arith, line-fits (now (c .before .before .before .before .before .args .text)), two c)
@@ -29,16 +35,19 @@ inside c = omega (arith, line-fits (now (c .before .before .before .before .befo
 returns : tie.Need-returns
 returns c = rw (c .if1 .taken)
 
-size-requires : tie.Need-size-requires
-size-requires c κs = search needs
+end-requires : tie.Need-end-requires
+end-requires c κs = search needs
 
 returns-2 : tie.Need-returns-2
-returns-2 c = let s = c .before .before .before .before in let t = now (s .args .text) in let e : c .before .size .result ≡ 5 * count s = c .before .size .ensures in
-    let z : count s ≡ 0 = omega arith in
+returns-2 c = let s = c .before .before .before .before in let t = now (s .args .text) in let e : c .before .end .result ≡ behindLine 0 (count s) = c .before .end .ensures in
+    let z : count s ≡ 0 = behind-none 0 (count s) (sym e ∙ c .if2 .taken) in
     rw (lt-ltb 0 (length t) (omega arith), z)
 
 returns-3 : tie.Need-returns-3
-returns-3 c = let s = c .before .before .before .before .before in let t = now (s .args .text) in let e : c .before .before .size .result ≡ 5 * count s = c .before .before .size .ensures in
+returns-3 c =
+    let s = c .before .before .before .before .before in
+    let t = now (s .args .text) in
+    let h = measured (c .before) in
     rw (lt-ltb 0 (length t) (omega arith), lt-ltb 0 (count s) (omega arith), ne-eqb (count s) 2 (λ z. c .if3 .taken (omega arith)))
 
 value-requires : tie.Need-value-requires
@@ -75,7 +84,7 @@ head-rule-spec =
     tie.close
     (tie.spec
     returns
-    size-requires
+    end-requires
     returns-2
     returns-3
     value-requires

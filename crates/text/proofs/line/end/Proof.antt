@@ -1,4 +1,4 @@
--- `text::line::size` meets its contract. The loop's invariant: the count of words is that from here on, behind those passed; the measure is what is left of the text.
+-- `text::line::end` meets its contract. The loop's invariant: the count of words is that from here on, behind those passed; the measure is what is left of the text.
 use mathlib.Core.Path.{_≡_, refl, ap, _∙_}
 use mathlib.Core.Bool.{cond}
 use Prim.Native.Nat.{ℕ, _+_, _*_, _-_, _/_, _≤_}
@@ -9,9 +9,9 @@ use denote.Ref.{now}
 use borrow.Author.Tests.{eq-eqb, ne-eqb, not-true, not-false}
 use Rattle.text.specs.Lines.{lineFeed, space}
 use Rattle.text.specs.Scan.{countFrom}
-use Rattle.text.proofs.line.size.Tie as tie
-use Rattle.text.proofs.Scanning.{count-turn, count-end}
-use Rattle.text.proofs.line.size.Statement.{statement}
+use Rattle.text.proofs.line.end.Tie as tie
+use Rattle.text.proofs.Scanning.{count-turn, count-end, behind-some}
+use Rattle.text.proofs.line.end.Statement.{statement}
 
 abbrev Inv-loop : tie.InvT-loop
 Inv-loop codes text at last i₀ i = (i ≤ length text) × (at + 5 * ((i - at) / 5) ≡ i)
@@ -38,7 +38,7 @@ counted c =
     rw (c .is-word .ensures) (k .inv .2 ∙ count-turn ((k .i - a .at) / 5 + 1) (now (a .text)) (k .i) (omega arith))
 
 returns : tie.Need-returns Inv-loop μ-loop
-returns c = let a = c .before .before .args in omega (arith, count-end 1 (now (a .text)) (a .at) (omega arith))
+returns c = let a = c .before .before .args in rw (count-end 1 (now (a .text)) (a .at) (omega arith))
 
 sub-last : tie.Need-sub-last Inv-loop μ-loop
 sub-last c = omega arith
@@ -52,7 +52,7 @@ is-word-requires : tie.Need-is-word-requires Inv-loop μ-loop
 is-word-requires c κs = (c .before .before .before .before .pre .0, omega arith)
 
 returns-2 : tie.Need-returns-2 Inv-loop μ-loop
-returns-2 c = let e : all (c .before .before .before .before .before .before) ≡ 0 = counted (c .before) ∙ rw (not-true (c .before .is-word .result) (c .if2 .taken)) in omega arith
+returns-2 c = let e : all (c .before .before .before .before .before .before) ≡ 0 = counted (c .before) ∙ rw (not-true (c .before .is-word .result) (c .if2 .taken)) in rw e
 
 add-mark : tie.Need-add-mark Inv-loop μ-loop
 add-mark c = omega arith
@@ -63,19 +63,16 @@ shared-slice-read-mark c = omega arith
 add-i : tie.Need-add-i Inv-loop μ-loop
 add-i c = omega arith
 
-sub-result : tie.Need-sub-result Inv-loop μ-loop
-sub-result c = omega arith
-
 returns-3 : tie.Need-returns-3 Inv-loop μ-loop
 returns-3 c =
     let s = c .before .before .before .before .before .before .before .before .before in
     let e : all s ≡ (c .before .before .before .before .before .before .loop .i - s .args .at) / 5 + 1 = counted (c .before .before .before .before) ∙ rw (not-false (c .before .before .before .before .is-word .result) (c .before .before .before .if2 .left), eq-eqb _ _ (c .if4 .taken)) in
-    omega arith
+    omega (arith, behind-some (s .args .at) (all s) (omega arith))
 
 returns-4 : tie.Need-returns-4 Inv-loop μ-loop
 returns-4 c =
     let e : all (c .before .before .before .before .before .before .before .before .before) ≡ 0 = counted (c .before .before .before .before) ∙ rw (not-false (c .before .before .before .before .is-word .result) (c .before .before .before .if2 .left), ne-eqb _ _ (c .if4 .left), ne-eqb _ _ (c .before .if3 .taken)) in
-    omega arith
+    rw e
 
 loop-less : tie.Need-loop-less Inv-loop μ-loop
 loop-less c = omega arith
@@ -91,10 +88,10 @@ loop-again c =
 
 returns-5 : tie.Need-returns-5 Inv-loop μ-loop
 returns-5 c = let a = c .before .before .before .before .args in let k = c .before .loop in
-    omega (arith, k .inv .2 ∙ count-end ((k .i - a .at) / 5 + 1) (now (a .text)) (k .i) (omega arith))
+    rw (k .inv .2 ∙ count-end ((k .i - a .at) / 5 + 1) (now (a .text)) (k .i) (omega arith))
 
-pub size-spec : {M : Type 1} → statement M
-size-spec =
+pub end-spec : {M : Type 1} → statement M
+end-spec =
     tie.close
     (tie.spec
     Inv-loop
@@ -107,7 +104,6 @@ size-spec =
     add-mark
     shared-slice-read-mark
     add-i
-    sub-result
     returns-3
     returns-4
     loop-less
