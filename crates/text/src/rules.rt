@@ -15,12 +15,12 @@ pub(crate) fn limit(room: usize) -> usize
     if room <= 8192 { room } else { 8192 }
 }
 
-// 21: a line's words, of five bytes each, fit the table behind those stored, and do not pass 8,192.
-fn room_rule(room: usize, stored: usize, size: usize) -> usize
+// 21: a line's words fit the table behind those stored, and do not pass 8,192.
+fn room_rule(room: usize, stored: usize, count: usize) -> usize
     requires { ⌜ (stored ≤ room) × (room ≤ 8192) ⌝ }
-    ensures { λ r. ⌜ ((n count : ℕ) → size ≡ 5 * count → ruled r n 0 ≡ roomRule room n (stored + count)) ⌝ }
+    ensures { λ r. ⌜ ((n : ℕ) → ruled r n 0 ≡ roomRule room n (stored + count)) ⌝ }
 {
-    if 5 * (room - stored) < size { 21 } else { 0 }
+    if room - stored < count { 21 } else { 0 }
 }
 
 // The first line: 3 where there is none; 20; 3, two words and kind 0; 4, its d; 21.
@@ -48,7 +48,7 @@ pub(crate) fn head_rule(codes: &[u8; 512], text: &[u8], room: usize) -> usize
     if 8 < d {
         return 4;
     }
-    room_rule(room, 0, end)
+    room_rule(room, 0, 2)
 }
 
 // The word at which the first line breaks a rule.
@@ -82,9 +82,9 @@ pub(crate) fn frame_rule(
         return 5;
     }
     let shape = kinds::decide(kind, d);
-    let size = end - at;
-    if size != 5 * shape.words + 5 {
+    let count = shape.words + 1;
+    if end - at != 5 * count {
         return 6;
     }
-    room_rule(room, stored, size)
+    room_rule(room, stored, count)
 }

@@ -1,5 +1,5 @@
 -- `text::rules::frame_rule` meets its contract: each return decides the tests before it.
-use mathlib.Core.Path.{_≡_, sym, ap, _∙_}
+use mathlib.Core.Path.{_≡_, sym, ap, subst, _∙_}
 use Prim.Native.Nat.{ℕ, suc, _+_, _*_, _≤_, _<_}
 use native.Mathlib.Omega.{arith}
 use lib.ListN.{drop, length-drop}
@@ -8,7 +8,8 @@ use borrow.Author.Tests.{eq-eqb, ne-eqb, lt-ltb, le-leb, lt-leb}
 use borrow.Author.Needs.{needs}
 use Rattle.checker.specs.declared.kinds.Shape.{Shape}
 use Rattle.circuit.specs.Kinds.{words, kindOf}
-use Rattle.text.specs.Scan.{countFrom}
+use Rattle.text.specs.Reader.{roomRule}
+use Rattle.text.specs.Scan.{countFrom, ruled}
 use Rattle.text.proofs.rules.frame_rule.Tie as tie
 use Rattle.text.proofs.Reading.{line-fits}
 use Rattle.text.proofs.Scanning.{behind-none, behind-known, words-most}
@@ -51,14 +52,14 @@ returns-3 c = let s = c .before .before .before .before .before in let a = s .ar
 decide-requires : tie.Need-decide-requires
 decide-requires c κs = search needs
 
-sub-size : tie.Need-sub-size
-sub-size c = omega (arith, measured (c .before .before .before .before))
+add-count : tie.Need-add-count
+add-count c = record { fits = omega (arith, small c) }
+
+sub-if4 : tie.Need-sub-if4
+sub-if4 c = omega (arith, measured (c .before .before .before .before .before))
 
 mul-if4 : tie.Need-mul-if4
 mul-if4 c = record { fits = omega (arith, small c) }
-
-add-if4 : tie.Need-add-if4
-add-if4 c = record { fits = omega (arith, small c) }
 
 returns-4 : tie.Need-returns-4
 returns-4 c = let s = c .before .before .before .before .before .before .before .before in let a = s .args in let m = count s in let h = measured (c .before .before .before .before .before .before) in let k = c .before .before .before .before .before .value in
@@ -71,7 +72,8 @@ room-rule-requires c κs = search needs
 returns-5 : tie.Need-returns-5
 returns-5 c = let s = c .before .before .before .before .before .before .before .before .before in let a = s .args in let m = count s in let h = measured (c .before .before .before .before .before .before .before) in let k = c .before .before .before .before .before .before .value in
     let w = ap (λ (x : Shape). x .words) (c .before .before .before .decide .ensures) in
-    λ n. rw (sym (k .ensures), lt-ltb 0 m (omega arith), le-leb 1 (k .result) (omega arith), le-leb (k .result) 8 (omega arith), eq-eqb m (suc (words (a .d) (kindOf (k .result)))) (omega arith)) (c .room-rule .ensures n m (omega arith))
+    let e : c .before .before .before .decide .result .words + 1 ≡ m = omega arith in
+    λ n. rw (sym (k .ensures), lt-ltb 0 m (omega arith), le-leb 1 (k .result) (omega arith), le-leb (k .result) 8 (omega arith), eq-eqb m (suc (words (a .d) (kindOf (k .result)))) (omega arith)) (subst (λ (x : ℕ). ruled (c .room-rule .result) n 0 ≡ roomRule (a .room) n (a .stored + x)) e (c .room-rule .ensures n))
 
 pub frame-rule-spec : {M : Type 1} → statement M
 frame-rule-spec =
@@ -82,9 +84,9 @@ frame-rule-spec =
     returns-2
     returns-3
     decide-requires
-    sub-size
+    add-count
+    sub-if4
     mul-if4
-    add-if4
     returns-4
     room-rule-requires
     returns-5)

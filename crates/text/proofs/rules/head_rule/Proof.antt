@@ -76,7 +76,7 @@ returns-7 c =
     let a = c .before .before .before .before .before .before .before .before .before .before .before .args in
     let r = c .room-rule .result in
     let k = c .before .before .before .value2 in
-    let e : ruled r 0 0 ≡ roomRule (a .room) 0 2 = c .room-rule .ensures 0 2 (c .before .before .before .before .before .before .if3 .left) in
+    let e : ruled r 0 0 ≡ roomRule (a .room) 0 2 = c .room-rule .ensures 0 in
     rw (sym (c .before .before .before .before .before .value .ensures), sym (k .ensures), lt-ltb 0 (length (now (a .text))) (omega arith), two (c .before .before .before .before .before .before), c .before .before .before .before .if4 .left, le-leb 2 (k .result) (omega arith), le-leb (k .result) 8 (omega arith), room-word r (a .room) 2 e) e
 
 pub head-rule-spec : {M : Type 1} → statement M
