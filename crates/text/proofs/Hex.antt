@@ -1,17 +1,16 @@
 -- Hexadecimal digits and words, as the code reads them.
-use mathlib.Core.Path.{_≡_, refl, sym, ap, _∙_}
-use mathlib.Core.Bool.{true, false}
-use mathlib.Core.List.{List, [], _∷_}
-use Prim.Native.Nat.{ℕ, suc, _+_, _*_, _≤_, _<_}
+use mathlib.Core.Path.{_≡_, ap, _∙_}
+use mathlib.Core.Bool.{true, _&&_}
+use mathlib.Core.List.{List, _∷_}
+use Prim.Native.Nat.{ℕ, suc, _+_, _*_, _%_, _≤_}
 use native.Mathlib.Omega.{arith}
 use lib.Dec.{leb}
-use lib.ListN.{length, getD, drop, length-drop}
+use lib.ListN.{length, getD, drop}
 use lib.Seq.{drop-cons}
-use borrow.Author.Tests.{leb-true}
-use Rattle.circuit.proofs.Base.{cases, and-right}
-use Rattle.text.specs.declared.digits.Word.{Word}
+use borrow.Author.Tests.{leb-true, le-leb, lt-leb}
+use Rattle.circuit.proofs.Base.{cases, and-left, and-right}
 use Rattle.text.specs.Lines.{isDecimal, isLetter, isDigit, digit, areDigits, word}
-use Rattle.text.specs.Scan.{digitCode, wordCode, wordIn}
+use Rattle.text.specs.Scan.{digitCode, upperCode, valueOf, valueIn}
 
 digit-small : (b : ℕ) → isDigit b ≡ true → digit b ≤ 15
 digit-small b h = cases (isDecimal b)
@@ -19,16 +18,48 @@ digit-small b h = cases (isDecimal b)
     (λ e. let k : isLetter b ≡ true = rw e at h in
     let l = leb-true b 70 (and-right (leb 65 b) (leb b 70) k) in rw e (omega arith))
 
--- a byte whose code is at most 15 is a digit of that value; another is none
-pub is-digit : (b : ℕ) → digitCode b ≤ 15 → isDigit b ≡ true
-is-digit b h = cases (isDigit b) (λ e. e) (λ e. let k : 16 ≤ 15 = rw e at h in absurd (omega arith))
+-- two bytes of two digits each
+value : (a b c e : ℕ) → a ≤ 15 → b ≤ 15 → c ≤ 15 → e ≤ 15 → (a * 16 + b) % 256 * 256 + (c * 16 + e) % 256 ≡ a * 4096 + b * 256 + c * 16 + e
+value a b c e p q r s = omega arith
 
-pub digit-value : (b : ℕ) → digitCode b ≤ 15 → digitCode b ≡ digit b
-digit-value b h = rw (is-digit b h)
+-- the codes of a byte
+pub code-small : (b : ℕ) → digitCode b ≤ 63
+unfolding digitCode
+code-small b = cases (isDigit b) (λ e. rw e (omega (arith, digit-small b e))) (λ e. rw e (omega arith))
 
-pub no-digit : (b : ℕ) → 15 < digitCode b → isDigit b ≡ false
-no-digit b h = cases (isDigit b)
-    (λ e. let k : 15 < digit b = rw e at h in absurd (omega (arith, digit-small b e))) (λ e. e)
+pub upper-small : (b : ℕ) → upperCode b ≤ 240
+unfolding upperCode
+upper-small b = cases (isDigit b) (λ e. rw e (omega (arith, digit-small b e))) (λ e. rw e (omega arith))
+
+module _ (a b c e : ℕ) where
+  -- four digits have codes of 60 at most together, other bytes have more
+  pub sum-of-codes : leb (digitCode a + digitCode b + digitCode c + digitCode e) 60 ≡ areDigits a b c e
+  unfolding digitCode
+  sum-of-codes = cases (isDigit a)
+      (λ p. cases (isDigit b)
+      (λ q. cases (isDigit c)
+      (λ r. cases (isDigit e)
+      (λ s. rw (p, q, r, s) (le-leb (digit a + digit b + digit c + digit e) 60
+      (omega (arith, digit-small a p, digit-small b q, digit-small c r, digit-small e s))))
+      (λ s. rw (p, q, r, s) (lt-leb (digit a + digit b + digit c + 63) 60 (omega arith))))
+      (λ r. rw (p, q, r) (lt-leb (digit a + digit b + 63 + digitCode e) 60 (omega arith))))
+      (λ q. rw (p, q) (lt-leb (digit a + 63 + digitCode c + digitCode e) 60 (omega arith))))
+      (λ p. rw p (lt-leb (63 + digitCode b + digitCode c + digitCode e) 60 (omega arith)))
+
+  pub word-value : areDigits a b c e ≡ true → valueOf a b c e ≡ word a b c e
+  unfolding valueOf digitCode upperCode
+  word-value h =
+      let k = and-left (isDigit a && isDigit b && isDigit c) (isDigit e) h in
+      let l = and-left (isDigit a && isDigit b) (isDigit c) k in
+      let p = and-left (isDigit a) (isDigit b) l in
+      let q = and-right (isDigit a) (isDigit b) l in
+      let r = and-right (isDigit a && isDigit b) (isDigit c) k in
+      let s = and-right (isDigit a && isDigit b && isDigit c) (isDigit e) h in
+      let sa = digit-small a p in
+      let sb = digit-small b q in
+      let sc = digit-small c r in
+      let se = digit-small e s in
+      rw (p, q, r, s) (value (digit a) (digit b) (digit c) (digit e) sa sb sc se)
 
 -- four bytes, and five, at a place of a text
 pub four : (l : List ℕ) (i : ℕ) → i + 4 ≤ length l
@@ -52,53 +83,8 @@ five l i h =
     ∙ ap (λ (r : List ℕ). getD l i 0 ∷ getD l (i + 1) 0 ∷ getD l (i + 2) 0 ∷ getD l (i + 3) 0 ∷ r)
     (drop-cons l (i + 4) 0 (omega arith) ∙ ap (λ (n : ℕ). getD l (i + 4) 0 ∷ drop n l) e)
 
--- the word at a place: four bytes, each judged by its code
-abbrev pub noWord : Word
-noWord = wordCode false 0
-
-short-word : (bytes : List ℕ) → length bytes < 4 → wordIn bytes ≡ noWord
-unfolding wordIn
-short-word [] h = refl
-short-word (a ∷ []) h = refl
-short-word (a ∷ b ∷ []) h = refl
-short-word (a ∷ b ∷ c ∷ []) h = refl
-short-word (a ∷ b ∷ c ∷ e ∷ rest) h = absurd (omega arith)
-
-pub word-past : (l : List ℕ) (i : ℕ) → length l < i + 4 → noWord ≡ wordIn (drop i l)
-word-past l i h = sym (short-word (drop i l) (simp length-drop (omega arith)))
-
-module _ (l : List ℕ) (i : ℕ) (h : i + 4 ≤ length l) where
-  abbrev a : ℕ
-  a = getD l i 0
-
-  abbrev b : ℕ
-  b = getD l (i + 1) 0
-
-  abbrev c : ℕ
-  c = getD l (i + 2) 0
-
-  abbrev e : ℕ
-  e = getD l (i + 3) 0
-
-  none : areDigits a b c e ≡ false → noWord ≡ wordIn (drop i l)
-  unfolding wordIn
-  none k = rw (four l i h, k)
-
-  pub bad-first : 15 < digitCode a → noWord ≡ wordIn (drop i l)
-  bad-first p = none (rw (no-digit a p))
-
-  pub bad-second : digitCode a ≤ 15 → 15 < digitCode b → noWord ≡ wordIn (drop i l)
-  bad-second p q = none (rw (is-digit a p, no-digit b q))
-
-  pub bad-third : digitCode a ≤ 15 → digitCode b ≤ 15 → 15 < digitCode c → noWord ≡ wordIn (drop i l)
-  bad-third p q r = none (rw (is-digit a p, is-digit b q, no-digit c r))
-
-  pub bad-fourth : digitCode a ≤ 15 → digitCode b ≤ 15 → digitCode c ≤ 15 → 15 < digitCode e → noWord ≡ wordIn (drop i l)
-  bad-fourth p q r s = none (rw (is-digit a p, is-digit b q, is-digit c r, no-digit e s))
-
-  pub all-digits : digitCode a ≤ 15 → digitCode b ≤ 15 → digitCode c ≤ 15 → digitCode e ≤ 15
-      → wordCode true (digitCode a * 4096 + digitCode b * 256 + digitCode c * 16 + digitCode e) ≡ wordIn (drop i l)
-  unfolding wordIn
-  all-digits p q r s =
-      let k : areDigits a b c e ≡ true = rw (is-digit a p, is-digit b q, is-digit c r, is-digit e s) in
-      rw (four l i h, k, digit-value a p, digit-value b q, digit-value c r, digit-value e s)
+-- the value at a place
+pub value-at : (l : List ℕ) (i : ℕ) → i + 4 ≤ length l
+    → valueIn (drop i l) ≡ valueOf (getD l i 0) (getD l (i + 1) 0) (getD l (i + 2) 0) (getD l (i + 3) 0)
+unfolding valueIn
+value-at l i h = rw (four l i h)

@@ -1,4 +1,5 @@
 -- What is proved of the definitions, for the code and of the texts that are accepted.
+pub mod Table
 pub mod Hex
 pub mod Scanning
 pub mod Splitting

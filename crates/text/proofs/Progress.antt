@@ -15,7 +15,7 @@ use Rattle.circuit.proofs.Base.{and-left, and-right}
 use Rattle.text.specs.Lines.{linesOf}
 use Rattle.text.specs.Reader.{onward, frameLines, readText, roomRule}
 use Rattle.text.specs.Answer.{tableAfter}
-use Rattle.text.specs.Scan.{wordIn, countFrom, wordsAt, ruled, headByCount, frameByCount}
+use Rattle.text.specs.Scan.{valueIn, countFrom, wordsAt, ruled, headByCount, frameByCount}
 use Rattle.text.proofs.Reading.{then-pass, need-pass, words-length, stop, frame-line, head-line, line-fits}
 
 -- at the head of the loop: the answer is that of the lines from here on, and the table is touched only up to `stored`
@@ -79,7 +79,7 @@ module _ (text table₀ : List ℕ) (room d : ℕ) (table : List ℕ) (at line s
   bytes = drop at text
 
   abbrev judgement : Judgement
-  judgement = frameByCount room d line stored (wordIn bytes .value) (countFrom 1 bytes)
+  judgement = frameByCount room d line stored (valueIn bytes) (countFrom 1 bytes)
 
   -- the answer by the line here
   here : at < length text → readText text room ≡ onward judgement (take stored table)
@@ -101,10 +101,10 @@ module _ (text table₀ : List ℕ) (room d : ℕ) (table : List ℕ) (at line s
   -- a line that passes: its numbers, and the loop's turn
   pub passing : at < length text → pass ≡ judgement → Fitting (length text) at stored room (countFrom 1 bytes)
   passing h e =
-      let fit = frame-room room d line stored (wordIn bytes .value) (countFrom 1 bytes) (sym e) in
+      let fit = frame-room room d line stored (valueIn bytes) (countFrom 1 bytes) (sym e) in
       record {
         inside = omega (arith, line-fits bytes, length-drop at text);
-        some = frame-count room d line stored (wordIn bytes .value) (countFrom 1 bytes) (sym e);
+        some = frame-count room d line stored (valueIn bytes) (countFrom 1 bytes) (sym e);
         room-left = fit .0;
         limit = fit .1;
       }
@@ -133,7 +133,7 @@ module _ (text table₀ : List ℕ) (room d : ℕ) (table : List ℕ) (at line s
 
 -- the first line: it breaks a rule, or the loop starts behind it
 abbrev pub headHere : List ℕ → ℕ → Judgement
-headHere text room = headByCount room (length text) (countFrom 1 text) (wordIn text .value) (wordIn (drop 5 text) .value)
+headHere text room = headByCount room (length text) (countFrom 1 text) (valueIn text) (valueIn (drop 5 text))
 
 pub head-refused : (text : List ℕ) (room r w : ℕ) → refuse r 0 w ≡ headHere text room → readText text room ≡ stop [] (refuse r 0 w)
 head-refused text room r w e = head-line room text ∙ rw (sym e)
@@ -143,8 +143,8 @@ module _ (text table : List ℕ) (room : ℕ) (e : pass ≡ headHere text room) 
   count = countFrom 1 text
 
   abbrev lineRules : Judgement
-  lineRules = need (eqb count 2 && eqb (wordIn text .value) 0) 3 0 0
-      then need (leb 2 (wordIn (drop 5 text) .value) && leb (wordIn (drop 5 text) .value) 8) 4 0 1
+  lineRules = need (eqb count 2 && eqb (valueIn text) 0) 3 0 0
+      then need (leb 2 (valueIn (drop 5 text)) && leb (valueIn (drop 5 text)) 8) 4 0 1
 
   parts : ((need (ltb 0 count) 20 0 0 then lineRules) ≡ pass) × (roomRule room 0 count ≡ pass)
   parts = both-pass (need (ltb 0 count) 20 0 0 then lineRules) (roomRule room 0 count)
@@ -153,15 +153,15 @@ module _ (text table : List ℕ) (room : ℕ) (e : pass ≡ headHere text room) 
   two : count ≡ 2
   two =
       let k = then-pass (ltb 0 count) 20 0 0 lineRules (parts .0) .1 in
-      eqb-true count 2 (and-left (eqb count 2) (eqb (wordIn text .value) 0)
-      (then-pass (eqb count 2 && eqb (wordIn text .value) 0) 3 0 0
-      (need (leb 2 (wordIn (drop 5 text) .value) && leb (wordIn (drop 5 text) .value) 8) 4 0 1) k .0))
+      eqb-true count 2 (and-left (eqb count 2) (eqb (valueIn text) 0)
+      (then-pass (eqb count 2 && eqb (valueIn text) 0) 3 0 0
+      (need (leb 2 (valueIn (drop 5 text)) && leb (valueIn (drop 5 text)) 8) 4 0 1) k .0))
 
   pub head-fits : (10 ≤ length text) × (2 ≤ room)
   head-fits = (omega (arith, two, line-fits text), omega (arith, two, room-passes room 0 count (parts .1) .0))
 
   pub start : length table ≡ room
-      → Progress text (sets table 0 (wordsAt 2 text)) room (wordIn (drop 5 text) .value) (sets table 0 (wordsAt 2 text)) 10 1 2
+      → Progress text (sets table 0 (wordsAt 2 text)) room (valueIn (drop 5 text)) (sets table 0 (wordsAt 2 text)) 10 1 2
   unfolding wordsAt
   start z =
       let ws = wordsAt 2 text in

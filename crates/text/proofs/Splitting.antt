@@ -9,7 +9,8 @@ use lib.ListN.{length, drop}
 use borrow.Author.Tests.{eqb-true, ne-eqb}
 use Rattle.circuit.proofs.Base.{cases, and-left, and-right}
 use Rattle.text.specs.Lines.{lineFeed, space, isDigit, areDigits, word, Line, line, grow, linesOf, areWords, wordsOn}
-use Rattle.text.specs.Scan.{wordIn, countFrom, wordsAt}
+use Rattle.text.specs.Scan.{valueIn, countFrom, wordsAt}
+use Rattle.text.proofs.Hex.{word-value}
 
 pub firstLine : List ℕ → Line
 firstLine [] = line [] false
@@ -94,20 +95,20 @@ pub data Told (n : ℕ) (bs : List ℕ) (k : ℕ) : Type 0 where
 
 -- a line of one word
 last-word : (n a b c e : ℕ) (rest : List ℕ) → areDigits a b c e ≡ true → Told n (a ∷ b ∷ c ∷ e ∷ lineFeed ∷ rest) n
-unfolding firstLine afterLine areWords wordsOn wordsAt wordIn
+unfolding firstLine afterLine areWords wordsOn wordsAt valueIn
 last-word n a b c e rest h =
     let f = word-first a b c e (lineFeed ∷ rest) h in
-    formed 0 (omega arith) (rw (f, h)) (rw (f, h)) (word-after a b c e (lineFeed ∷ rest) h) (omega arith)
+    formed 0 (omega arith) (rw (f, h)) (rw (f, word-value a b c e h)) (word-after a b c e (lineFeed ∷ rest) h) (omega arith)
 
 -- a word in front of a line
 more-words : (n a b c e : ℕ) (rest : List ℕ) (k : ℕ) → areDigits a b c e ≡ true → Told (suc n) rest k → Told n (a ∷ b ∷ c ∷ e ∷ space ∷ rest) k
-unfolding firstLine afterLine areWords wordsOn wordsAt wordIn
+unfolding firstLine afterLine areWords wordsOn wordsAt valueIn
 more-words n a b c e rest k h (unformed z g) =
     unformed z (rw (word-first a b c e (space ∷ rest) h, h) g)
 more-words n a b c e rest k h (formed m z g w t l) =
     let f = word-first a b c e (space ∷ rest) h in
     let u : 5 * suc (suc m) ≡ suc (suc (suc (suc (suc (5 * suc m))))) = omega arith in
-    formed (suc m) (omega arith) (rw (f, h) g) (rw (f, h) (ap (λ (ws : List ℕ). word a b c e ∷ ws) w))
+    formed (suc m) (omega arith) (rw (f, h) g) (rw (f, word-value a b c e h) (ap (λ (ws : List ℕ). word a b c e ∷ ws) w))
     (word-after a b c e (space ∷ rest) h ∙ rw u t) (omega arith)
 
 -- a word with another byte behind it

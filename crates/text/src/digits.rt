@@ -1,64 +1,89 @@
 // Words of four hexadecimal digits.
 ghost use mathlib.Core.Path.{_≡_};
-ghost use lib.ListN.{drop};
-ghost use Rattle.text.specs.Scan.{digitCode, wordIn};
+ghost use Prim.Native.Nat.{_+_, _≤_};
+ghost use lib.ListN.{length, getD, drop};
+ghost use Rattle.text.specs.Lines.{areDigits};
+ghost use Rattle.text.specs.Scan.{digitCode, upperCode, codeTable, valueIn};
 
-// Whether a word stands at a place of the text, and its value, 0 where none does.
-pub struct Word {
-    pub good: bool,
-    pub value: u16,
+// By a byte, the value of a digit 0-9A-F, and 63 for another byte, which is more than four digits have together; then, by a
+// byte again, sixteen times the value of a digit, and 0 for another byte.
+const CODES: [u8; 512] = *b"\
+    \x3f\x3f\x3f\x3f\x3f\x3f\x3f\x3f\x3f\x3f\x3f\x3f\x3f\x3f\x3f\x3f\
+    \x3f\x3f\x3f\x3f\x3f\x3f\x3f\x3f\x3f\x3f\x3f\x3f\x3f\x3f\x3f\x3f\
+    \x3f\x3f\x3f\x3f\x3f\x3f\x3f\x3f\x3f\x3f\x3f\x3f\x3f\x3f\x3f\x3f\
+    \x00\x01\x02\x03\x04\x05\x06\x07\x08\x09\x3f\x3f\x3f\x3f\x3f\x3f\
+    \x3f\x0a\x0b\x0c\x0d\x0e\x0f\x3f\x3f\x3f\x3f\x3f\x3f\x3f\x3f\x3f\
+    \x3f\x3f\x3f\x3f\x3f\x3f\x3f\x3f\x3f\x3f\x3f\x3f\x3f\x3f\x3f\x3f\
+    \x3f\x3f\x3f\x3f\x3f\x3f\x3f\x3f\x3f\x3f\x3f\x3f\x3f\x3f\x3f\x3f\
+    \x3f\x3f\x3f\x3f\x3f\x3f\x3f\x3f\x3f\x3f\x3f\x3f\x3f\x3f\x3f\x3f\
+    \x3f\x3f\x3f\x3f\x3f\x3f\x3f\x3f\x3f\x3f\x3f\x3f\x3f\x3f\x3f\x3f\
+    \x3f\x3f\x3f\x3f\x3f\x3f\x3f\x3f\x3f\x3f\x3f\x3f\x3f\x3f\x3f\x3f\
+    \x3f\x3f\x3f\x3f\x3f\x3f\x3f\x3f\x3f\x3f\x3f\x3f\x3f\x3f\x3f\x3f\
+    \x3f\x3f\x3f\x3f\x3f\x3f\x3f\x3f\x3f\x3f\x3f\x3f\x3f\x3f\x3f\x3f\
+    \x3f\x3f\x3f\x3f\x3f\x3f\x3f\x3f\x3f\x3f\x3f\x3f\x3f\x3f\x3f\x3f\
+    \x3f\x3f\x3f\x3f\x3f\x3f\x3f\x3f\x3f\x3f\x3f\x3f\x3f\x3f\x3f\x3f\
+    \x3f\x3f\x3f\x3f\x3f\x3f\x3f\x3f\x3f\x3f\x3f\x3f\x3f\x3f\x3f\x3f\
+    \x3f\x3f\x3f\x3f\x3f\x3f\x3f\x3f\x3f\x3f\x3f\x3f\x3f\x3f\x3f\x3f\
+    \x00\x00\x00\x00\x00\x00\x00\x00\x00\x00\x00\x00\x00\x00\x00\x00\
+    \x00\x00\x00\x00\x00\x00\x00\x00\x00\x00\x00\x00\x00\x00\x00\x00\
+    \x00\x00\x00\x00\x00\x00\x00\x00\x00\x00\x00\x00\x00\x00\x00\x00\
+    \x00\x10\x20\x30\x40\x50\x60\x70\x80\x90\x00\x00\x00\x00\x00\x00\
+    \x00\xa0\xb0\xc0\xd0\xe0\xf0\x00\x00\x00\x00\x00\x00\x00\x00\x00\
+    \x00\x00\x00\x00\x00\x00\x00\x00\x00\x00\x00\x00\x00\x00\x00\x00\
+    \x00\x00\x00\x00\x00\x00\x00\x00\x00\x00\x00\x00\x00\x00\x00\x00\
+    \x00\x00\x00\x00\x00\x00\x00\x00\x00\x00\x00\x00\x00\x00\x00\x00\
+    \x00\x00\x00\x00\x00\x00\x00\x00\x00\x00\x00\x00\x00\x00\x00\x00\
+    \x00\x00\x00\x00\x00\x00\x00\x00\x00\x00\x00\x00\x00\x00\x00\x00\
+    \x00\x00\x00\x00\x00\x00\x00\x00\x00\x00\x00\x00\x00\x00\x00\x00\
+    \x00\x00\x00\x00\x00\x00\x00\x00\x00\x00\x00\x00\x00\x00\x00\x00\
+    \x00\x00\x00\x00\x00\x00\x00\x00\x00\x00\x00\x00\x00\x00\x00\x00\
+    \x00\x00\x00\x00\x00\x00\x00\x00\x00\x00\x00\x00\x00\x00\x00\x00\
+    \x00\x00\x00\x00\x00\x00\x00\x00\x00\x00\x00\x00\x00\x00\x00\x00\
+    \x00\x00\x00\x00\x00\x00\x00\x00\x00\x00\x00\x00\x00\x00\x00\x00";
+
+// The codes of the bytes. A caller holds them in an array of its own: the constant is written out anew at each use.
+pub(crate) fn codes() -> [u8; 512]
+    ensures { λ r. ⌜ r ≡ codeTable ⌝ }
+{
+    CODES
 }
 
-// The value of a digit 0-9A-F; 16 for another byte. (A is 65, which is 1 past a multiple of 16.)
-fn digit(b: u8) -> u16
+fn digit(codes: &[u8; 512], b: u8) -> u8
+    requires { ⌜ now codes ≡ codeTable ⌝ }
     ensures { λ r. ⌜ r ≡ digitCode b ⌝ }
 {
-    let n = b as u16;
-    if n < 48 {
-        16
-    } else if n <= 57 {
-        n - 48
-    } else if n < 65 {
-        16
-    } else if n <= 70 {
-        n % 16 + 9
-    } else {
-        16
-    }
+    let n = b as usize;
+    codes[n]
 }
 
-// The word at a place of the text.
-pub(crate) fn word_at(text: &[u8], at: usize) -> Word
-    ensures { λ r. ⌜ r ≡ wordIn (drop at (now (text .entry))) ⌝ }
+fn upper(codes: &[u8; 512], b: u8) -> u8
+    requires { ⌜ now codes ≡ codeTable ⌝ }
+    ensures { λ r. ⌜ r ≡ upperCode b ⌝ }
 {
-    let none = Word {
-        good: false,
-        value: 0,
-    };
-    if text.len() < 4 {
-        return none;
-    }
-    if text.len() - 4 < at {
-        return none;
-    }
-    let a = digit(text[at]);
-    let b = digit(text[at + 1]);
-    let c = digit(text[at + 2]);
-    let e = digit(text[at + 3]);
-    if 15 < a {
-        return none;
-    }
-    if 15 < b {
-        return none;
-    }
-    if 15 < c {
-        return none;
-    }
-    if 15 < e {
-        return none;
-    }
-    Word {
-        good: true,
-        value: a * 4096 + b * 256 + c * 16 + e,
-    }
+    let n = b as usize;
+    codes[256 + n]
+}
+
+// Whether four digits stand at a place of the text.
+pub(crate) fn is_word(codes: &[u8; 512], text: &[u8], at: usize) -> bool
+    requires { ⌜ (now codes ≡ codeTable) × (at + 4 ≤ length (now text)) ⌝ }
+    ensures { λ r. ⌜ r ≡ areDigits (getD (now (text .entry)) at 0) (getD (now (text .entry)) (at + 1) 0) (getD (now (text .entry)) (at + 2) 0) (getD (now (text .entry)) (at + 3) 0) ⌝ }
+{
+    let a = digit(codes, text[at]);
+    let b = digit(codes, text[at + 1]);
+    let c = digit(codes, text[at + 2]);
+    let e = digit(codes, text[at + 3]);
+    a + b + c + e <= 60
+}
+
+// The value of the word at a place of the text; of bytes that are no word, some number.
+pub(crate) fn value(codes: &[u8; 512], text: &[u8], at: usize) -> u16
+    requires { ⌜ (now codes ≡ codeTable) × (at + 4 ≤ length (now text)) ⌝ }
+    ensures { λ r. ⌜ r ≡ valueIn (drop at (now (text .entry))) ⌝ }
+{
+    let a = upper(codes, text[at]) as u16;
+    let b = digit(codes, text[at + 1]) as u16;
+    let c = upper(codes, text[at + 2]) as u16;
+    let e = digit(codes, text[at + 3]) as u16;
+    (a + b) % 256 * 256 + (c + e) % 256
 }

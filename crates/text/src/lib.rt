@@ -3,6 +3,7 @@ ghost use mathlib.Core.Path.{_≡_};
 ghost use lib.ListN.{length};
 ghost use Rattle.text.specs.Reader.{readText};
 ghost use Rattle.text.specs.Answer.{said, textAnswerOf, tableAfter};
+ghost use Rattle.text.specs.Scan.{codeTable};
 
 mod digits;
 mod line;
@@ -26,11 +27,18 @@ pub fn read(text: &[u8], table: &mut [u16]) -> TextVerdict
     ensures answered { λ r. ⌜ said r ≡ textAnswerOf (now (text .entry)) (length (now (table .entry))) ⌝ }
     ensures stored { λ _. ⌜ now (table .exit) ≡ tableAfter (readText (now (text .entry)) (length (now (table .entry)))) (now (table .entry)) ⌝ }
 {
-    let room = table.len();
-    let kind = digits::word_at(text, 0);
-    let order = digits::word_at(text, 5);
-    let d = order.value;
-    let broken = rules::head_rule(room, text.len(), line::count(text, 0), kind.value, d);
+    let codes = digits::codes();
+    read_by(&codes, text, table)
+}
+
+// The same, by the codes of the bytes.
+fn read_by(codes: &[u8; 512], text: &[u8], table: &mut [u16]) -> TextVerdict
+    requires { ⌜ now codes ≡ codeTable ⌝ }
+    ensures answered { λ r. ⌜ said r ≡ textAnswerOf (now (text .entry)) (length (now (table .entry))) ⌝ }
+    ensures stored { λ _. ⌜ now (table .exit) ≡ tableAfter (readText (now (text .entry)) (length (now (table .entry)))) (now (table .entry)) ⌝ }
+{
+    let room = rules::limit(table.len());
+    let broken = rules::head_rule(codes, text, room);
     if broken != 0 {
         return TextVerdict::Refused {
             rule: broken,
@@ -38,14 +46,15 @@ pub fn read(text: &[u8], table: &mut [u16]) -> TextVerdict
             word: rules::head_word(broken),
         };
     }
-    line::store(text, 0, 2, table, 0);
+    let d = digits::value(codes, text, 5);
+    table[0] = digits::value(codes, text, 0);
+    table[1] = d;
     let mut at: usize = 10;
     let mut line: usize = 1;
     let mut stored: usize = 2;
     while at < text.len() {
-        let count = line::count(text, at);
-        let kind = digits::word_at(text, at);
-        let broken = rules::frame_rule(room, d, stored, kind.value, count);
+        let end = line::end(codes, text, at);
+        let broken = rules::frame_rule(codes, text, at, end, d, stored, room);
         if broken != 0 {
             return TextVerdict::Refused {
                 rule: broken,
@@ -53,10 +62,10 @@ pub fn read(text: &[u8], table: &mut [u16]) -> TextVerdict
                 word: 0,
             };
         }
-        line::store(text, at, count, table, stored);
-        at += 5 * count;
+        table[stored] = digits::value(codes, text, at);
+        stored = line::store(codes, text, at + 5, end, table, stored + 1);
+        at = end;
         line += 1;
-        stored += count;
     }
     TextVerdict::Accepted { words: stored }
 }

@@ -1,50 +1,57 @@
-// A line of the text: its words counted, and then stored.
+// A line of the text: where it ends, and its words stored.
 ghost use mathlib.Core.Path.{_≡_};
-ghost use Prim.Native.Nat.{_+_, _*_, _≤_};
+ghost use Prim.Native.Nat.{_+_, _*_, _-_, _/_, _≤_};
 ghost use lib.ListN.{length, drop};
 ghost use lib.Seq.{sets};
-ghost use Rattle.text.specs.Scan.{countFrom, wordsAt};
+ghost use Rattle.text.specs.Scan.{codeTable, countFrom, behindLine, wordsAt};
 use super::digits;
 
-// How many words the line at a place has; 0 where the line is not of the form. Each word is four digits and a byte behind
-// them, the line feed behind the last.
-pub(crate) fn count(text: &[u8], at: usize) -> usize
-    requires { ⌜ at ≤ length (now text) ⌝ }
-    ensures { λ r. ⌜ r ≡ countFrom 1 (drop at (now (text .entry))) ⌝ }
+// The place behind the line at a place; 0 where the line is not of the form. Each word is four digits and a byte behind them,
+// the line feed behind the last.
+pub(crate) fn end(codes: &[u8; 512], text: &[u8], at: usize) -> usize
+    requires { ⌜ (now codes ≡ codeTable) × (at ≤ length (now text)) ⌝ }
+    ensures { λ r. ⌜ r ≡ behindLine at (countFrom 1 (drop at (now (text .entry)))) ⌝ }
 {
+    if text.len() < 5 {
+        return 0;
+    }
+    let last = text.len() - 5;
     let mut i = at;
-    let mut n: usize = 1;
-    while 5 <= text.len() - i {
-        let word = digits::word_at(text, i);
-        if !word.good {
+    while i <= last {
+        if !digits::is_word(codes, text, i) {
             return 0;
         }
         let mark = text[i + 4];
-        if mark == 10 {
-            return n;
-        }
+        i += 5;
         if mark != 32 {
+            if mark == 10 {
+                return i;
+            }
             return 0;
         }
-        i += 5;
-        n += 1;
     }
     0
 }
 
-// Stores the words of the line at a place, of which there are `count`, from the table's word `from` on.
-pub(crate) fn store(text: &[u8], at: usize, count: usize, table: &mut [u16], from: usize)
-    requires { ⌜ (at + 5 * count ≤ length (now text)) × (from + count ≤ length (now table)) ⌝ }
-    ensures { λ _. ⌜ now (table .exit) ≡ sets (now (table .entry)) from (wordsAt count (drop at (now (text .entry)))) ⌝ }
+// Stores the words from a place of the text to another, five bytes each, from the table's word `from` on. The table's word
+// behind them.
+pub(crate) fn store(
+    codes: &[u8; 512],
+    text: &[u8],
+    at: usize,
+    end: usize,
+    table: &mut [u16],
+    from: usize,
+) -> usize
+    requires { ⌜ (now codes ≡ codeTable) × (at + 5 * ((end - at) / 5) ≡ end) × (end ≤ length (now text)) × (from + (end - at) / 5 ≤ length (now table)) ⌝ }
+    ensures { λ r. ⌜ (r ≡ from + (end - at) / 5) × (now (table .exit) ≡ sets (now (table .entry)) from (wordsAt ((end - at) / 5) (drop at (now (text .entry))))) ⌝ }
 {
     let mut i = at;
     let mut to = from;
-    let mut left = count;
-    while 0 < left {
-        let word = digits::word_at(text, i);
-        table[to] = word.value;
+    while i < end {
+        table[to] = digits::value(codes, text, i);
         i += 5;
         to += 1;
-        left -= 1;
     }
+    to
 }

@@ -1,47 +1,54 @@
-// The rules of a line, by its count of words and its first words. A rule's number, 0 where none is broken.
+// The rules of a line, by where it ends and its first words. A rule's number, 0 where none is broken.
 ghost use mathlib.Core.Path.{_≡_};
-ghost use Prim.Native.Nat.{ℕ, _+_, _≤_};
+ghost use Prim.Native.Nat.{ℕ, _+_, _*_, _≤_};
+ghost use lib.ListN.{length, drop};
 ghost use Rattle.text.specs.Reader.{roomRule};
-ghost use Rattle.text.specs.Scan.{ruled, headWord, headByCount, frameByCount};
+ghost use Rattle.text.specs.Scan.{codeTable, limitOf, ruled, headWord, countFrom, behindLine, valueIn, headByCount, frameByCount};
+use super::digits;
+use super::line;
 use checker::kinds;
+
+// How many words are stored at most: as many as the table has room for, and 8,192.
+pub(crate) fn limit(room: usize) -> usize
+    ensures { λ r. ⌜ r ≡ limitOf room ⌝ }
+{
+    if room <= 8192 { room } else { 8192 }
+}
 
 // 21: a line's words fit the table behind those stored, and do not pass 8,192.
 fn room_rule(room: usize, stored: usize, count: usize) -> usize
-    requires { ⌜ (stored ≤ room) × (stored ≤ 8192) ⌝ }
+    requires { ⌜ (stored ≤ room) × (room ≤ 8192) ⌝ }
     ensures { λ r. ⌜ ((n : ℕ) → ruled r n 0 ≡ roomRule room n (stored + count)) ⌝ }
 {
-    if room - stored < count {
-        return 21;
-    }
-    if 8192 - stored < count {
-        return 21;
-    }
-    0
+    if room - stored < count { 21 } else { 0 }
 }
 
-// The first line of a text of `size` bytes: 3 where there is none; 20; 3, two words and kind 0; 4, its d; 21.
-pub(crate) fn head_rule(room: usize, size: usize, count: usize, kind: u16, d: u16) -> usize
-    ensures { λ r. ⌜ ruled r 0 (headWord r) ≡ headByCount room size count kind d ⌝ }
+// The first line: 3 where there is none; 20; 3, two words and kind 0; 4, its d; 21.
+pub(crate) fn head_rule(codes: &[u8; 512], text: &[u8], room: usize) -> usize
+    requires { ⌜ (now codes ≡ codeTable) × (room ≤ 8192) ⌝ }
+    ensures { λ r. ⌜ ruled r 0 (headWord r) ≡ headByCount room (length (now (text .entry))) (countFrom 1 (now (text .entry))) (valueIn (now (text .entry))) (valueIn (drop 5 (now (text .entry)))) ⌝ }
 {
-    if size == 0 {
+    if text.len() == 0 {
         return 3;
     }
-    if count == 0 {
+    let end = line::end(codes, text, 0);
+    if end == 0 {
         return 20;
     }
-    if count != 2 {
+    if end != 10 {
         return 3;
     }
-    if kind != 0 {
+    if digits::value(codes, text, 0) != 0 {
         return 3;
     }
+    let d = digits::value(codes, text, 5);
     if d < 2 {
         return 4;
     }
     if 8 < d {
         return 4;
     }
-    room_rule(room, 0, count)
+    room_rule(room, 0, 2)
 }
 
 // The word at which the first line breaks a rule.
@@ -52,13 +59,22 @@ pub(crate) fn head_word(rule: usize) -> usize
 }
 
 // A later line, behind `stored` words: 20; 5, its kind; 6, the kind's number of words; 21.
-pub(crate) fn frame_rule(room: usize, d: u16, stored: usize, kind: u16, count: usize) -> usize
-    requires { ⌜ (stored ≤ room) × (stored ≤ 8192) ⌝ }
-    ensures { λ r. ⌜ ((n : ℕ) → ruled r n 0 ≡ frameByCount room d n stored kind count) ⌝ }
+pub(crate) fn frame_rule(
+    codes: &[u8; 512],
+    text: &[u8],
+    at: usize,
+    end: usize,
+    d: u16,
+    stored: usize,
+    room: usize,
+) -> usize
+    requires { ⌜ (now codes ≡ codeTable) × (at ≤ length (now text)) × (end ≡ behindLine at (countFrom 1 (drop at (now text)))) × (stored ≤ room) × (room ≤ 8192) ⌝ }
+    ensures { λ r. ⌜ ((n : ℕ) → ruled r n 0 ≡ frameByCount room d n stored (valueIn (drop at (now (text .entry)))) (countFrom 1 (drop at (now (text .entry))))) ⌝ }
 {
-    if count == 0 {
+    if end == 0 {
         return 20;
     }
+    let kind = digits::value(codes, text, at);
     if kind < 1 {
         return 5;
     }
@@ -66,7 +82,8 @@ pub(crate) fn frame_rule(room: usize, d: u16, stored: usize, kind: u16, count: u
         return 5;
     }
     let shape = kinds::decide(kind, d);
-    if count - 1 != shape.words {
+    let count = shape.words + 1;
+    if end - at != 5 * count {
         return 6;
     }
     room_rule(room, stored, count)

@@ -1,63 +1,66 @@
 -- `text::line::store` meets its contract. The loop's invariant: what is stored in all is what is still to be stored from here on.
 use mathlib.Core.Path.{_≡_, refl, sym, ap, _∙_}
-use Prim.Native.Nat.{ℕ, _+_, _*_, _-_, _≤_}
+use Prim.Native.Nat.{ℕ, _+_, _*_, _-_, _/_}
 use native.Mathlib.Omega.{arith}
 use lib.ListN.{set, length, drop, length-set}
 use lib.Seq.{sets}
 use denote.Ref.{now}
 use borrow.Author.Needs.{needs}
-use Rattle.text.specs.declared.digits.Word.{Word}
 use Rattle.text.specs.Scan.{wordsAt}
 use Rattle.text.proofs.line.store.Tie as tie
 use Rattle.text.proofs.Scanning.{store-turn}
 use Rattle.text.proofs.line.store.Statement.{statement}
 
 abbrev Inv-loop : tie.InvT-loop
-Inv-loop text at count table₀ from i₀ to₀ left₀ table i to left = (i + 5 * left ≤ length text) × (to + left ≤ length table) × (length table ≡ length table₀)
-    × (sets table₀ from (wordsAt count (drop at text)) ≡ sets table to (wordsAt left (drop i text)))
+Inv-loop codes text at end table₀ from i₀ to₀ table i to = (i + 5 * ((end - i) / 5) ≡ end) × (to + (end - i) / 5 ≡ from + (end - at) / 5) × (length table ≡ length table₀)
+    × (sets table₀ from (wordsAt ((end - at) / 5) (drop at text)) ≡ sets table to (wordsAt ((end - i) / 5) (drop i text)))
 
 abbrev μ-loop : tie.MeasureT-loop
-μ-loop text at count table₀ from i₀ to₀ left₀ table i to left = left
+μ-loop codes text at end table₀ from i₀ to₀ table i to = end - i
 
 loop-holds : tie.Need-loop-holds Inv-loop μ-loop
-loop-holds c = (omega arith, omega arith, refl, refl)
+loop-holds c = (c .before .before .pre .1, refl, refl, refl)
 
-word-at-requires : tie.Need-word-at-requires Inv-loop μ-loop
-word-at-requires c κs = search needs
+value-requires : tie.Need-value-requires Inv-loop μ-loop
+value-requires c κs = (c .before .before .before .before .pre .0, omega arith)
 
 mul-table : tie.Need-mul-table Inv-loop μ-loop
 mul-table c = search needs
 
 slice-write-table : tie.Need-slice-write-table Inv-loop μ-loop
-slice-write-table c = search needs
+slice-write-table c = omega arith
 
 add-i : tie.Need-add-i Inv-loop μ-loop
-add-i c = search needs
+add-i c = omega arith
 
 add-to : tie.Need-add-to Inv-loop μ-loop
-add-to c = search needs
-
-sub-left : tie.Need-sub-left Inv-loop μ-loop
-sub-left c = search needs
+add-to c = omega arith
 
 loop-less : tie.Need-loop-less Inv-loop μ-loop
-loop-less c = search needs
+loop-less c = omega arith
 
 loop-again : tie.Need-loop-again Inv-loop μ-loop
-loop-again c = let k = c .before .before .loop in let t = now (c .before .before .before .before .before .args .text) in let v = c .word-at .result .value in (
-  omega arith,
-  omega (arith, length-set (k .table) (k .to) v),
-  omega (arith, length-set (k .table) (k .to) v),
-  k .inv .3 ∙ store-turn (k .table) t (k .to) (k .left) (k .i) (omega arith)
-      ∙ ap (λ (x : ℕ). sets (set (k .table) (k .to) x) (k .to + 1) (wordsAt (k .left - 1) (drop (k .i + 5) t))) (sym (ap (λ (w : Word). w .value) (c .word-at .ensures))),
-)
+loop-again c =
+    let a = c .before .before .before .before .before .args in
+    let k = c .before .before .loop in
+    let t = now (a .text) in
+    let v = c .value .result in
+    let left = (a .end - k .i) / 5 in
+    let m : left - 1 ≡ (a .end - (k .i + 5)) / 5 = omega arith in (
+      omega arith,
+      omega arith,
+      omega (arith, length-set (k .table) (k .to) v),
+      k .inv .3 ∙ store-turn (k .table) t (k .to) left (k .i) (omega arith)
+          ∙ ap (λ (x : ℕ). sets (set (k .table) (k .to) x) (k .to + 1) (wordsAt (left - 1) (drop (k .i + 5) t))) (sym (c .value .ensures))
+          ∙ ap (λ (x : ℕ). sets (set (k .table) (k .to) v) (k .to + 1) (wordsAt x (drop (k .i + 5) t))) m,
+    )
 
 same-length : tie.Need-same-length Inv-loop μ-loop
 same-length c = search needs
 
 returns : tie.Need-returns Inv-loop μ-loop
 unfolding wordsAt
-returns c = let k = c .before .loop in let e : k .left ≡ 0 = omega arith in sym (k .inv .3 ∙ rw e)
+returns c = let k = c .before .loop in let e : (c .before .before .before .before .args .end - k .i) / 5 ≡ 0 = omega arith in (omega arith, sym (k .inv .3 ∙ rw e))
 
 pub store-spec : {M : Type 1} → statement M
 store-spec =
@@ -66,12 +69,11 @@ store-spec =
     Inv-loop
     μ-loop
     loop-holds
-    word-at-requires
+    value-requires
     mul-table
     slice-write-table
     add-i
     add-to
-    sub-left
     loop-less
     loop-again
     same-length

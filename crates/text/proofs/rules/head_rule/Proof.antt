@@ -1,49 +1,95 @@
 -- `text::rules::head_rule` meets its contract: each return decides the tests before it.
-use mathlib.Core.Path.{_≡_, subst}
-use Prim.Native.Nat.{ℕ}
+use mathlib.Core.Path.{_≡_, sym, _∙_}
+use Prim.Native.Nat.{ℕ, _*_, _≤_, _<_}
 use native.Mathlib.Omega.{arith}
+use lib.ListN.{length}
+use denote.Ref.{now}
 use borrow.Author.Tests.{ne-eqb, lt-ltb, le-leb, lt-leb}
 use borrow.Author.Needs.{needs}
 use Rattle.text.specs.Reader.{roomRule}
-use Rattle.text.specs.Scan.{ruled}
+use Rattle.text.specs.Scan.{countFrom, behindLine, ruled}
 use Rattle.text.proofs.rules.head_rule.Tie as tie
-use Rattle.text.proofs.Scanning.{room-word}
+use Rattle.text.proofs.Scanning.{behind-none, behind-known, room-word}
+use Rattle.text.proofs.Reading.{line-fits}
 use Rattle.text.proofs.rules.head_rule.Statement.{statement}
+
+-- how many words the line has
+abbrev count : tie.Start → ℕ
+count s = countFrom 1 (now (s .args .text))
+
+-- a line of the form ends behind its words
+measured : (c : tie.Else2) → let s = c .before .before .before .before in (c .before .end .result ≡ 5 * count s) × (0 < count s)
+measured c =
+    let s = c .before .before .before .before in
+    let e : c .before .end .result ≡ behindLine 0 (count s) = c .before .end .ensures in
+    let k = behind-known 0 (count s) (λ z. c .if2 .left (e ∙ z)) in
+    (omega (arith, k .0), k .1)
+
+-- a line of ten bytes has two words, and lies in the text
+two : (c : tie.Else3) → count (c .before .before .before .before .before) ≡ 2
+two c = omega (arith, measured (c .before), c .if3 .left)
+
+inside : (c : tie.Else3) → 10 ≤ length (now (c .before .before .before .before .before .args .text))
+inside c = omega (arith, line-fits (now (c .before .before .before .before .before .args .text)), two c)
 
 returns : tie.Need-returns
 returns c = rw (c .if1 .taken)
 
+end-requires : tie.Need-end-requires
+end-requires c κs = search needs
+
 returns-2 : tie.Need-returns-2
-returns-2 c = let a = c .before .before .args in rw (lt-ltb 0 (a .size) (omega arith), c .if2 .taken)
+returns-2 c = let s = c .before .before .before .before in let t = now (s .args .text) in let e : c .before .end .result ≡ behindLine 0 (count s) = c .before .end .ensures in
+    let z : count s ≡ 0 = behind-none 0 (count s) (sym e ∙ c .if2 .taken) in
+    rw (lt-ltb 0 (length t) (omega arith), z)
 
 returns-3 : tie.Need-returns-3
-returns-3 c = let a = c .before .before .before .args in rw (lt-ltb 0 (a .size) (omega arith), lt-ltb 0 (a .count) (omega arith), ne-eqb (a .count) 2 (c .if3 .taken))
+returns-3 c =
+    let s = c .before .before .before .before .before in
+    let t = now (s .args .text) in
+    let h = measured (c .before) in
+    rw (lt-ltb 0 (length t) (omega arith), lt-ltb 0 (count s) (omega arith), ne-eqb (count s) 2 (λ z. c .if3 .taken (omega arith)))
+
+value-requires : tie.Need-value-requires
+value-requires c κs = (c .before .before .before .before .before .pre .0, omega (arith, inside c))
 
 returns-4 : tie.Need-returns-4
-returns-4 c = let a = c .before .before .before .before .args in rw (lt-ltb 0 (a .size) (omega arith), c .before .if3 .left, ne-eqb (a .kind) 0 (c .if4 .taken))
+returns-4 c = let t = now (c .before .before .before .before .before .before .before .args .text) in let k = c .before .value in
+    rw (sym (k .ensures), lt-ltb 0 (length t) (omega arith), two (c .before .before), ne-eqb (k .result) 0 (c .if4 .taken))
+
+value-requires-2 : tie.Need-value-requires-2
+value-requires-2 c κs = (c .before .before .before .before .before .before .before .pre .0, omega (arith, inside (c .before .before)))
 
 returns-5 : tie.Need-returns-5
-returns-5 c = let a = c .before .before .before .before .before .args in rw (lt-ltb 0 (a .size) (omega arith), c .before .before .if3 .left, c .before .if4 .left, lt-leb 2 (a .d) (c .if5 .taken))
+returns-5 c = let t = now (c .before .before .before .before .before .before .before .before .before .args .text) in let k = c .before .value2 in
+    rw (sym (c .before .before .before .value .ensures), sym (k .ensures), lt-ltb 0 (length t) (omega arith), two (c .before .before .before .before), c .before .before .if4 .left, lt-leb 2 (k .result) (c .if5 .taken))
 
 returns-6 : tie.Need-returns-6
-returns-6 c = let a = c .before .before .before .before .before .before .args in rw (lt-ltb 0 (a .size) (omega arith), c .before .before .before .if3 .left, c .before .before .if4 .left, le-leb 2 (a .d) (omega arith), lt-leb (a .d) 8 (c .if6 .taken))
+returns-6 c = let t = now (c .before .before .before .before .before .before .before .before .before .before .args .text) in let k = c .before .before .value2 in
+    rw (sym (c .before .before .before .before .value .ensures), sym (k .ensures), lt-ltb 0 (length t) (omega arith), two (c .before .before .before .before .before), c .before .before .before .if4 .left, le-leb 2 (k .result) (omega arith), lt-leb (k .result) 8 (c .if6 .taken))
 
 room-rule-requires : tie.Need-room-rule-requires
 room-rule-requires c κs = search needs
 
 returns-7 : tie.Need-returns-7
-returns-7 c = let a = c .before .before .before .before .before .before .before .args in let r = c .room-rule .result in
-    let e : ruled r 0 0 ≡ roomRule (a .room) 0 2 = subst (λ (m : ℕ). ruled r 0 0 ≡ roomRule (a .room) 0 m) (omega arith) (c .room-rule .ensures 0) in
-    rw (lt-ltb 0 (a .size) (omega arith), c .before .before .before .before .if3 .left, c .before .before .before .if4 .left, le-leb 2 (a .d) (omega arith), le-leb (a .d) 8 (omega arith), room-word r (a .room) 2 e) e
+returns-7 c =
+    let a = c .before .before .before .before .before .before .before .before .before .before .before .args in
+    let r = c .room-rule .result in
+    let k = c .before .before .before .value2 in
+    let e : ruled r 0 0 ≡ roomRule (a .room) 0 2 = c .room-rule .ensures 0 in
+    rw (sym (c .before .before .before .before .before .value .ensures), sym (k .ensures), lt-ltb 0 (length (now (a .text))) (omega arith), two (c .before .before .before .before .before .before), c .before .before .before .before .if4 .left, le-leb 2 (k .result) (omega arith), le-leb (k .result) 8 (omega arith), room-word r (a .room) 2 e) e
 
 pub head-rule-spec : {M : Type 1} → statement M
 head-rule-spec =
     tie.close
     (tie.spec
     returns
+    end-requires
     returns-2
     returns-3
+    value-requires
     returns-4
+    value-requires-2
     returns-5
     returns-6
     room-rule-requires

@@ -12,14 +12,8 @@ sub-if1 c = search needs
 returns : tie.Need-returns
 returns c = let a = c .before .args in λ n. rw (lt-leb (a .stored + a .count) (a .room) (omega arith))
 
-sub-if2 : tie.Need-sub-if2
-sub-if2 c = search needs
-
 returns-2 : tie.Need-returns-2
-returns-2 c = let a = c .before .before .args in λ n. rw (le-leb (a .stored + a .count) (a .room) (omega arith), lt-leb (a .stored + a .count) 8192 (omega arith))
-
-returns-3 : tie.Need-returns-3
-returns-3 c = let a = c .before .before .args in λ n. rw (le-leb (a .stored + a .count) (a .room) (omega arith), le-leb (a .stored + a .count) 8192 (omega arith))
+returns-2 c = let a = c .before .args in λ n. rw (le-leb (a .stored + a .count) (a .room) (omega arith), le-leb (a .stored + a .count) 8192 (omega arith))
 
 pub room-rule-spec : {M : Type 1} → statement M
-room-rule-spec = tie.close (tie.spec sub-if1 returns sub-if2 returns-2 returns-3)
+room-rule-spec = tie.close (tie.spec sub-if1 returns returns-2)

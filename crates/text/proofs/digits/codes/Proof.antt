@@ -1,0 +1,12 @@
+-- `text::digits::codes` meets its contract: the constant is the definition's table.
+use mathlib.Core.Path.{refl}
+use Rattle.text.specs.Scan.{codeTable}
+use Rattle.text.proofs.digits.codes.Tie as tie
+use Rattle.text.proofs.digits.codes.Statement.{statement}
+
+returns : tie.Need-returns
+unfolding codeTable
+returns c = refl
+
+pub codes-spec : {M : Type 1} → statement M
+codes-spec = tie.close (tie.spec returns)
