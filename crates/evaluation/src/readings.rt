@@ -4,9 +4,9 @@ ghost use Prim.Native.Nat.{ℕ, _+_, _≤_, _<_};
 ghost use lib.ListN.{length};
 ghost use lib.Seq.{sets};
 ghost use Rattle.circuit.specs.Lists.{nth};
-ghost use Rattle.evaluation.specs.Filling.{gateMakes, frameMakes};
+ghost use Rattle.evaluation.specs.Filling.{frameMakes};
 ghost use Rattle.evaluation.specs.Gadgets.{Small, Roomy, Early};
-ghost use Rattle.evaluation.specs.Marks.{markAll, Moves, GateGates, FrameGates, GateEarly, FrameEarly, Most, shownAt, shownFrom};
+ghost use Rattle.evaluation.specs.Marks.{markAll, Moves, FrameGates, FrameEarly, Most, shownAt, shownFrom};
 ghost use Rattle.evaluation.specs.Walking.{Walkable, Lists, Settles, Markable};
 use super::reach;
 use checker::walk::Frame;
@@ -48,32 +48,6 @@ fn larger(one: u8, other: u8) -> u8
     if one < other { other } else { one }
 }
 
-// A gate's wires.
-fn pass_gate(marks: &mut [u8], gate: Gate, d: usize, first: usize)
-    requires { ⌜ (first + gateMakes gate d ≤ length (now marks)) × GateEarly gate first ⌝ }
-    ensures { λ _. ⌜ Moves (GateGates gate d first) first (first + gateMakes gate d) (now (marks .entry)) (now (marks .exit)) ⌝ }
-{
-    match gate {
-        Gate::In { stage: _ } => {}
-        Gate::Con {
-            label: _,
-            value: _,
-            stage: _,
-        } => {}
-        Gate::Xor {
-            first: one,
-            second: other,
-        } => {
-            reach::hand_on(marks, first, one as usize, other as usize);
-        }
-        Gate::Not { wire } => {
-            reach::hand_on(marks, first, wire as usize, wire as usize);
-        }
-        Gate::Reg { wire: _ } => {}
-        Gate::Out => {}
-    }
-}
-
 // AND's wires, where one of them is marked.
 fn pass_and(marks: &mut [u8], first: usize, d: usize, ops: &[u16])
     requires { ⌜ Small first d × (first + frameMakes Frame.And d ≤ length (now marks)) × FrameEarly Frame.And d first (now ops) ⌝ }
@@ -92,15 +66,23 @@ fn pass_frame(marks: &mut [u8], frame: Frame, d: usize, first: usize, ops: &[u16
     ensures { λ _. ⌜ Moves (FrameGates frame d first (now (ops .entry))) first (first + frameMakes frame d) (now (marks .entry)) (now (marks .exit)) ⌝ }
 {
     match frame {
-        Frame::Gate(gate) => {
-            pass_gate(marks, gate, d, first);
-        }
-        Frame::And => {
-            pass_and(marks, first, d, ops);
-        }
-        Frame::Ref => {
-            reach::pass_ref(marks, first, d, ops);
-        }
+        Frame::Gate(gate) => match gate {
+            Gate::In { stage: _ } => {}
+            Gate::Con {
+                label: _,
+                value: _,
+                stage: _,
+            } => {}
+            Gate::Xor {
+                first: one,
+                second: other,
+            } => reach::hand_on(marks, first, one as usize, other as usize),
+            Gate::Not { wire } => reach::hand_on(marks, first, wire as usize, wire as usize),
+            Gate::Reg { wire: _ } => {}
+            Gate::Out => {}
+        },
+        Frame::And => pass_and(marks, first, d, ops),
+        Frame::Ref => reach::pass_ref(marks, first, d, ops),
     }
 }
 

@@ -1,11 +1,13 @@
 // The value of each wire, frame by frame.
 ghost use mathlib.Core.Path.{_≡_};
+ghost use mathlib.Core.Bool.{not};
 ghost use Prim.Native.Nat.{_+_, _≤_, _<_};
 ghost use lib.ListN.{length};
+ghost use Rattle.circuit.specs.Lists.{_⊕_};
 ghost use Rattle.circuit.specs.Circuit.{isSet};
 ghost use Rattle.netlist.specs.Values.{byte};
-ghost use Rattle.evaluation.specs.Filling.{Fills, Bits, GateValues, FrameValues, gateMakes, frameMakes};
-ghost use Rattle.evaluation.specs.Gadgets.{Small, GateReady, FrameReady};
+ghost use Rattle.evaluation.specs.Filling.{Fills, Bits, FrameValues, frameMakes};
+ghost use Rattle.evaluation.specs.Gadgets.{Small, FrameReady};
 ghost use Rattle.evaluation.specs.Evaluating.{Evaluable, Evaluates};
 use super::gadget;
 use checker::walk::Frame;
@@ -20,40 +22,40 @@ fn bit(word: u16) -> u8
     if word < 1 { 0 } else { 1 }
 }
 
-// A gate's wires, from the wire `first` and the share `from` on.
-fn write_gate(values: &mut [u8], gate: Gate, d: usize, first: usize, from: usize, shares: &[u8])
-    requires { ⌜ (first + gateMakes gate d ≤ length (now values)) × GateReady gate d first from (length (now shares)) × Bits (now shares) ⌝ }
-    ensures { λ _. ⌜ Fills (GateValues gate d first from (now (shares .entry))) first (first + gateMakes gate d) (now (values .entry)) (now (values .exit)) ⌝ }
+// The wire of a CON.
+fn constant(values: &mut [u8], first: usize, word: u16)
+    requires { ⌜ first + 1 ≤ length (now values) ⌝ }
+    ensures { λ _. ⌜ Fills (λ v. v first ≡ isSet word) first (first + 1) (now (values .entry)) (now (values .exit)) ⌝ }
 {
-    match gate {
-        Gate::In { stage: _ } => {
-            gadget::copy(values, first, shares, from, d);
-        }
-        Gate::Con {
-            label: _,
-            value,
-            stage: _,
-        } => {
-            values[first] = bit(value);
-        }
-        Gate::Xor {
-            first: one,
-            second: other,
-        } => {
-            let x = one as usize;
-            let y = other as usize;
-            values[first] = values[x] ^ values[y];
-        }
-        Gate::Not { wire } => {
-            let x = wire as usize;
-            values[first] = 1 ^ values[x];
-        }
-        Gate::Reg { wire } => {
-            let x = wire as usize;
-            values[first] = values[x];
-        }
-        Gate::Out => {}
-    }
+    values[first] = bit(word);
+}
+
+// The wire of an XOR.
+fn sum(values: &mut [u8], first: usize, one: u16, other: u16)
+    requires { ⌜ (first + 1 ≤ length (now values)) × (one < first) × (other < first) ⌝ }
+    ensures { λ _. ⌜ Fills (λ v. v first ≡ (v one ⊕ v other)) first (first + 1) (now (values .entry)) (now (values .exit)) ⌝ }
+{
+    let x = one as usize;
+    let y = other as usize;
+    values[first] = values[x] ^ values[y];
+}
+
+// The wire of a NOT.
+fn inverse(values: &mut [u8], first: usize, wire: u16)
+    requires { ⌜ (first + 1 ≤ length (now values)) × (wire < first) ⌝ }
+    ensures { λ _. ⌜ Fills (λ v. v first ≡ not (v wire)) first (first + 1) (now (values .entry)) (now (values .exit)) ⌝ }
+{
+    let x = wire as usize;
+    values[first] = 1 ^ values[x];
+}
+
+// The wire of a REG.
+fn register(values: &mut [u8], first: usize, wire: u16)
+    requires { ⌜ (first + 1 ≤ length (now values)) × (wire < first) ⌝ }
+    ensures { λ _. ⌜ Fills (λ v. v first ≡ v wire) first (first + 1) (now (values .entry)) (now (values .exit)) ⌝ }
+{
+    let x = wire as usize;
+    values[first] = values[x];
 }
 
 // The circuit so far: how many wires, shares and random bits.
@@ -78,15 +80,23 @@ fn write_frame(
 {
     let first = ends.wires;
     match frame {
-        Frame::Gate(gate) => {
-            write_gate(values, gate, d, first, ends.shares, shares);
-        }
-        Frame::And => {
-            gadget::and(values, first, d, ops, tape, ends.randoms);
-        }
-        Frame::Ref => {
-            gadget::refresh(values, first, d, ops, tape, ends.randoms);
-        }
+        Frame::Gate(gate) => match gate {
+            Gate::In { stage: _ } => gadget::copy(values, first, shares, ends.shares, d),
+            Gate::Con {
+                label: _,
+                value,
+                stage: _,
+            } => constant(values, first, value),
+            Gate::Xor {
+                first: one,
+                second: other,
+            } => sum(values, first, one, other),
+            Gate::Not { wire } => inverse(values, first, wire),
+            Gate::Reg { wire } => register(values, first, wire),
+            Gate::Out => {}
+        },
+        Frame::And => gadget::and(values, first, d, ops, tape, ends.randoms),
+        Frame::Ref => gadget::refresh(values, first, d, ops, tape, ends.randoms),
     }
 }
 

@@ -1,0 +1,28 @@
+-- `evaluation::values::constant` meets its contract.
+use borrow.Author.Needs.{needs}
+use Rattle.evaluation.proofs.values.constant.Statement.{statement}
+use Rattle.evaluation.proofs.values.constant.Tie as tie
+use mathlib.Core.Path.{_≡_, refl, sym, ap, ap₂, subst, _∙_}
+use Prim.Native.Nat.{ℕ, _+_, _-_, _*_, _≤_, _<_}
+use native.Mathlib.Omega.{arith}
+use lib.ListN.{length, set, length-set}
+use Rattle.circuit.specs.Lists.{_⊕_, nth, range}
+use Rattle.evaluation.proofs.Bits.{set-byte, byte-and, byte-xor, byte-not}
+use Rattle.netlist.specs.Values.{byte}
+use lib.Bits.{bitXor}
+use Rattle.evaluation.proofs.Filled.{fills-one}
+
+bit-requires : tie.Need-bit-requires
+bit-requires c κs = search needs
+
+slice-write-values : tie.Need-slice-write-values
+slice-write-values c = omega (arith, c .before .before .pre)
+
+same-length : tie.Need-same-length
+same-length c = search needs
+
+returns : tie.Need-returns
+returns c = fills-one (c .before .before .args .first) (c .before .before .args .values .now) (c .bit .result) (omega (arith, c .before .before .pre)) (λ v e k. c .bit .ensures ∙ ap byte (sym e))
+
+pub constant-spec : {M : Type 1} → statement M
+constant-spec = tie.close (tie.spec bit-requires slice-write-values same-length returns)

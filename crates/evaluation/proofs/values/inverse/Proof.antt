@@ -1,0 +1,31 @@
+-- `evaluation::values::inverse` meets its contract.
+use borrow.Author.Needs.{needs}
+use Rattle.evaluation.proofs.values.inverse.Statement.{statement}
+use Rattle.evaluation.proofs.values.inverse.Tie as tie
+use mathlib.Core.Path.{_≡_, refl, sym, ap, ap₂, subst, _∙_}
+use Prim.Native.Nat.{ℕ, _+_, _-_, _*_, _≤_, _<_}
+use native.Mathlib.Omega.{arith}
+use lib.ListN.{length, set, length-set}
+use Rattle.circuit.specs.Lists.{_⊕_, nth, range}
+use Rattle.evaluation.proofs.Bits.{set-byte, byte-and, byte-xor, byte-not}
+use Rattle.netlist.specs.Values.{byte}
+use lib.Bits.{bitXor}
+use Rattle.evaluation.proofs.Filled.{fills-one}
+
+slice-read-values : tie.Need-slice-read-values
+slice-read-values c = omega (arith, c .before .pre .0, c .before .pre .1)
+
+slice-write-values : tie.Need-slice-write-values
+slice-write-values c = omega (arith, c .before .pre .0, c .before .pre .1)
+
+same-length : tie.Need-same-length
+same-length c = search needs
+
+returns : tie.Need-returns
+returns c =
+    let a = c .before .args in
+    let old = a .values .now in
+    fills-one (a .first) old (bitXor 1 (nth old (a .wire))) (omega (arith, c .before .pre .0, c .before .pre .1)) (λ v e k. ap (bitXor 1) (k (a .wire) (omega arith) (c .before .pre .1)) ∙ byte-not (v (a .wire)) ∙ ap byte (sym e))
+
+pub inverse-spec : {M : Type 1} → statement M
+inverse-spec = tie.close (tie.spec slice-read-values slice-write-values same-length returns)

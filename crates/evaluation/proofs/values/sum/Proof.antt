@@ -1,0 +1,36 @@
+-- `evaluation::values::sum` meets its contract.
+use borrow.Author.Needs.{needs}
+use Rattle.evaluation.proofs.values.sum.Statement.{statement}
+use Rattle.evaluation.proofs.values.sum.Tie as tie
+use mathlib.Core.Path.{_≡_, refl, sym, ap, ap₂, subst, _∙_}
+use Prim.Native.Nat.{ℕ, _+_, _-_, _*_, _≤_, _<_}
+use native.Mathlib.Omega.{arith}
+use lib.ListN.{length, set, length-set}
+use Rattle.circuit.specs.Lists.{_⊕_, nth, range}
+use Rattle.evaluation.proofs.Bits.{set-byte, byte-and, byte-xor, byte-not}
+use Rattle.netlist.specs.Values.{byte}
+use lib.Bits.{bitXor}
+use Rattle.evaluation.proofs.Filled.{fills-one}
+
+slice-read-values : tie.Need-slice-read-values
+slice-read-values c = omega (arith, c .before .pre .0, c .before .pre .1, c .before .pre .2)
+
+slice-read-values-2 : tie.Need-slice-read-values-2
+slice-read-values-2 c = omega (arith, c .before .before .pre .0, c .before .before .pre .1, c .before .before .pre .2)
+
+slice-write-values : tie.Need-slice-write-values
+slice-write-values c = omega (arith, c .before .before .pre .0, c .before .before .pre .1, c .before .before .pre .2)
+
+same-length : tie.Need-same-length
+same-length c = search needs
+
+returns : tie.Need-returns
+returns c =
+    let a = c .before .before .args in
+    let old = a .values .now in
+    fills-one (a .first) old (bitXor (nth old (a .one)) (nth old (a .other))) (omega (arith, c .before .before .pre .0, c .before .before .pre .1, c .before .before .pre .2)) (λ v e k. ap₂ bitXor (k (a .one) (omega arith) (c .before .before .pre .1)) (k (a .other) (omega arith) (c .before .before .pre .2)) ∙ byte-xor (v (a .one)) (v (a .other)) ∙ ap byte (sym e))
+
+pub sum-spec : {M : Type 1} → statement M
+sum-spec =
+    tie.close
+    (tie.spec slice-read-values slice-read-values-2 slice-write-values same-length returns)
