@@ -60,3 +60,8 @@ pub reading-is : (marks read : List ℕ) (bs : List Bool) (old values reading ne
 reading-is marks read bs old values reading new e h l v s =
     s ∙ ap (λ v. sets reading 0 (shownFrom marks v 0 wireLimit)) v
     ∙ sheet-shown marks read bs old (λ x. (h x .0, λ m. subst (λ (k : ℕ). x < k) (sym e) (h x .1 m))) reading l
+
+-- no mark behind the last wire
+pub unmarked : (marks : List ℕ) (n : ℕ) → ((x : ℕ) → Marked marks x → x < n) → (wires : ℕ) → wires ≡ n → (x : ℕ) → wires ≤ x → nth marks x < 1
+unmarked marks n h wires e x l = cases (ltb (nth marks x) 1) (ltb-true (nth marks x) 1)
+    (λ t. let k = h x (set-high (nth marks x) (ltb-false (nth marks x) 1 t)) in absurd (omega arith))

@@ -149,6 +149,6 @@ pub fn read_probes(
     let frames = readings::list(table, &mut starts);
     readings::mark(&mut marks, probes);
     readings::settle(table, &starts, frames, wires, &mut marks);
-    readings::show(&marks, values, reading);
+    readings::show(&marks, values, wires, reading);
     verdict
 }

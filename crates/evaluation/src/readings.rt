@@ -158,14 +158,18 @@ fn shown(mark: u8, value: u8) -> u8
     if mark < 1 { 2 } else { value }
 }
 
-// The reading sheet's 8,192 bytes.
-pub(crate) fn show(marks: &[u8], values: &[u8], reading: &mut [u8])
-    requires { ⌜ (8192 ≤ length (now marks)) × (8192 ≤ length (now values)) × (8192 ≤ length (now reading)) ⌝ }
+// The reading sheet's 8,192 bytes. No wire from `wires` on is marked.
+pub(crate) fn show(marks: &[u8], values: &[u8], wires: usize, reading: &mut [u8])
+    requires { ⌜ (8192 ≤ length (now marks)) × (8192 ≤ length (now values)) × (8192 ≤ length (now reading)) × (wires ≤ 8192) × ((x : ℕ) → wires ≤ x → nth (now marks) x < 1) ⌝ }
     ensures { λ _. ⌜ now (reading .exit) ≡ sets (now (reading .entry)) 0 (shownFrom (now (marks .entry)) (now (values .entry)) 0 8192) ⌝ }
 {
     let mut x = 0;
-    while x < 8192 {
+    while x < wires {
         reading[x] = shown(marks[x], values[x]);
+        x += 1;
+    }
+    while x < 8192 {
+        reading[x] = 2;
         x += 1;
     }
 }

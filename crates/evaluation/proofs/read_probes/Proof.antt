@@ -8,6 +8,7 @@ use mathlib.Core.Path.{_≡_, sym, ap, _∙_}
 use native.Mathlib.Omega.{arith}
 use lib.ListN.{length, length-replicate}
 use Rattle.circuit.specs.Limits.{wireLimit}
+use Rattle.circuit.specs.Circuit.{size}
 use Rattle.circuit.specs.Rules.{checked}
 use Rattle.circuit.specs.Answer.{accepted, refused, answer}
 use Rattle.netlist.specs.Values.{bits, valuesOf}
@@ -18,7 +19,7 @@ use Rattle.checker.specs.Said.{said}
 use Rattle.circuit.proofs.Exact.{accepted-size}
 use Rattle.evaluation.proofs.Answering.{answer-pass, untouched, two-sheets, parts, sheet-room, probes-made, probe-made}
 use Rattle.evaluation.proofs.Evaluating.{values-length}
-use Rattle.evaluation.proofs.Showing.{marked-probes, reading-is}
+use Rattle.evaluation.proofs.Showing.{marked-probes, reading-is, unmarked}
 
 smaller-requires : tie.Need-smaller-requires
 smaller-requires c κs = search needs
@@ -151,7 +152,8 @@ show-requires c κs =
     let (roomV, more) = sheet-room (a .values .now) (a .reading .now ∷ []) (q .roomy) in
     let (roomR, _) = sheet-room (a .reading .now) [] more in
     let few = accepted-size (q .accepted) in
-    (omega (arith, c .before .before .before .marks4 .given), omega arith, omega arith)
+    let settled = c .before .before .before .before .settle .ensures .is N (q .accepted) wires (a .probes .now) (marked-probes wireLimit (a .probes .now) (c .before .before .before .before .before .before .before .before .mark .ensures) (λ y i. omega (arith, probes-made k 0 (a .probes .now) (q .probed) y i, few))) (probes-made k 0 (a .probes .now) (q .probed)) in
+    (omega (arith, c .before .before .before .marks4 .given), omega arith, omega arith, omega (arith, wires, few), unmarked (c .before .before .before .before .settle .last .1 .1 .1 .1 .0) (size k) (λ x. settled x .1) (v .0 .0) wires)
 
 same-length-2 : tie.Need-same-length-2
 same-length-2 c = search needs
