@@ -10,10 +10,12 @@ ghost use Rattle.checker.specs.Sheet.{headNumber};
 mod frame;
 pub mod kinds;
 mod notes;
+mod quick;
 pub mod walk;
 mod words;
 
 use frame::Added;
+use frame::Taken;
 use frame::Tally;
 use walk::Step;
 use walk::Walk;
@@ -82,6 +84,35 @@ pub fn check(table: &[u16], notes: &mut [u16]) -> Verdict
         latency: 0,
         inputs: 0,
     };
+    let mut sure = true;
+    while sure {
+        let step = walk.step(table);
+        match step {
+            Step::End => {
+                sure = false;
+            }
+            Step::Refused { rule: _ } => {
+                sure = false;
+            }
+            Step::Next {
+                frame,
+                shape,
+                walk: next,
+            } => {
+                let ops = walk.operands(table);
+                let taken = frame::take(tally, frame, shape, d, ops, notes);
+                match taken {
+                    Taken::Next(t) => {
+                        tally = t;
+                        walk = next;
+                    }
+                    Taken::Unsure => {
+                        sure = false;
+                    }
+                }
+            }
+        }
+    }
     loop {
         let step = walk.step(table);
         match step {
