@@ -15,8 +15,7 @@ use Rattle.checker.specs.declared.notes.Found.the-variants.{Missing, Inn
 use Rattle.checker.specs.declared.notes.Made.{Made}
 use Rattle.checker.specs.declared.walk.Frame.{Frame}
 use Rattle.checker.specs.declared.frame.Tally.{Tally}
-use Rattle.checker.specs.declared.frame.Added.the-variants as added
-use Rattle.checker.specs.declared.frame.Taken.the-variants.{Next}
+use Rattle.checker.specs.declared.frame.Taken.{Taken}
 use Rattle.circuit.specs.Limits.{innerNote, stageLimit, wireLimit}
 use Rattle.circuit.specs.Lists.{nth}
 use Rattle.circuit.specs.Kinds.{Kind, HEAD, IN, CON, XOR, NOT, REG, AND, REF, OUT, WordRule, share, before, shape, words}
@@ -24,8 +23,8 @@ use Rattle.circuit.specs.Circuit.{Circuit}
 use Rattle.circuit.specs.Rules.{_then_, wordsRule}
 use Rattle.circuit.proofs.Base.{cases}
 use Rattle.checker.specs.Walk.{formOf, kindCode, frameCode}
-use Rattle.checker.specs.Sheet.{noted, stageFound, innerWords, namedWords, madeWords, ruleIn, gadgetRule, leadPlace, wireNumber, wordNumber, judged, Told, FirstBroken, madeFrame, latencyFrame, FrameOf, Adds}
-use Rattle.checker.specs.Quick.{Right, Nameable, InRow, RowFrom, Kept, wordsOf, Put, Took, grownBy, Takes}
+use Rattle.checker.specs.Sheet.{noted, stageFound, innerWords, namedWords, madeWords, ruleIn, gadgetRule, leadPlace, wireNumber, wordNumber, judged, Told, FirstBroken, madeFrame, latencyFrame, FrameOf}
+use Rattle.checker.specs.Quick.{Right, Nameable, InRow, RowFrom, Kept, wordsOf, Put, Took, Fitting, grownBy, Takes}
 use Rattle.checker.proofs.KindTable.{words-AND, words-REF, words-OUT}
 use Rattle.checker.proofs.WordRules.{a-rule, b-rule}
 use Rattle.checker.proofs.Numbers.{Reached, reached-start, reached-word, words-end}
@@ -45,9 +44,9 @@ pub not-taken : {kept : Type 0} {m : Made} {wires : ℕ} {old : List ℕ} → To
 not-taken = record { right = never; put = not-put }
 
 -- no wires are written where none are made
-pub none-put : (t wires : ℕ) (old : List ℕ) → t ≤ stageLimit → wires ≤ wireLimit → Put (record { inner = 0; named = 0; label = 0; stage = t }) wires old old true
+pub none-put : (t wires : ℕ) (old : List ℕ) (r : Bool) → (r ≡ true → t ≤ stageLimit) → wires ≤ wireLimit → Put (record { inner = 0; named = 0; label = 0; stage = t }) wires old old r
 unfolding innerWords namedWords
-none-put t wires old h w = record { low = λ e. h; room = λ e. omega arith; written = λ e. refl; untouched = never′ }
+none-put t wires old r h w = record { low = h; room = λ e. omega arith; written = λ e. refl; untouched = λ e. refl }
 
 -- a named wire may be named, and its label is no inner wire's
 pub nameable : (l t : ℕ) → Nameable (Named l t)
@@ -160,17 +159,21 @@ module _ {fr : Frame} {sh : ShapeCode} {d : ℕ} {ops : List ℕ} (o : FrameOf f
           reached-word (sh .form) d used wires ops notes n (omega arith) (ruleIn (sh .form) d n) refl (reach n (omega arith)) c kind told f
           ∙ ap (λ m. judged m f (n + 1) then wordsRule c f ops (n + 1 + 1) (drop (n + 1) (shape d kind .rules)) (drop (n + 1) ops)) (all n (omega arith)))
 
-  module _ (tally : Tally) {old new : List ℕ} {r : Bool} {m : Made} (p : Put m (tally .wires) old new r) (y : r ≡ true) (e : m ≡ madeFrame fr d (sh .makes - d) (noted old (tally .wires)) ops) where
-    room : tally .wires + sh .makes ≤ wireLimit
-    room = omega (arith, p .room y, frame-count o (noted old (tally .wires)) m e)
+  module _ (tally : Tally) {old new : List ℕ} {m : Made} (e : m ≡ madeFrame fr d (sh .makes - d) (noted old (tally .wires)) ops) where
+    room : {r : Bool} → Put m (tally .wires) old new r → r ≡ true → tally .wires + sh .makes ≤ wireLimit
+    room p y = omega (arith, p .room y, frame-count o (noted old (tally .wires)) m e)
 
     -- the counts fit
-    pub grows : tally .randoms ≤ tally .wires → tally .frames ≤ 8192 → tally .inputs ≤ tally .frames
-        → (tally .wires + sh .makes ≤ 8192) × (tally .randoms + sh .uses ≤ 8192) × (tally .frames ≤ 8192) × (tally .inputs + sh .brings ≤ 8193)
-    grows used frames inputs = (room, omega (arith, room, frame-uses o), frames, omega (arith, frame-brings o))
+    pub grows : {r : Bool} → Put m (tally .wires) old new r → tally .randoms ≤ tally .wires → tally .frames ≤ 8192 → tally .inputs ≤ tally .frames → r ≡ true → Fitting tally sh
+    grows p used frames inputs y = record { wires = room p y; randoms = omega (arith, room p y, frame-uses o); frames = frames; inputs = omega (arith, frame-brings o) }
 
-    -- the frame is added
-    pub taken : Kept fr d (tally .randoms) (noted old (tally .wires)) ops → (latency : ℕ) → latency ≡ latencyFrame fr (tally .latency) (m .stage)
-        → (t : Tally) → t ≡ grownBy tally sh latency → Takes tally fr sh d ops old new (Next t)
-    taken k latency l t g = subst (λ x. Adds tally fr sh d ops old new (added.Next x)) (sym g)
-        (frame-added (record { rule = 0; word = 0 }) (first-none (tally .randoms) (tally .wires) old k) refl m e (p .low y) room latency l new (p .written y))
+    -- the frame is added where its wires were written
+    pub settled : {done : Bool} → Put m (tally .wires) old new done → (done ≡ true → Kept fr d (tally .randoms) (noted old (tally .wires)) ops)
+        → (latency : ℕ) → latency ≡ latencyFrame fr (tally .latency) (m .stage) → {r : Taken} → r ≡ grownBy done tally sh latency → Takes tally fr sh d ops old new r
+    settled {done} p k latency l {r} g = go done p k g
+      where
+        go : (done : Bool) → Put m (tally .wires) old new done → (done ≡ true → Kept fr d (tally .randoms) (noted old (tally .wires)) ops)
+            → r ≡ grownBy done tally sh latency → Takes tally fr sh d ops old new r
+        go true p k g = subst (Takes tally fr sh d ops old new) (sym g)
+            (frame-added (record { rule = 0; word = 0 }) (first-none (tally .randoms) (tally .wires) old (k refl)) refl m e (p .low refl) (room p refl) latency l new (p .written refl))
+        go false p k g = subst (Takes tally fr sh d ops old new) (sym g) (p .untouched refl)

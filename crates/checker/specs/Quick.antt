@@ -94,15 +94,24 @@ pub record Took (kept : Type 0) (m : Made) (wires : ℕ) (old new : List ℕ) (r
   pub right : r ≡ true → kept
   pub put : Put m wires old new r
 
--- the counts with a frame more
-abbrev pub grownBy : Tally → ShapeCode → (latency : ℕ) → Tally
-grownBy tally sh latency = record {
+-- the counts with a frame more, and that they fit
+pub record Fitting (tally : Tally) (sh : ShapeCode) : Type 0 where
+  pub wires : tally .wires + sh .makes ≤ wireLimit
+  pub randoms : tally .randoms + sh .uses ≤ wireLimit
+  pub frames : tally .frames ≤ 8192
+  pub inputs : tally .inputs + sh .brings ≤ 8193
+
+abbrev pub withFrame : Tally → ShapeCode → (latency : ℕ) → Tally
+withFrame tally sh latency = record {
   frames = tally .frames + 1;
   wires = tally .wires + sh .makes;
   randoms = tally .randoms + sh .uses;
   latency = latency;
   inputs = tally .inputs + sh .brings;
 }
+
+abbrev pub grownBy : (done : Bool) → Tally → ShapeCode → (latency : ℕ) → Taken
+grownBy done tally sh latency = cond done (Next (withFrame tally sh latency)) Unsure
 
 abbrev pub largerOf : ℕ → ℕ → ℕ
 largerOf a b = cond (ltb a b) b a

@@ -3,7 +3,8 @@ ghost use mathlib.Core.Path.{_≡_};
 ghost use Prim.Native.Nat.{_+_, _*_, _-_, _≤_, _<_};
 ghost use lib.ListN.{length};
 ghost use Rattle.checker.specs.Sheet.{noted, likeWire, rowAfter, madeFrame, latencyFrame, FrameOf, Adds};
-ghost use Rattle.checker.specs.Quick.{grownBy, largerOf, Takes};
+ghost use Rattle.checker.specs.Quick.{Fitting, grownBy, largerOf, Takes};
+ghost use mathlib.Core.Bool.{true};
 use super::kinds::Shape;
 use super::notes;
 use super::notes::Found;
@@ -173,24 +174,28 @@ pub(crate) fn add(
     })
 }
 
-// The counts with one frame more.
-fn grown(tally: Tally, shape: Shape, latency: usize) -> Tally
-    requires { ⌜ (tally .wires + shape .makes ≤ 8192) × (tally .randoms + shape .uses ≤ 8192) × (tally .frames ≤ 8192) × (tally .inputs + shape .brings ≤ 8193) ⌝ }
-    ensures { λ r. ⌜ r ≡ grownBy tally shape latency ⌝ }
-{
-    Tally {
-        frames: tally.frames + 1,
-        wires: tally.wires + shape.makes,
-        randoms: tally.randoms + shape.uses,
-        latency: latency,
-        inputs: tally.inputs + shape.brings,
-    }
-}
-
 // The circuit with one frame more; or the frame is not taken, and nothing is done.
 pub enum Taken {
     Next(Tally),
     Unsure,
+}
+
+// The counts with one frame more, where its wires were written.
+fn grown(done: bool, tally: Tally, shape: Shape, latency: usize) -> Taken
+    requires { ⌜ (done ≡ true → Fitting tally shape) ⌝ }
+    ensures { λ r. ⌜ r ≡ grownBy done tally shape latency ⌝ }
+{
+    if done {
+        Taken::Next(Tally {
+            frames: tally.frames + 1,
+            wires: tally.wires + shape.makes,
+            randoms: tally.randoms + shape.uses,
+            latency: latency,
+            inputs: tally.inputs + shape.brings,
+        })
+    } else {
+        Taken::Unsure
+    }
 }
 
 // The frame added where one look shows that it keeps its rules.
@@ -212,66 +217,44 @@ pub(crate) fn take(
     match frame {
         Frame::Gate(gate) => match gate {
             Gate::In { stage } => {
-                if quick::input(stage, n, wires, notes) {
-                    Taken::Next(grown(tally, shape, latency))
-                } else {
-                    Taken::Unsure
-                }
+                let done = quick::input(stage, n, wires, notes);
+                grown(done, tally, shape, latency)
             }
             Gate::Con {
                 label,
                 value,
                 stage,
             } => {
-                if quick::constant(label, value, stage, n, wires, notes) {
-                    Taken::Next(grown(tally, shape, latency))
-                } else {
-                    Taken::Unsure
-                }
+                let done = quick::constant(label, value, stage, n, wires, notes);
+                grown(done, tally, shape, latency)
             }
             Gate::Xor { first, second } => {
-                if quick::xor(first, second, wires, notes) {
-                    Taken::Next(grown(tally, shape, latency))
-                } else {
-                    Taken::Unsure
-                }
+                let done = quick::xor(first, second, wires, notes);
+                grown(done, tally, shape, latency)
             }
             Gate::Not { wire } => {
-                if quick::copy(wire, 0, wires, notes) {
-                    Taken::Next(grown(tally, shape, latency))
-                } else {
-                    Taken::Unsure
-                }
+                let done = quick::copy(wire, 0, wires, notes);
+                grown(done, tally, shape, latency)
             }
             Gate::Reg { wire } => {
-                if quick::copy(wire, 1, wires, notes) {
-                    Taken::Next(grown(tally, shape, latency))
-                } else {
-                    Taken::Unsure
-                }
+                let done = quick::copy(wire, 1, wires, notes);
+                grown(done, tally, shape, latency)
             }
             Gate::Out => {
                 let stage = quick::lead_stage(ops[0], wires, notes);
-                if quick::out(ops, stage, wires, notes) {
-                    Taken::Next(grown(tally, shape, larger(latency, stage)))
-                } else {
-                    Taken::Unsure
-                }
+                let done = quick::out(ops, stage, wires, notes);
+                grown(done, tally, shape, larger(latency, stage))
             }
         },
         Frame::And => {
-            if quick::and(less(shape.makes, n), n, tally.randoms, ops, wires, notes) {
-                Taken::Next(grown(tally, shape, latency))
-            } else {
-                Taken::Unsure
-            }
+            let inner = less(shape.makes, n);
+            let done = quick::and(inner, n, tally.randoms, ops, wires, notes);
+            grown(done, tally, shape, latency)
         }
         Frame::Ref => {
-            if quick::refresh(less(shape.makes, n), n, tally.randoms, ops, wires, notes) {
-                Taken::Next(grown(tally, shape, latency))
-            } else {
-                Taken::Unsure
-            }
+            let inner = less(shape.makes, n);
+            let done = quick::refresh(inner, n, tally.randoms, ops, wires, notes);
+            grown(done, tally, shape, latency)
         }
     }
 }

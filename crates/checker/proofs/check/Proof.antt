@@ -1,240 +1,35 @@
 -- `checker::check` meets its contract.
-use mathlib.Core.Bool.{cond}
-use mathlib.Core.List.{List}
-use mathlib.Core.Path.{sym, ap, _∙_}
-use Prim.Native.Nat.{ℕ, _+_, _-_}
-use native.Mathlib.Omega.{arith}
-use lib.ListN.{length}
 use borrow.Author.Needs.{needs}
 use denote.Ref.{now}
-use Rattle.checker.proofs.Checking.{Walking, head-refused, headed, start}
-use Rattle.checker.proofs.Ways.{way-end, way-refused, frame-of, broken-kept, way-broken, turn, turn-taken, turn-left, less-left, bounded, shares-few, shares-least, same-length as kept}
+use Rattle.checker.proofs.Checking.{head-refused}
 use Rattle.checker.proofs.check.Statement.{statement}
 use Rattle.checker.proofs.check.Tie as tie
 
-abbrev Inv-loop : tie.InvT-loop
-Inv-loop table notes₀ broken d walk₀ tally₀ sure₀ notes walk tally sure = Walking table notes₀ notes d walk tally
-
-abbrev μ-loop : tie.MeasureT-loop
-μ-loop table notes₀ broken d walk₀ tally₀ sure₀ notes walk tally sure = length table - walk .at + cond sure 1 0
-
-abbrev Inv-loop2 : tie.InvT-loop2
-Inv-loop2 table notes₀ broken d walk₀ tally₀ sure notes walk tally = (n : List ℕ) → Walking table n notes₀ d walk₀ tally₀ → Walking table n notes d walk tally
-
-abbrev μ-loop2 : tie.MeasureT-loop2
-μ-loop2 table notes₀ broken d walk₀ tally₀ sure notes walk tally = length table - walk .at
-
-head-rule-requires : tie.Need-head-rule-requires Inv-loop μ-loop Inv-loop2 μ-loop2
+head-rule-requires : tie.Need-head-rule-requires
 head-rule-requires c κs = search needs
 
-returns : tie.Need-returns Inv-loop μ-loop Inv-loop2 μ-loop2
-returns c = head-refused (now (c .before .before .before .before .args .table)) (now (c .before .before .before .before .args .notes)) (c .before .head-rule .result) (c .before .head-rule .ensures) (c .if1 .taken)
+refused-requires : tie.Need-refused-requires
+refused-requires c κs = search needs
 
-shared-slice-read-d : tie.Need-shared-slice-read-d Inv-loop μ-loop Inv-loop2 μ-loop2
-shared-slice-read-d c =
-    let head = headed (now (c .before .before .before .before .before .args .table)) (length (now (c .before .before .before .before .before .args .notes))) (sym (c .before .before .head-rule .ensures) ∙ c .before .if1 .left) in
-    omega (arith, head .two)
+returns : tie.Need-returns
+returns c = rw (c .refused .ensures) (head-refused (now (c .before .before .before .before .before .args .table)) (now (c .before .before .before .before .before .args .notes)) (c .before .before .head-rule .result) (c .before .before .head-rule .ensures) (c .before .if1 .taken))
 
-loop-holds : tie.Need-loop-holds Inv-loop μ-loop Inv-loop2 μ-loop2
-loop-holds c = start (now (c .before .before .before .before .before .args .table)) (now (c .before .before .before .before .before .args .notes)) (sym (c .before .before .head-rule .ensures) ∙ c .before .if1 .left)
+check-frames-requires : tie.Need-check-frames-requires
+check-frames-requires c κs = search needs
 
-step-requires : tie.Need-step-requires Inv-loop μ-loop Inv-loop2 μ-loop2
-step-requires c κs = search needs
+same-length : tie.Need-same-length
+same-length c = search needs
 
-enum-told : tie.Need-enum-told Inv-loop μ-loop Inv-loop2 μ-loop2
-enum-told c = search needs
-
-loop-less : tie.Need-loop-less Inv-loop μ-loop Inv-loop2 μ-loop2
-loop-less c = rw (c .before .before .before .loop-test .taken) (omega arith)
-
-loop-again : tie.Need-loop-again Inv-loop μ-loop Inv-loop2 μ-loop2
-loop-again c = c .before .before .before .before .loop .inv
-
-enum-told-2 : tie.Need-enum-told-2 Inv-loop μ-loop Inv-loop2 μ-loop2
-enum-told-2 c = search needs
-
-loop-less-2 : tie.Need-loop-less-2 Inv-loop μ-loop Inv-loop2 μ-loop2
-loop-less-2 c = rw (c .before .before .before .loop-test .taken) (omega arith)
-
-loop-again-2 : tie.Need-loop-again-2 Inv-loop μ-loop Inv-loop2 μ-loop2
-loop-again-2 c = c .before .before .before .before .loop .inv
-
-enum-known-step : tie.Need-enum-known-step Inv-loop μ-loop Inv-loop2 μ-loop2
-enum-known-step c = search needs
-
-operands-requires : tie.Need-operands-requires Inv-loop μ-loop Inv-loop2 μ-loop2
-operands-requires c κs = search needs
-
-take-requires : tie.Need-take-requires Inv-loop μ-loop Inv-loop2 μ-loop2
-take-requires c κs =
-    let w = c .before .before .before .before .before .before .before .loop .inv in
-    let found = c .before .before .before .step2 .given .0 in
-    let e = sym (c .before .before .before .step2 .given .1) ∙ c .before .before .before .before .before .step .ensures in
-    let ops = now (c .before .operands .result) in
-    let o = c .before .operands .ensures in
-    let u = bounded w in
-    ((u .room, u .wires, u .used, u .frames, u .inputs), (shares-least w, shares-few w, frame-of w (found .0) (found .1 .0) (found .1 .1 .0) e ops o))
-
-enum-known-taken : tie.Need-enum-known-taken Inv-loop μ-loop Inv-loop2 μ-loop2
-enum-known-taken c = search needs
-
-loop-less-3 : tie.Need-loop-less-3 Inv-loop μ-loop Inv-loop2 μ-loop2
-loop-less-3 c =
-    let w = c .before .before .before .before .before .before .before .before .before .before .before .before .before .loop .inv in
-    let found = c .before .before .before .before .before .before .before .before .before .step2 .given .0 in
-    let e = sym (c .before .before .before .before .before .before .before .before .before .step2 .given .1) ∙ c .before .before .before .before .before .before .before .before .before .before .before .step .ensures in
-    let ops = now (c .before .before .before .before .before .before .before .operands .result) in
-    let o = c .before .before .before .before .before .before .before .operands .ensures in
-    omega (arith, less-left w (found .0) (found .1 .0) (found .1 .1 .0) e ops o)
-
-loop-again-3 : tie.Need-loop-again-3 Inv-loop μ-loop Inv-loop2 μ-loop2
-loop-again-3 c =
-    let w = c .before .before .before .before .before .before .before .before .before .before .before .before .before .loop .inv in
-    let found = c .before .before .before .before .before .before .before .before .before .step2 .given .0 in
-    let e = sym (c .before .before .before .before .before .before .before .before .before .step2 .given .1) ∙ c .before .before .before .before .before .before .before .before .before .before .before .step .ensures in
-    let ops = now (c .before .before .before .before .before .before .before .operands .result) in
-    let o = c .before .before .before .before .before .before .before .operands .ensures in
-    turn-taken w (found .0) (found .1 .0) (found .1 .1 .0) e ops o _ (c .before .before .before .before .before .take .result) (c .before .before .before .before .before .take .ensures) _ (c .before .taken .given .1)
-
-enum-told-3 : tie.Need-enum-told-3 Inv-loop μ-loop Inv-loop2 μ-loop2
-enum-told-3 c = search needs
-
-loop-less-4 : tie.Need-loop-less-4 Inv-loop μ-loop Inv-loop2 μ-loop2
-loop-less-4 c = rw (c .before .before .before .before .before .before .before .before .before .before .before .loop-test .taken) (omega arith)
-
-loop-again-4 : tie.Need-loop-again-4 Inv-loop μ-loop Inv-loop2 μ-loop2
-loop-again-4 c =
-    let w = c .before .before .before .before .before .before .before .before .before .before .before .before .loop .inv in
-    let found = c .before .before .before .before .before .before .before .before .step2 .given .0 in
-    let e = sym (c .before .before .before .before .before .before .before .before .step2 .given .1) ∙ c .before .before .before .before .before .before .before .before .before .before .step .ensures in
-    let ops = now (c .before .before .before .before .before .before .operands .result) in
-    let o = c .before .before .before .before .before .before .operands .ensures in
-    turn-left w (found .0) (found .1 .0) (found .1 .1 .0) e ops o _ (c .before .before .before .before .take .result) (c .before .before .before .before .take .ensures) (c .enum-told3 .given .1)
-
-loop2-holds : tie.Need-loop2-holds Inv-loop μ-loop Inv-loop2 μ-loop2
-loop2-holds c n w = w
-
-step-requires-2 : tie.Need-step-requires-2 Inv-loop μ-loop Inv-loop2 μ-loop2
-step-requires-2 c κs = search needs
-
-enum-told-4 : tie.Need-enum-told-4 Inv-loop μ-loop Inv-loop2 μ-loop2
-enum-told-4 c = search needs
-
-same-length : tie.Need-same-length Inv-loop μ-loop Inv-loop2 μ-loop2
-same-length c = kept (c .before .before .before .loop2 .inv (now (c .before .before .before .before .before .before .before .before .before .before .before .args .notes)) (c .before .before .before .before .before .loop .inv))
-
-returns-2 : tie.Need-returns-2 Inv-loop μ-loop Inv-loop2 μ-loop2
-returns-2 c = way-end (c .before .before .before .loop2 .inv (now (c .before .before .before .before .before .before .before .before .before .before .before .args .notes)) (c .before .before .before .before .before .loop .inv)) (sym (c .enum-told4 .given .1) ∙ c .before .before .step3 .ensures)
-
-enum-known-step-2 : tie.Need-enum-known-step-2 Inv-loop μ-loop Inv-loop2 μ-loop2
-enum-known-step-2 c = search needs
-
-same-length-2 : tie.Need-same-length-2 Inv-loop μ-loop Inv-loop2 μ-loop2
-same-length-2 c = kept (c .before .before .before .before .loop2 .inv (now (c .before .before .before .before .before .before .before .before .before .before .before .before .args .notes)) (c .before .before .before .before .before .before .loop .inv))
-
-returns-3 : tie.Need-returns-3 Inv-loop μ-loop Inv-loop2 μ-loop2
-returns-3 c = way-refused (c .before .before .before .before .loop2 .inv (now (c .before .before .before .before .before .before .before .before .before .before .before .before .args .notes)) (c .before .before .before .before .before .before .loop .inv)) _ (sym (c .before .step4 .given .1) ∙ c .before .before .before .step3 .ensures)
-
-enum-known-step-3 : tie.Need-enum-known-step-3 Inv-loop μ-loop Inv-loop2 μ-loop2
-enum-known-step-3 c = search needs
-
-operands-requires-2 : tie.Need-operands-requires-2 Inv-loop μ-loop Inv-loop2 μ-loop2
-operands-requires-2 c κs = search needs
-
-add-requires : tie.Need-add-requires Inv-loop μ-loop Inv-loop2 μ-loop2
-add-requires c κs =
-    let w = c .before .before .before .before .before .before .loop2 .inv (now (c .before .before .before .before .before .before .before .before .before .before .before .before .before .before .args .notes)) (c .before .before .before .before .before .before .before .before .loop .inv) in
-    let found = c .before .before .before .step5 .given .0 in
-    let e = sym (c .before .before .before .step5 .given .1) ∙ c .before .before .before .before .before .step3 .ensures in
-    let ops = now (c .before .operands2 .result) in
-    let o = c .before .operands2 .ensures in
-    let u = bounded w in
-    ((u .room, u .wires, u .used, u .frames, u .inputs), (shares-few w, frame-of w (found .0) (found .1 .0) (found .1 .1 .0) e ops o))
-
-enum-known-added : tie.Need-enum-known-added Inv-loop μ-loop Inv-loop2 μ-loop2
-enum-known-added c = search needs
-
-same-length-3 : tie.Need-same-length-3 Inv-loop μ-loop Inv-loop2 μ-loop2
-same-length-3 c =
-    let w = c .before .before .before .before .before .before .before .before .before .before .before .before .loop2 .inv (now (c .before .before .before .before .before .before .before .before .before .before .before .before .before .before .before .before .before .before .before .before .args .notes)) (c .before .before .before .before .before .before .before .before .before .before .before .before .before .before .loop .inv) in
-    let found = c .before .before .before .before .before .before .before .before .before .step5 .given .0 in
-    let e = sym (c .before .before .before .before .before .before .before .before .before .step5 .given .1) ∙ c .before .before .before .before .before .before .before .before .before .before .before .step3 .ensures in
-    let ops = now (c .before .before .before .before .before .before .before .operands2 .result) in
-    let o = c .before .before .before .before .before .before .before .operands2 .ensures in
-    ap length (broken-kept w (found .0) (found .1 .0) (found .1 .1 .0) e ops o _ (c .before .before .before .before .before .add .result) (c .before .before .before .before .before .add .ensures) _ _ (c .before .added .given .1)) ∙ kept w
-
-returns-4 : tie.Need-returns-4 Inv-loop μ-loop Inv-loop2 μ-loop2
-returns-4 c =
-    let w = c .before .before .before .before .before .before .before .before .before .before .before .before .loop2 .inv (now (c .before .before .before .before .before .before .before .before .before .before .before .before .before .before .before .before .before .before .before .before .args .notes)) (c .before .before .before .before .before .before .before .before .before .before .before .before .before .before .loop .inv) in
-    let found = c .before .before .before .before .before .before .before .before .before .step5 .given .0 in
-    let e = sym (c .before .before .before .before .before .before .before .before .before .step5 .given .1) ∙ c .before .before .before .before .before .before .before .before .before .before .before .step3 .ensures in
-    let ops = now (c .before .before .before .before .before .before .before .operands2 .result) in
-    let o = c .before .before .before .before .before .before .before .operands2 .ensures in
-    way-broken w (found .0) (found .1 .0) (found .1 .1 .0) e ops o _ (c .before .before .before .before .before .add .result) (c .before .before .before .before .before .add .ensures) _ _ (c .before .added .given .1)
-
-enum-known-added-2 : tie.Need-enum-known-added-2 Inv-loop μ-loop Inv-loop2 μ-loop2
-enum-known-added-2 c = search needs
-
-loop2-less : tie.Need-loop2-less Inv-loop μ-loop Inv-loop2 μ-loop2
-loop2-less c =
-    let w = c .before .before .before .before .before .before .before .before .before .before .before .before .loop2 .inv (now (c .before .before .before .before .before .before .before .before .before .before .before .before .before .before .before .before .before .before .before .before .args .notes)) (c .before .before .before .before .before .before .before .before .before .before .before .before .before .before .loop .inv) in
-    let found = c .before .before .before .before .before .before .before .before .before .step5 .given .0 in
-    let e = sym (c .before .before .before .before .before .before .before .before .before .step5 .given .1) ∙ c .before .before .before .before .before .before .before .before .before .before .before .step3 .ensures in
-    let ops = now (c .before .before .before .before .before .before .before .operands2 .result) in
-    let o = c .before .before .before .before .before .before .before .operands2 .ensures in
-    less-left w (found .0) (found .1 .0) (found .1 .1 .0) e ops o
-
-loop2-again : tie.Need-loop2-again Inv-loop μ-loop Inv-loop2 μ-loop2
-loop2-again c n h =
-    let w = c .before .before .before .before .before .before .before .before .before .before .before .before .loop2 .inv n h in
-    let found = c .before .before .before .before .before .before .before .before .before .step5 .given .0 in
-    let e = sym (c .before .before .before .before .before .before .before .before .before .step5 .given .1) ∙ c .before .before .before .before .before .before .before .before .before .before .before .step3 .ensures in
-    let ops = now (c .before .before .before .before .before .before .before .operands2 .result) in
-    let o = c .before .before .before .before .before .before .before .operands2 .ensures in
-    turn w (found .0) (found .1 .0) (found .1 .1 .0) e ops o _ (c .before .before .before .before .before .add .result) (c .before .before .before .before .before .add .ensures) _ (c .before .added2 .given .1)
+returns-2 : tie.Need-returns-2
+returns-2 c = search needs
 
 pub check-spec : {M : Type 1} → statement M
 check-spec =
     tie.close
     (tie.spec
-    Inv-loop
-    μ-loop
-    Inv-loop2
-    μ-loop2
     head-rule-requires
+    refused-requires
     returns
-    shared-slice-read-d
-    loop-holds
-    step-requires
-    enum-told
-    loop-less
-    loop-again
-    enum-told-2
-    loop-less-2
-    loop-again-2
-    enum-known-step
-    operands-requires
-    take-requires
-    enum-known-taken
-    loop-less-3
-    loop-again-3
-    enum-told-3
-    loop-less-4
-    loop-again-4
-    loop2-holds
-    step-requires-2
-    enum-told-4
+    check-frames-requires
     same-length
-    returns-2
-    enum-known-step-2
-    same-length-2
-    returns-3
-    enum-known-step-3
-    operands-requires-2
-    add-requires
-    enum-known-added
-    same-length-3
-    returns-4
-    enum-known-added-2
-    loop2-less
-    loop2-again)
+    returns-2)

@@ -1,5 +1,5 @@
 -- `checker::frame::take` meets its contract.
-use mathlib.Core.Path.{refl, ap, _∙_}
+use mathlib.Core.Path.{ap, _∙_}
 use native.Mathlib.Omega.{arith}
 use borrow.Author.Needs.{needs}
 use denote.Ref.{now}
@@ -7,7 +7,7 @@ use Rattle.circuit.specs.Lists.{nth}
 use Rattle.checker.specs.declared.walk.Frame.the-variants.{Gate}
 use Rattle.checker.specs.Sheet.{noted, rowAfter}
 use Rattle.checker.specs.Quick.{wordsOf}
-use Rattle.checker.proofs.Taking.{none-put, ops-length, grows, taken}
+use Rattle.checker.proofs.Taking.{none-put, ops-length, grows, settled}
 use Rattle.checker.proofs.frame.take.Statement.{statement}
 use Rattle.checker.proofs.frame.take.Tie as tie
 
@@ -22,10 +22,8 @@ input-requires c κs = search needs
 
 grown-requires : tie.Need-grown-requires
 grown-requires c κs =
-    let st = c .before .before .before .before .before .before .before .before .before .before .before .before .before in
-    let f = c .before .before .before .before .before .before .before .before .before .frame .given .1 in
-    let g = c .before .before .before .before .before .before .gate .given .1 in
-    grows (st .pre .1 .2) (st .args .tally) (c .before .before .before .input .ensures .put) (c .if1 .taken) (rw (f, g)) (st .pre .0 .2) (st .pre .0 .3) (st .pre .0 .4)
+    let st = c .before .before .before .before .before .before .before .before .before .before .before .before in
+    grows (st .pre .1 .2) (st .args .tally) (rw (c .before .before .before .before .before .before .before .before .frame .given .1, c .before .before .before .before .before .gate .given .1)) (c .before .before .input .ensures .put) (st .pre .0 .2) (st .pre .0 .3) (st .pre .0 .4)
 
 enum-known-gate-2 : tie.Need-enum-known-gate-2
 enum-known-gate-2 c = search needs
@@ -35,10 +33,8 @@ constant-requires c κs = search needs
 
 grown-requires-2 : tie.Need-grown-requires-2
 grown-requires-2 c κs =
-    let st = c .before .before .before .before .before .before .before .before .before .before .before .before .before in
-    let f = c .before .before .before .before .before .before .before .before .before .frame .given .1 in
-    let g = c .before .before .before .before .before .before .gate2 .given .1 in
-    grows (st .pre .1 .2) (st .args .tally) (c .before .before .before .constant .ensures .put) (c .if2 .taken) (rw (f, g)) (st .pre .0 .2) (st .pre .0 .3) (st .pre .0 .4)
+    let st = c .before .before .before .before .before .before .before .before .before .before .before .before in
+    grows (st .pre .1 .2) (st .args .tally) (rw (c .before .before .before .before .before .before .before .before .frame .given .1, c .before .before .before .before .before .gate2 .given .1)) (c .before .before .constant .ensures .put) (st .pre .0 .2) (st .pre .0 .3) (st .pre .0 .4)
 
 enum-known-gate-3 : tie.Need-enum-known-gate-3
 enum-known-gate-3 c = search needs
@@ -48,10 +44,8 @@ xor-requires c κs = search needs
 
 grown-requires-3 : tie.Need-grown-requires-3
 grown-requires-3 c κs =
-    let st = c .before .before .before .before .before .before .before .before .before .before .before .before .before in
-    let f = c .before .before .before .before .before .before .before .before .before .frame .given .1 in
-    let g = c .before .before .before .before .before .before .gate3 .given .1 in
-    grows (st .pre .1 .2) (st .args .tally) (c .before .before .before .xor .ensures .put) (c .if3 .taken) (rw (f, g)) (st .pre .0 .2) (st .pre .0 .3) (st .pre .0 .4)
+    let st = c .before .before .before .before .before .before .before .before .before .before .before .before in
+    grows (st .pre .1 .2) (st .args .tally) (rw (c .before .before .before .before .before .before .before .before .frame .given .1, c .before .before .before .before .before .gate3 .given .1)) (c .before .before .xor .ensures .put) (st .pre .0 .2) (st .pre .0 .3) (st .pre .0 .4)
 
 enum-known-gate-4 : tie.Need-enum-known-gate-4
 enum-known-gate-4 c = search needs
@@ -61,10 +55,8 @@ copy-requires c κs = search needs
 
 grown-requires-4 : tie.Need-grown-requires-4
 grown-requires-4 c κs =
-    let st = c .before .before .before .before .before .before .before .before .before .before .before .before .before in
-    let f = c .before .before .before .before .before .before .before .before .before .frame .given .1 in
-    let g = c .before .before .before .before .before .before .gate4 .given .1 in
-    grows (st .pre .1 .2) (st .args .tally) (c .before .before .before .copy .ensures .put) (c .if4 .taken) (rw (f, g)) (st .pre .0 .2) (st .pre .0 .3) (st .pre .0 .4)
+    let st = c .before .before .before .before .before .before .before .before .before .before .before .before in
+    grows (st .pre .1 .2) (st .args .tally) (rw (c .before .before .before .before .before .before .before .before .frame .given .1, c .before .before .before .before .before .gate4 .given .1)) (c .before .before .copy .ensures .put) (st .pre .0 .2) (st .pre .0 .3) (st .pre .0 .4)
 
 enum-known-gate-5 : tie.Need-enum-known-gate-5
 enum-known-gate-5 c = search needs
@@ -74,10 +66,8 @@ copy-requires-2 c κs = search needs
 
 grown-requires-5 : tie.Need-grown-requires-5
 grown-requires-5 c κs =
-    let st = c .before .before .before .before .before .before .before .before .before .before .before .before .before in
-    let f = c .before .before .before .before .before .before .before .before .before .frame .given .1 in
-    let g = c .before .before .before .before .before .before .gate5 .given .1 in
-    grows (st .pre .1 .2) (st .args .tally) (c .before .before .before .copy2 .ensures .put) (c .if5 .taken) (rw (f, g)) (st .pre .0 .2) (st .pre .0 .3) (st .pre .0 .4)
+    let st = c .before .before .before .before .before .before .before .before .before .before .before .before in
+    grows (st .pre .1 .2) (st .args .tally) (rw (c .before .before .before .before .before .before .before .before .frame .given .1, c .before .before .before .before .before .gate5 .given .1)) (c .before .before .copy2 .ensures .put) (st .pre .0 .2) (st .pre .0 .3) (st .pre .0 .4)
 
 enum-told : tie.Need-enum-told
 enum-told c = search needs
@@ -101,12 +91,13 @@ larger-requires c κs = search needs
 
 grown-requires-6 : tie.Need-grown-requires-6
 grown-requires-6 c κs =
-    let st = c .before .before .before .before .before .before .before .before .before .before .before .before .before .before in
-    let f = c .before .before .before .before .before .before .before .before .before .before .frame .given .1 in
-    let g = c .before .before .before .before .before .before .before .enum-told .given .1 in
-    let lead = c .before .before .before .before .lead-stage .ensures .0 in
-    let p = none-put (c .before .before .before .before .lead-stage .result) (st .args .tally .wires) (now (st .args .notes)) (c .before .before .out .ensures (c .before .if6 .taken) .0) (st .pre .0 .1) in
-    grows (st .pre .1 .2) (st .args .tally) p refl (rw (f, g, lead)) (st .pre .0 .2) (st .pre .0 .3) (st .pre .0 .4)
+    let st = c .before .before .before .before .before .before .before .before .before .before .before .before .before in
+    let f = c .before .before .before .before .before .before .before .before .before .frame .given .1 in
+    let g = c .before .before .before .before .before .before .enum-told .given .1 in
+    let lead = c .before .before .before .lead-stage .ensures .0 in
+    let kept = c .before .out .ensures in
+    let p = none-put (c .before .before .before .lead-stage .result) (st .args .tally .wires) (now (st .args .notes)) (c .before .out .result) (λ y. kept y .0) (st .pre .0 .1) in
+    grows (st .pre .1 .2) (st .args .tally) (rw (f, g, lead)) p (st .pre .0 .2) (st .pre .0 .3) (st .pre .0 .4)
 
 enum-told-2 : tie.Need-enum-told-2
 enum-told-2 c = search needs
@@ -122,10 +113,11 @@ and-requires c κs =
 
 grown-requires-7 : tie.Need-grown-requires-7
 grown-requires-7 c κs =
-    let st = c .before .before .before .before .before .before .before .before .before .before in
+    let st = c .before .before .before .before .before .before .before .before .before in
     let look = noted (now (st .args .notes)) (st .args .tally .wires) in
-    grows (st .pre .1 .2) (st .args .tally) (c .before .before .before .and .ensures .put) (c .if7 .taken)
-    (rw (c .before .before .before .before .before .before .enum-told2 .given .1) (ap (λ n. rowAfter n (st .args .d) (look (nth (now (st .args .ops)) 1))) (c .before .before .before .before .before .less .ensures))) (st .pre .0 .2) (st .pre .0 .3) (st .pre .0 .4)
+    grows (st .pre .1 .2) (st .args .tally)
+    (rw (c .before .before .before .before .before .enum-told2 .given .1) (ap (λ n. rowAfter n (st .args .d) (look (nth (now (st .args .ops)) 1))) (c .before .before .before .before .less .ensures)))
+    (c .before .before .and .ensures .put) (st .pre .0 .2) (st .pre .0 .3) (st .pre .0 .4)
 
 enum-told-3 : tie.Need-enum-told-3
 enum-told-3 c = search needs
@@ -141,150 +133,98 @@ refresh-requires c κs =
 
 grown-requires-8 : tie.Need-grown-requires-8
 grown-requires-8 c κs =
-    let st = c .before .before .before .before .before .before .before .before .before .before in
+    let st = c .before .before .before .before .before .before .before .before .before in
     let look = noted (now (st .args .notes)) (st .args .tally .wires) in
-    grows (st .pre .1 .2) (st .args .tally) (c .before .before .before .refresh .ensures .put) (c .if8 .taken)
-    (rw (c .before .before .before .before .before .before .enum-told3 .given .1) (ap (λ n. rowAfter n (st .args .d) (look (nth (now (st .args .ops)) 1))) (c .before .before .before .before .before .less2 .ensures))) (st .pre .0 .2) (st .pre .0 .3) (st .pre .0 .4)
+    grows (st .pre .1 .2) (st .args .tally)
+    (rw (c .before .before .before .before .before .enum-told3 .given .1) (ap (λ n. rowAfter n (st .args .d) (look (nth (now (st .args .ops)) 1))) (c .before .before .before .before .less2 .ensures)))
+    (c .before .before .refresh .ensures .put) (st .pre .0 .2) (st .pre .0 .3) (st .pre .0 .4)
 
 same-length : tie.Need-same-length
 same-length c = search needs
 
 returns : tie.Need-returns
 returns c =
-    let st = c .before .before .before .before .before .before .before .before .before .before .before .before .before .before in
-    let f = c .before .before .before .before .before .before .before .before .before .before .frame .given .1 in
-    let g = c .before .before .before .before .before .before .before .gate .given .1 in
-    let y = c .before .if1 .taken in
-    taken (st .pre .1 .2) (st .args .tally) (c .before .before .before .before .input .ensures .put) y (rw (f, g)) (rw (f, g) (c .before .before .before .before .input .ensures .right y)) (st .args .tally .latency) (rw (f, g)) _ (c .grown .ensures)
+    let st = c .before .before .before .before .before .before .before .before .before .before .before .before .before in
+    let f = c .before .before .before .before .before .before .before .before .before .frame .given .1 in
+    let g = c .before .before .before .before .before .before .gate .given .1 in
+    settled (st .pre .1 .2) (st .args .tally) (rw (f, g)) (c .before .before .before .input .ensures .put) (rw (f, g) (c .before .before .before .input .ensures .right)) (st .args .tally .latency) (rw (f, g)) (c .grown .ensures)
 
 same-length-2 : tie.Need-same-length-2
 same-length-2 c = search needs
 
 returns-2 : tie.Need-returns-2
-returns-2 c = c .before .before .before .input .ensures .put .untouched (c .if1 .left)
+returns-2 c =
+    let st = c .before .before .before .before .before .before .before .before .before .before .before .before .before in
+    let f = c .before .before .before .before .before .before .before .before .before .frame .given .1 in
+    let g = c .before .before .before .before .before .before .gate2 .given .1 in
+    settled (st .pre .1 .2) (st .args .tally) (rw (f, g)) (c .before .before .before .constant .ensures .put) (rw (f, g) (c .before .before .before .constant .ensures .right)) (st .args .tally .latency) (rw (f, g)) (c .grown2 .ensures)
 
 same-length-3 : tie.Need-same-length-3
 same-length-3 c = search needs
 
 returns-3 : tie.Need-returns-3
 returns-3 c =
-    let st = c .before .before .before .before .before .before .before .before .before .before .before .before .before .before in
-    let f = c .before .before .before .before .before .before .before .before .before .before .frame .given .1 in
-    let g = c .before .before .before .before .before .before .before .gate2 .given .1 in
-    let y = c .before .if2 .taken in
-    taken (st .pre .1 .2) (st .args .tally) (c .before .before .before .before .constant .ensures .put) y (rw (f, g)) (rw (f, g) (c .before .before .before .before .constant .ensures .right y)) (st .args .tally .latency) (rw (f, g)) _ (c .grown2 .ensures)
+    let st = c .before .before .before .before .before .before .before .before .before .before .before .before .before in
+    let f = c .before .before .before .before .before .before .before .before .before .frame .given .1 in
+    let g = c .before .before .before .before .before .before .gate3 .given .1 in
+    settled (st .pre .1 .2) (st .args .tally) (rw (f, g)) (c .before .before .before .xor .ensures .put) (rw (f, g) (c .before .before .before .xor .ensures .right)) (st .args .tally .latency) (rw (f, g)) (c .grown3 .ensures)
 
 same-length-4 : tie.Need-same-length-4
 same-length-4 c = search needs
 
 returns-4 : tie.Need-returns-4
-returns-4 c = c .before .before .before .constant .ensures .put .untouched (c .if2 .left)
+returns-4 c =
+    let st = c .before .before .before .before .before .before .before .before .before .before .before .before .before in
+    let f = c .before .before .before .before .before .before .before .before .before .frame .given .1 in
+    let g = c .before .before .before .before .before .before .gate4 .given .1 in
+    settled (st .pre .1 .2) (st .args .tally) (rw (f, g)) (c .before .before .before .copy .ensures .put) (rw (f, g) (c .before .before .before .copy .ensures .right)) (st .args .tally .latency) (rw (f, g)) (c .grown4 .ensures)
 
 same-length-5 : tie.Need-same-length-5
 same-length-5 c = search needs
 
 returns-5 : tie.Need-returns-5
 returns-5 c =
-    let st = c .before .before .before .before .before .before .before .before .before .before .before .before .before .before in
-    let f = c .before .before .before .before .before .before .before .before .before .before .frame .given .1 in
-    let g = c .before .before .before .before .before .before .before .gate3 .given .1 in
-    let y = c .before .if3 .taken in
-    taken (st .pre .1 .2) (st .args .tally) (c .before .before .before .before .xor .ensures .put) y (rw (f, g)) (rw (f, g) (c .before .before .before .before .xor .ensures .right y)) (st .args .tally .latency) (rw (f, g)) _ (c .grown3 .ensures)
+    let st = c .before .before .before .before .before .before .before .before .before .before .before .before .before in
+    let f = c .before .before .before .before .before .before .before .before .before .frame .given .1 in
+    let g = c .before .before .before .before .before .before .gate5 .given .1 in
+    settled (st .pre .1 .2) (st .args .tally) (rw (f, g)) (c .before .before .before .copy2 .ensures .put) (rw (f, g) (c .before .before .before .copy2 .ensures .right)) (st .args .tally .latency) (rw (f, g)) (c .grown5 .ensures)
 
 same-length-6 : tie.Need-same-length-6
 same-length-6 c = search needs
 
 returns-6 : tie.Need-returns-6
-returns-6 c = c .before .before .before .xor .ensures .put .untouched (c .if3 .left)
+returns-6 c =
+    let st = c .before .before .before .before .before .before .before .before .before .before .before .before .before .before in
+    let f = c .before .before .before .before .before .before .before .before .before .before .frame .given .1 in
+    let g = c .before .before .before .before .before .before .before .enum-told .given .1 in
+    let lead = c .before .before .before .before .lead-stage .ensures .0 in
+    let kept = c .before .before .out .ensures in
+    let p = none-put (c .before .before .before .before .lead-stage .result) (st .args .tally .wires) (now (st .args .notes)) (c .before .before .out .result) (λ y. kept y .0) (st .pre .0 .1) in
+    settled (st .pre .1 .2) (st .args .tally) (rw (f, g, lead)) p (rw (f, g, ← lead) (λ y. kept y .1)) (c .before .larger .result) (rw (f, g) (c .before .larger .ensures)) (c .grown6 .ensures)
 
 same-length-7 : tie.Need-same-length-7
 same-length-7 c = search needs
 
 returns-7 : tie.Need-returns-7
 returns-7 c =
-    let st = c .before .before .before .before .before .before .before .before .before .before .before .before .before .before in
-    let f = c .before .before .before .before .before .before .before .before .before .before .frame .given .1 in
-    let g = c .before .before .before .before .before .before .before .gate4 .given .1 in
-    let y = c .before .if4 .taken in
-    taken (st .pre .1 .2) (st .args .tally) (c .before .before .before .before .copy .ensures .put) y (rw (f, g)) (rw (f, g) (c .before .before .before .before .copy .ensures .right y)) (st .args .tally .latency) (rw (f, g)) _ (c .grown4 .ensures)
+    let st = c .before .before .before .before .before .before .before .before .before .before in
+    let f = c .before .before .before .before .before .before .enum-told2 .given .1 in
+    let look = noted (now (st .args .notes)) (st .args .tally .wires) in
+    settled (st .pre .1 .2) (st .args .tally)
+    (rw f (ap (λ n. rowAfter n (st .args .d) (look (nth (now (st .args .ops)) 1))) (c .before .before .before .before .before .less .ensures)))
+    (c .before .before .before .and .ensures .put) (rw f (c .before .before .before .and .ensures .right)) (st .args .tally .latency) (rw f) (c .grown7 .ensures)
 
 same-length-8 : tie.Need-same-length-8
 same-length-8 c = search needs
 
 returns-8 : tie.Need-returns-8
-returns-8 c = c .before .before .before .copy .ensures .put .untouched (c .if4 .left)
-
-same-length-9 : tie.Need-same-length-9
-same-length-9 c = search needs
-
-returns-9 : tie.Need-returns-9
-returns-9 c =
-    let st = c .before .before .before .before .before .before .before .before .before .before .before .before .before .before in
-    let f = c .before .before .before .before .before .before .before .before .before .before .frame .given .1 in
-    let g = c .before .before .before .before .before .before .before .gate5 .given .1 in
-    let y = c .before .if5 .taken in
-    taken (st .pre .1 .2) (st .args .tally) (c .before .before .before .before .copy2 .ensures .put) y (rw (f, g)) (rw (f, g) (c .before .before .before .before .copy2 .ensures .right y)) (st .args .tally .latency) (rw (f, g)) _ (c .grown5 .ensures)
-
-same-length-10 : tie.Need-same-length-10
-same-length-10 c = search needs
-
-returns-10 : tie.Need-returns-10
-returns-10 c = c .before .before .before .copy2 .ensures .put .untouched (c .if5 .left)
-
-same-length-11 : tie.Need-same-length-11
-same-length-11 c = search needs
-
-returns-11 : tie.Need-returns-11
-returns-11 c =
-    let st = c .before .before .before .before .before .before .before .before .before .before .before .before .before .before .before in
-    let f = c .before .before .before .before .before .before .before .before .before .before .before .frame .given .1 in
-    let g = c .before .before .before .before .before .before .before .before .enum-told .given .1 in
-    let lead = c .before .before .before .before .before .lead-stage .ensures .0 in
-    let kept = c .before .before .before .out .ensures (c .before .before .if6 .taken) in
-    let p = none-put (c .before .before .before .before .before .lead-stage .result) (st .args .tally .wires) (now (st .args .notes)) (kept .0) (st .pre .0 .1) in
-    taken (st .pre .1 .2) (st .args .tally) p refl (rw (f, g, lead)) (rw (f, g, ← lead) (kept .1)) (c .before .larger .result) (rw (f, g) (c .before .larger .ensures)) _ (c .grown6 .ensures)
-
-same-length-12 : tie.Need-same-length-12
-same-length-12 c = search needs
-
-returns-12 : tie.Need-returns-12
-returns-12 c = refl
-
-same-length-13 : tie.Need-same-length-13
-same-length-13 c = search needs
-
-returns-13 : tie.Need-returns-13
-returns-13 c =
-    let st = c .before .before .before .before .before .before .before .before .before .before .before in
+returns-8 c =
+    let st = c .before .before .before .before .before .before .before .before .before .before in
+    let f = c .before .before .before .before .before .before .enum-told3 .given .1 in
     let look = noted (now (st .args .notes)) (st .args .tally .wires) in
-    let y = c .before .if7 .taken in
-    taken (st .pre .1 .2) (st .args .tally) (c .before .before .before .before .and .ensures .put) y
-    (rw (c .before .before .before .before .before .before .before .enum-told2 .given .1) (ap (λ n. rowAfter n (st .args .d) (look (nth (now (st .args .ops)) 1))) (c .before .before .before .before .before .before .less .ensures)))
-    (rw (c .before .before .before .before .before .before .before .enum-told2 .given .1) (c .before .before .before .before .and .ensures .right y)) (st .args .tally .latency) (rw (c .before .before .before .before .before .before .before .enum-told2 .given .1)) _ (c .grown7 .ensures)
-
-same-length-14 : tie.Need-same-length-14
-same-length-14 c = search needs
-
-returns-14 : tie.Need-returns-14
-returns-14 c = c .before .before .before .and .ensures .put .untouched (c .if7 .left)
-
-same-length-15 : tie.Need-same-length-15
-same-length-15 c = search needs
-
-returns-15 : tie.Need-returns-15
-returns-15 c =
-    let st = c .before .before .before .before .before .before .before .before .before .before .before in
-    let look = noted (now (st .args .notes)) (st .args .tally .wires) in
-    let y = c .before .if8 .taken in
-    taken (st .pre .1 .2) (st .args .tally) (c .before .before .before .before .refresh .ensures .put) y
-    (rw (c .before .before .before .before .before .before .before .enum-told3 .given .1) (ap (λ n. rowAfter n (st .args .d) (look (nth (now (st .args .ops)) 1))) (c .before .before .before .before .before .before .less2 .ensures)))
-    (rw (c .before .before .before .before .before .before .before .enum-told3 .given .1) (c .before .before .before .before .refresh .ensures .right y)) (st .args .tally .latency) (rw (c .before .before .before .before .before .before .before .enum-told3 .given .1)) _ (c .grown8 .ensures)
-
-same-length-16 : tie.Need-same-length-16
-same-length-16 c = search needs
-
-returns-16 : tie.Need-returns-16
-returns-16 c = c .before .before .before .refresh .ensures .put .untouched (c .if8 .left)
+    settled (st .pre .1 .2) (st .args .tally)
+    (rw f (ap (λ n. rowAfter n (st .args .d) (look (nth (now (st .args .ops)) 1))) (c .before .before .before .before .before .less2 .ensures)))
+    (c .before .before .before .refresh .ensures .put) (rw f (c .before .before .before .refresh .ensures .right)) (st .args .tally .latency) (rw f) (c .grown8 .ensures)
 
 pub take-spec : {M : Type 1} → statement M
 take-spec =
@@ -335,20 +275,4 @@ take-spec =
     same-length-7
     returns-7
     same-length-8
-    returns-8
-    same-length-9
-    returns-9
-    same-length-10
-    returns-10
-    same-length-11
-    returns-11
-    same-length-12
-    returns-12
-    same-length-13
-    returns-13
-    same-length-14
-    returns-14
-    same-length-15
-    returns-15
-    same-length-16
-    returns-16)
+    returns-8)
