@@ -1,5 +1,6 @@
 -- The kind table in numbers
 pub mod KindTable
+pub mod Framing
 -- The words of a frame
 pub mod WordRules
 pub mod Numbers
@@ -9,5 +10,6 @@ pub mod MadeNotes
 pub mod Telling
 -- One frame, then all
 pub mod Adding
+pub mod Taking
 pub mod Checking
 pub mod Ways

@@ -30,15 +30,28 @@ store-turn n from i a b ws rest e = ap (sets n p) e ∙ ap₂ (λ q r. sets (set
     after : suc (suc p) ≡ 2 * from + 2 * (i + 1)
     after = omega arith
 
--- what is left of inner and of named wires after a turn, and at the end
-pub inner-turn : (count i : ℕ) → i < count → innerWords (count - i) ≡ innerNote ∷ innerNote ∷ innerWords (count - (i + 1))
-unfolding innerWords
-inner-turn count i h = let e : count - i ≡ suc (count - (i + 1)) = omega arith in ap innerWords e
+-- the words of inner wires, one by one
+unfoldable pub marks : ℕ → List ℕ
+marks zero = []
+marks (suc n) = innerNote ∷ marks n
 
-pub inner-end : (count i : ℕ) → i ≤ count → count ≤ i → innerWords (count - i) ≡ []
-unfolding innerWords
-inner-end count i h l = let e : count - i ≡ 0 = omega arith in ap innerWords e
+pub inner-marks : (count : ℕ) → innerWords count ≡ marks (2 * count)
+unfolding innerWords marks
+inner-marks zero = refl
+inner-marks (suc n) = let e : suc (suc (2 * n)) ≡ 2 * suc n = omega arith in ap (λ l. innerNote ∷ innerNote ∷ l) (inner-marks n) ∙ ap marks e
 
+pub marks-turn : (n : List ℕ) (end i : ℕ) → i < end → sets n i (marks (end - i)) ≡ sets (set n i innerNote) (i + 1) (marks (end - (i + 1)))
+unfolding marks
+marks-turn n end i h =
+    let e : end - i ≡ suc (end - (i + 1)) = omega arith in
+    let next : suc i ≡ i + 1 = omega arith in
+    ap (λ k. sets n i (marks k)) e ∙ ap (λ q. sets (set n i innerNote) q (marks (end - (i + 1)))) next
+
+pub marks-end : (n : List ℕ) (end i : ℕ) → end ≤ i → sets n i (marks (end - i)) ≡ n
+unfolding marks
+marks-end n end i h = let e : end - i ≡ 0 = omega arith in ap (λ k. sets n i (marks k)) e
+
+-- what is left of named wires after a turn, and at the end
 pub named-turn : (label stage count i : ℕ) → i < count
     → namedWords (label + i) stage (count - i) ≡ (label + i) ∷ stage ∷ namedWords (label + (i + 1)) stage (count - (i + 1))
 unfolding namedWords

@@ -17,6 +17,8 @@ use Rattle.checker.specs.declared.walk.Step.the-variants as step
 use Rattle.checker.specs.declared.frame.Tally.{Tally}
 use Rattle.checker.specs.declared.frame.Added.{Added}
 use Rattle.checker.specs.declared.frame.Added.the-variants as added
+use Rattle.checker.specs.declared.frame.Taken.{Taken}
+use Rattle.checker.specs.declared.frame.Taken.the-variants as taken
 use Rattle.circuit.specs.Limits.{notesRoom, fewestShares, mostShares, wireLimit}
 use Rattle.circuit.specs.Lists.{nth, each}
 use Rattle.circuit.specs.Kinds.{Kind, HEAD, kindOf, shape, words}
@@ -26,6 +28,7 @@ use Rattle.checker.specs.Said.{said, inputsAre}
 use Rattle.circuit.specs.Answer.{Answer, answer, verdictOf, note, notesAfter}
 use Rattle.checker.specs.Walk.{shapeCode, operandsAt, behind, stepAt}
 use Rattle.checker.specs.Sheet.{Tells, tallyOf, judgementIn, laterRule, notesAdded, FrameOf, Placed, Adds}
+use Rattle.checker.specs.Quick.{Takes}
 use Rattle.circuit.specs.Composition.{kindWord, Fits}
 use Rattle.circuit.proofs.Building.{size-extend}
 use Rattle.circuit.proofs.Steps.{frames-pass, frames-refuse}
@@ -112,7 +115,7 @@ module _ {table notes₀ notes : List ℕ} {d : ℕ} {walk : Walk} {tally : Tall
     judged-is = rw (le-leb 1 (nth table (walk .at)) (frame-at .low), le-leb (nth table (walk .at)) 8 (frame-at .high), le-leb (words (w .k .d) kind) (length rest) whole, ops-is)
 
     pub frame-of : FrameOf fr sh d ops
-    frame-of = record { kind = kind; frame-is = placed .frame-is; shape-is = placed .shape-is }
+    frame-of = record { kind = kind; later = later; whole = placed .whole; frame-is = placed .frame-is; shape-is = placed .shape-is }
 
     module _ (new : List ℕ) (r : Added) (a : Adds tally fr sh d ops notes new r) where
       -- the frame is refused, and the notes stay
@@ -166,6 +169,14 @@ module _ {table notes₀ notes : List ℕ} {d : ℕ} {walk : Walk} {tally : Tall
           one : suc (tally .frames) ≡ tally .frames + 1
           one = omega arith
 
+    -- the frame is taken at one look, or left as it was
+    module _ (new : List ℕ) (r : Taken) (a : Takes tally fr sh d ops notes new r) where
+      pub turn-taken : (t : Tally) → r ≡ taken.Next t → Walking table notes₀ new d next t
+      turn-taken t s = turn new (added.Next t) (subst (Takes tally fr sh d ops notes new) s a) t refl
+
+      pub turn-left : r ≡ taken.Unsure → Walking table notes₀ new d walk tally
+      turn-left s = subst (λ n. Walking table notes₀ n d walk tally) (sym (subst (Takes tally fr sh d ops notes new) s a)) w
+
     -- and less of the table is left
     pub less-left : length table - next .at < length table - walk .at
     unfolding kind rest
@@ -196,3 +207,6 @@ bounded w =
 
 pub shares-few : {table notes₀ notes : List ℕ} {d : ℕ} {walk : Walk} {tally : Tally} → Walking table notes₀ notes d walk tally → d ≤ 8
 shares-few w = omega (arith, w .shares, w .most)
+
+pub shares-least : {table notes₀ notes : List ℕ} {d : ℕ} {walk : Walk} {tally : Tally} → Walking table notes₀ notes d walk tally → 2 ≤ d
+shares-least w = omega (arith, w .shares, w .least)

@@ -34,10 +34,10 @@ first-row : (rule : ℕ → ℕ → WordRule) (p d i : ℕ) → i < d → getD (
 first-row rule p d i h = let q : 0 + i ≡ i = omega arith in row-at (λ i. rule i p) 0 d i order h ∙ ap (λ j. rule j p) q
 
 -- the words of a gadget behind the first random
-a-rule : (d j : ℕ) → j < d → gadgetRule d (suc j) ≡ share j 1
+pub a-rule : (d j : ℕ) → j < d → gadgetRule d (suc j) ≡ share j 1
 a-rule d j h = let q : suc j - 1 ≡ j = omega arith in rw (ne-eqb (suc j) 0 (λ e. omega arith), le-leb (suc j) d h, q)
 
-b-rule : (d j : ℕ) → d ≤ j → gadgetRule d (suc j) ≡ before (j - d) 1
+pub b-rule : (d j : ℕ) → d ≤ j → gadgetRule d (suc j) ≡ before (j - d) 1
 b-rule d j h = let q : suc j - 1 - d ≡ j - d = omega arith in rw (ne-eqb (suc j) 0 (λ e. omega arith), lt-leb (suc j) d (omega arith), q)
 
 and-row : (d j : ℕ) → j < d + d → getD (row share 1 d ++ row before 1 d) j order ≡ gadgetRule d (suc j)

@@ -3,3 +3,4 @@ pub mod Said
 pub mod Walk
 -- For the contracts of the crate's own functions. No promise to others names any of it.
 pub mod Sheet
+pub mod Quick

@@ -198,9 +198,11 @@ abbrev pub notesAdded : Judgement → (notes : List ℕ) (from : ℕ) → List W
 notesAdded pass notes from ws = sets notes (2 * from) (each ws (λ w. note (w .place)))
 notesAdded (refuse rule frame word) notes from ws = notes
 
--- the frame and the shape are those of one kind
+-- the frame, the shape and the words are those of one kind
 pub record FrameOf (fr : Frame) (sh : ShapeCode) (d : ℕ) (ops : List ℕ) : Type 0 where
   pub kind : Kind
+  pub later : kind ≡ HEAD → ⊥
+  pub whole : length ops ≡ words d kind
   pub frame-is : fr ≡ frameCode (kindCode kind) ops
   pub shape-is : sh ≡ shapeCode d kind
 

@@ -3,10 +3,13 @@ ghost use mathlib.Core.Path.{_≡_};
 ghost use Prim.Native.Nat.{_+_, _*_, _-_, _≤_, _<_};
 ghost use lib.ListN.{length};
 ghost use Rattle.checker.specs.Sheet.{noted, likeWire, rowAfter, madeFrame, latencyFrame, FrameOf, Adds};
+ghost use Rattle.checker.specs.Quick.{Fitting, grownBy, largerOf, Takes};
+ghost use mathlib.Core.Bool.{true};
 use super::kinds::Shape;
 use super::notes;
 use super::notes::Found;
 use super::notes::Made;
+use super::quick;
 use super::walk::Frame;
 use super::walk::Gate;
 use super::walk::word_at;
@@ -122,6 +125,13 @@ fn less(a: usize, b: usize) -> usize
     if a < b { 0 } else { a - b }
 }
 
+// The larger of two numbers.
+fn larger(a: usize, b: usize) -> usize
+    ensures { λ r. ⌜ r ≡ largerOf a b ⌝ }
+{
+    if a < b { b } else { a }
+}
+
 // The frame checked by its words, then by rules 13 and 14, and its wires written.
 pub(crate) fn add(
     tally: Tally,
@@ -162,4 +172,89 @@ pub(crate) fn add(
         latency: latency_after(frame, tally.latency, stage),
         inputs: tally.inputs + shape.brings,
     })
+}
+
+// The circuit with one frame more; or the frame is not taken, and nothing is done.
+pub enum Taken {
+    Next(Tally),
+    Unsure,
+}
+
+// The counts with one frame more, where its wires were written.
+fn grown(done: bool, tally: Tally, shape: Shape, latency: usize) -> Taken
+    requires { ⌜ (done ≡ true → Fitting tally shape) ⌝ }
+    ensures { λ r. ⌜ r ≡ grownBy done tally shape latency ⌝ }
+{
+    if done {
+        Taken::Next(Tally {
+            frames: tally.frames + 1,
+            wires: tally.wires + shape.makes,
+            randoms: tally.randoms + shape.uses,
+            latency: latency,
+            inputs: tally.inputs + shape.brings,
+        })
+    } else {
+        Taken::Unsure
+    }
+}
+
+// The frame added where one look shows that it keeps its rules.
+pub(crate) fn take(
+    tally: Tally,
+    frame: Frame,
+    shape: Shape,
+    d: u16,
+    ops: &[u16],
+    notes: &mut [u16],
+) -> Taken
+    requires { ⌜ (16384 ≤ length (now notes)) × (tally .wires ≤ 8192) × (tally .randoms ≤ tally .wires) × (tally .frames ≤ 8192) × (tally .inputs ≤ tally .frames) ⌝ }
+    requires { ⌜ (2 ≤ d) × (d ≤ 8) × FrameOf frame shape d (now ops) ⌝ }
+    ensures { λ r. ⌜ Takes tally frame shape d (now (ops .entry)) (now (notes .entry)) (now (notes .exit)) r ⌝ }
+{
+    let n = d as usize;
+    let wires = tally.wires;
+    let latency = tally.latency;
+    match frame {
+        Frame::Gate(gate) => match gate {
+            Gate::In { stage } => {
+                let done = quick::input(stage, n, wires, notes);
+                grown(done, tally, shape, latency)
+            }
+            Gate::Con {
+                label,
+                value,
+                stage,
+            } => {
+                let done = quick::constant(label, value, stage, n, wires, notes);
+                grown(done, tally, shape, latency)
+            }
+            Gate::Xor { first, second } => {
+                let done = quick::xor(first, second, wires, notes);
+                grown(done, tally, shape, latency)
+            }
+            Gate::Not { wire } => {
+                let done = quick::copy(wire, 0, wires, notes);
+                grown(done, tally, shape, latency)
+            }
+            Gate::Reg { wire } => {
+                let done = quick::copy(wire, 1, wires, notes);
+                grown(done, tally, shape, latency)
+            }
+            Gate::Out => {
+                let stage = quick::lead_stage(ops[0], wires, notes);
+                let done = quick::out(ops, stage, wires, notes);
+                grown(done, tally, shape, larger(latency, stage))
+            }
+        },
+        Frame::And => {
+            let inner = less(shape.makes, n);
+            let done = quick::and(inner, n, tally.randoms, ops, wires, notes);
+            grown(done, tally, shape, latency)
+        }
+        Frame::Ref => {
+            let inner = less(shape.makes, n);
+            let done = quick::refresh(inner, n, tally.randoms, ops, wires, notes);
+            grown(done, tally, shape, latency)
+        }
+    }
 }

@@ -10,10 +10,12 @@ ghost use Rattle.checker.specs.Sheet.{headNumber};
 mod frame;
 pub mod kinds;
 mod notes;
+mod quick;
 pub mod walk;
 mod words;
 
 use frame::Added;
+use frame::Taken;
 use frame::Tally;
 use walk::Step;
 use walk::Walk;
@@ -32,6 +34,28 @@ pub enum Verdict {
         frame: usize,
         word: usize,
     },
+}
+
+// The answers, from the counts and from a rule's spot.
+fn accepted(tally: Tally) -> Verdict
+    ensures { λ r. ⌜ r ≡ Verdict.Accepted (tally .wires) (tally .randoms) (tally .latency) (tally .inputs) ⌝ }
+{
+    Verdict::Accepted {
+        wires: tally.wires,
+        randoms: tally.randoms,
+        latency: tally.latency,
+        inputs: tally.inputs,
+    }
+}
+
+fn refused(rule: usize, frame: usize, word: usize) -> Verdict
+    ensures { λ r. ⌜ r ≡ Verdict.Refused rule frame word ⌝ }
+{
+    Verdict::Refused {
+        rule: rule,
+        frame: frame,
+        word: word,
+    }
 }
 
 // The first of rules 1 to 4 that a table and notes of so many words break; 0 for none.
@@ -59,20 +83,14 @@ fn head_rule(table: &[u16], room: usize) -> usize
     0
 }
 
-// The table checked frame by frame, in one pass. Rules 1 to 4 leave the notes untouched.
-pub fn check(table: &[u16], notes: &mut [u16]) -> Verdict
+// The frames of a table that keeps rules 1 to 4: taken at one look, as long as that shows that they keep their rules, and
+// judged word by word from the first that is left.
+fn check_frames(table: &[u16], notes: &mut [u16]) -> Verdict
+    requires { ⌜ headNumber (now table) (length (now notes)) ≡ 0 ⌝ }
     ensures answered { λ r. ⌜ said r ≡ verdictOf (now (table .entry)) (length (now (notes .entry))) ⌝ }
     ensures noted { λ _. ⌜ now (notes .exit) ≡ notesAfter (checked (now (table .entry)) (length (now (notes .entry))) .circuit) (now (notes .entry)) ⌝ }
     ensures brought { λ r. ⌜ inputsAre r (checked (now (table .entry)) (length (now (notes .entry))) .circuit .inputs) ⌝ }
 {
-    let broken = head_rule(table, notes.len());
-    if broken != 0 {
-        return Verdict::Refused {
-            rule: broken,
-            frame: 0,
-            word: broken / 4,
-        };
-    }
     let d = table[1];
     let mut walk = Walk { d: d, at: 2 };
     let mut tally = Tally {
@@ -82,23 +100,37 @@ pub fn check(table: &[u16], notes: &mut [u16]) -> Verdict
         latency: 0,
         inputs: 0,
     };
+    let mut sure = true;
+    while sure {
+        let step = walk.step(table);
+        if let Step::Next {
+            frame,
+            shape,
+            walk: next,
+        } = step {
+            let ops = walk.operands(table);
+            let taken = frame::take(tally, frame, shape, d, ops, notes);
+            match taken {
+                Taken::Next(t) => {
+                    tally = t;
+                    walk = next;
+                }
+                Taken::Unsure => {
+                    sure = false;
+                }
+            }
+        } else {
+            sure = false;
+        }
+    }
     loop {
         let step = walk.step(table);
         match step {
             Step::End => {
-                return Verdict::Accepted {
-                    wires: tally.wires,
-                    randoms: tally.randoms,
-                    latency: tally.latency,
-                    inputs: tally.inputs,
-                };
+                return accepted(tally);
             }
             Step::Refused { rule } => {
-                return Verdict::Refused {
-                    rule: rule,
-                    frame: tally.frames,
-                    word: 0,
-                };
+                return refused(rule, tally.frames, 0);
             }
             Step::Next {
                 frame,
@@ -109,11 +141,7 @@ pub fn check(table: &[u16], notes: &mut [u16]) -> Verdict
                 let added = frame::add(tally, frame, shape, d, ops, notes);
                 match added {
                     Added::Refused { rule, word } => {
-                        return Verdict::Refused {
-                            rule: rule,
-                            frame: tally.frames,
-                            word: word,
-                        };
+                        return refused(rule, tally.frames, word);
                     }
                     Added::Next(t) => {
                         tally = t;
@@ -123,4 +151,17 @@ pub fn check(table: &[u16], notes: &mut [u16]) -> Verdict
             }
         }
     }
+}
+
+// The table checked frame by frame, in one pass. Rules 1 to 4 leave the notes untouched.
+pub fn check(table: &[u16], notes: &mut [u16]) -> Verdict
+    ensures answered { λ r. ⌜ said r ≡ verdictOf (now (table .entry)) (length (now (notes .entry))) ⌝ }
+    ensures noted { λ _. ⌜ now (notes .exit) ≡ notesAfter (checked (now (table .entry)) (length (now (notes .entry))) .circuit) (now (notes .entry)) ⌝ }
+    ensures brought { λ r. ⌜ inputsAre r (checked (now (table .entry)) (length (now (notes .entry))) .circuit .inputs) ⌝ }
+{
+    let broken = head_rule(table, notes.len());
+    if broken != 0 {
+        return refused(broken, 0, broken / 4);
+    }
+    check_frames(table, notes)
 }

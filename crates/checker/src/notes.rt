@@ -44,11 +44,10 @@ fn write_inner(notes: &mut [u16], from: usize, count: usize)
     requires { ⌜ 2 * (from + count) ≤ length (now notes) ⌝ }
     ensures { λ _. ⌜ now (notes .exit) ≡ sets (now (notes .entry)) (2 * from) (innerWords count) ⌝ }
 {
-    let start = 2 * from;
-    let mut i = 0;
-    while i < count {
-        notes[start + 2 * i] = 0xFFFF;
-        notes[start + 2 * i + 1] = 0xFFFF;
+    let mut i = 2 * from;
+    let end = i + 2 * count;
+    while i < end {
+        notes[i] = 0xFFFF;
         i += 1;
     }
 }

@@ -1,7 +1,7 @@
 // The walk over the frames of a table.
 ghost use mathlib.Core.Path.{_≡_};
 ghost use Rattle.circuit.specs.Lists.{nth};
-ghost use Rattle.checker.specs.Walk.{frameCode, operandsAt, stepAt};
+ghost use Rattle.checker.specs.Walk.{frameCode, framedBy, operandsAt, stepAt};
 use super::kinds;
 use kinds::Kind;
 use kinds::Shape;
@@ -50,33 +50,71 @@ pub(crate) fn word_at(words: &[u16], i: usize) -> u16
     if i < words.len() { words[i] } else { 0 }
 }
 
-// The frame of a kind, from the words after the kind. (No HEAD comes here: rule 5 refuses it before.)
-fn frame_of(kind: Kind, ops: &[u16]) -> Frame
-    ensures { λ r. ⌜ r ≡ frameCode kind (now (ops .entry)) ⌝ }
+// A frame whose words the table has, or one in which the table ends.
+pub enum Framed {
+    Whole(Frame),
+    Short,
+}
+
+// A frame of so many words after the kind, `rest` being the table after the kind word.
+fn whole(frame: Frame, words: usize, rest: &[u16]) -> Framed
+    ensures { λ r. ⌜ r ≡ framedBy frame words (now (rest .entry)) ⌝ }
+{
+    if rest.len() < words {
+        Framed::Short
+    } else {
+        Framed::Whole(frame)
+    }
+}
+
+// The frame of a kind, from the table after the kind word. (No HEAD comes here: rule 5 refuses it before.) Each kind asks for
+// its words by itself, so that the compiler leads each from the kind's decision straight to what the frame is taken for.
+fn frame_of(kind: Kind, words: usize, rest: &[u16]) -> Framed
+    ensures { λ r. ⌜ r ≡ framedBy (frameCode kind (now (rest .entry))) words (now (rest .entry)) ⌝ }
 {
     match kind {
-        Kind::In => Frame::Gate(Gate::In {
-            stage: word_at(ops, 0),
-        }),
-        Kind::Con => Frame::Gate(Gate::Con {
-            label: word_at(ops, 0),
-            value: word_at(ops, 1),
-            stage: word_at(ops, 2),
-        }),
-        Kind::Xor => Frame::Gate(Gate::Xor {
-            first: word_at(ops, 0),
-            second: word_at(ops, 1),
-        }),
-        Kind::Not => Frame::Gate(Gate::Not {
-            wire: word_at(ops, 0),
-        }),
-        Kind::Reg => Frame::Gate(Gate::Reg {
-            wire: word_at(ops, 0),
-        }),
-        Kind::And => Frame::And,
-        Kind::Ref => Frame::Ref,
-        Kind::Out => Frame::Gate(Gate::Out),
-        Kind::Head => Frame::Gate(Gate::Out),
+        Kind::In => whole(
+            Frame::Gate(Gate::In {
+                stage: word_at(rest, 0),
+            }),
+            words,
+            rest,
+        ),
+        Kind::Con => whole(
+            Frame::Gate(Gate::Con {
+                label: word_at(rest, 0),
+                value: word_at(rest, 1),
+                stage: word_at(rest, 2),
+            }),
+            words,
+            rest,
+        ),
+        Kind::Xor => whole(
+            Frame::Gate(Gate::Xor {
+                first: word_at(rest, 0),
+                second: word_at(rest, 1),
+            }),
+            words,
+            rest,
+        ),
+        Kind::Not => whole(
+            Frame::Gate(Gate::Not {
+                wire: word_at(rest, 0),
+            }),
+            words,
+            rest,
+        ),
+        Kind::Reg => whole(
+            Frame::Gate(Gate::Reg {
+                wire: word_at(rest, 0),
+            }),
+            words,
+            rest,
+        ),
+        Kind::And => whole(Frame::And, words, rest),
+        Kind::Ref => whole(Frame::Ref, words, rest),
+        Kind::Out => whole(Frame::Gate(Gate::Out), words, rest),
+        Kind::Head => whole(Frame::Gate(Gate::Out), words, rest),
     }
 }
 
@@ -116,19 +154,23 @@ impl Walk {
         if 8 < word {
             return Step::Refused { rule: 5 };
         }
-        let shape = kinds::decide(word, d);
-        let words = shape.words;
         let start = at + 1;
-        if table.len() - start < words {
-            return Step::Refused { rule: 6 };
-        }
-        let end = start + words;
+        let n = table.len();
+        let rest = &table[start..n];
+        let shape = kinds::decide(word, d);
         let kind = shape.kind;
-        let frame = frame_of(kind, &table[start..end]);
-        Step::Next {
-            frame: frame,
-            shape: shape,
-            walk: Walk { d: d, at: end },
+        let words = shape.words;
+        let framed = frame_of(kind, words, rest);
+        match framed {
+            Framed::Short => Step::Refused { rule: 6 },
+            Framed::Whole(frame) => {
+                let end = start + words;
+                Step::Next {
+                    frame: frame,
+                    shape: shape,
+                    walk: Walk { d: d, at: end },
+                }
+            }
         }
     }
 }

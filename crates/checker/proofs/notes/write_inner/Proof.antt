@@ -6,55 +6,40 @@ use lib.ListN.{length, length-set}
 use lib.Seq.{sets}
 use borrow.Author.Needs.{needs}
 use Rattle.checker.specs.Sheet.{innerWords}
-use Rattle.checker.proofs.Stores.{store-start, store-turn, inner-turn, inner-end}
+use Rattle.checker.proofs.Stores.{marks, inner-marks, marks-turn, marks-end}
 use Rattle.checker.proofs.notes.write_inner.Statement.{statement}
 use Rattle.checker.proofs.notes.write_inner.Tie as tie
 
 abbrev Inv-loop : tie.InvT-loop
-Inv-loop notes₀ from count start i₀ notes i =
-    (i ≤ count) × (start ≡ 2 * from) × (length notes ≡ length notes₀)
-    × (sets notes₀ (2 * from) (innerWords count) ≡ sets notes (2 * from + 2 * i) (innerWords (count - i)))
+Inv-loop notes₀ from count i₀ end notes i =
+    (2 * from ≤ i) × (i ≤ end) × (end ≡ 2 * from + 2 * count) × (length notes ≡ length notes₀)
+    × (sets notes₀ (2 * from) (innerWords count) ≡ sets notes i (marks (end - i)))
 
 abbrev μ-loop : tie.MeasureT-loop
-μ-loop notes₀ from count start i₀ notes i = count - i
+μ-loop notes₀ from count i₀ end notes i = end - i
 
-mul-start : tie.Need-mul-start Inv-loop μ-loop
-mul-start c = search needs
+mul-i : tie.Need-mul-i Inv-loop μ-loop
+mul-i c = search needs
+
+mul-end : tie.Need-mul-end Inv-loop μ-loop
+mul-end c = search needs
+
+add-end : tie.Need-add-end Inv-loop μ-loop
+add-end c = search needs
 
 loop-holds : tie.Need-loop-holds Inv-loop μ-loop
-loop-holds c = (search needs, search needs, search needs, store-start (c .args .notes .now) (c .args .from) 0 (c .args .count) (λ l k. innerWords k))
+loop-holds c =
+    let n = c .args .notes .now in
+    let from = c .args .from in
+    let count = c .args .count in
+    let e : 2 * count ≡ 2 * from + 2 * count - 2 * from = omega arith in
+    (search needs, search needs, search needs, search needs, ap (sets n (2 * from)) (inner-marks count ∙ ap marks e))
 
 mul-notes : tie.Need-mul-notes Inv-loop μ-loop
 mul-notes c = search needs
 
-add-notes : tie.Need-add-notes Inv-loop μ-loop
-add-notes c = search needs
-
-mul-notes-2 : tie.Need-mul-notes-2 Inv-loop μ-loop
-mul-notes-2 c = search needs
-
 slice-write-notes : tie.Need-slice-write-notes Inv-loop μ-loop
 slice-write-notes c = search needs
-
-mul-notes-3 : tie.Need-mul-notes-3 Inv-loop μ-loop
-mul-notes-3 c = search needs
-
-add-notes-2 : tie.Need-add-notes-2 Inv-loop μ-loop
-add-notes-2 c = search needs
-
-add-notes-3 : tie.Need-add-notes-3 Inv-loop μ-loop
-add-notes-3 c = search needs
-
-mul-notes-4 : tie.Need-mul-notes-4 Inv-loop μ-loop
-mul-notes-4 c = search needs
-
-slice-write-notes-2 : tie.Need-slice-write-notes-2 Inv-loop μ-loop
-slice-write-notes-2 c =
-    let n = c .before .loop .notes in
-    let i = c .before .loop .i in
-    let from = c .before .before .args .from in
-    let count = c .before .before .args .count in
-    omega (arith, length-set n (2 * from + 2 * i) 65535)
 
 add-i : tie.Need-add-i Inv-loop μ-loop
 add-i c = search needs
@@ -63,27 +48,19 @@ loop-less : tie.Need-loop-less Inv-loop μ-loop
 loop-less c = search needs
 
 loop-again : tie.Need-loop-again Inv-loop μ-loop
-loop-again c =
-    let n = c .before .loop .notes in
-    let i = c .before .loop .i in
-    let from = c .before .before .args .from in
-    let count = c .before .before .args .count in (
-      search needs,
-      search needs,
-      search needs,
-      c .before .loop .inv .3 ∙ store-turn n from i 65535 65535 (innerWords (count - i)) (innerWords (count - (i + 1))) (inner-turn count i (c .loop-test .taken)),
-    )
+loop-again c = (
+  search needs,
+  search needs,
+  search needs,
+  search needs,
+  c .before .loop .inv .4 ∙ marks-turn (c .before .loop .notes) _ (c .before .loop .i) (c .loop-test .taken),
+)
 
 same-length : tie.Need-same-length Inv-loop μ-loop
 same-length c = search needs
 
 returns : tie.Need-returns Inv-loop μ-loop
-returns c =
-    let n = c .before .loop .notes in
-    let i = c .before .loop .i in
-    let from = c .before .before .args .from in
-    let count = c .before .before .args .count in
-    sym (c .before .loop .inv .3 ∙ ap (sets n (2 * from + 2 * i)) (inner-end count i (c .before .loop .inv .0) (c .loop-test .left)))
+returns c = sym (c .before .loop .inv .4 ∙ marks-end _ _ (c .before .loop .i) (c .loop-test .left))
 
 pub write-inner-spec : {M : Type 1} → statement M
 write-inner-spec =
@@ -91,17 +68,12 @@ write-inner-spec =
     (tie.spec
     Inv-loop
     μ-loop
-    mul-start
+    mul-i
+    mul-end
+    add-end
     loop-holds
     mul-notes
-    add-notes
-    mul-notes-2
     slice-write-notes
-    mul-notes-3
-    add-notes-2
-    add-notes-3
-    mul-notes-4
-    slice-write-notes-2
     add-i
     loop-less
     loop-again

@@ -1,0 +1,18 @@
+-- `checker::quick::lead_stage` meets its contract.
+use mathlib.Core.Path.{ap, _∙_}
+use borrow.Author.Needs.{needs}
+use Rattle.checker.specs.Sheet.{stageFound}
+use Rattle.checker.proofs.quick.lead_stage.Statement.{statement}
+use Rattle.checker.proofs.quick.lead_stage.Tie as tie
+
+look-up-requires : tie.Need-look-up-requires
+look-up-requires c κs = search needs
+
+stage-shown-requires : tie.Need-stage-shown-requires
+stage-shown-requires c κs = search needs
+
+returns : tie.Need-returns
+returns c = (c .stage-shown .ensures .0 ∙ ap stageFound (c .before .look-up .ensures), c .stage-shown .ensures .1)
+
+pub lead-stage-spec : {M : Type 1} → statement M
+lead-stage-spec = tie.close (tie.spec look-up-requires stage-shown-requires returns)
