@@ -1,13 +1,16 @@
 -- A frame added to a circuit: each answer of the code is that of the rules 7 to 14 in their order.
 use mathlib.Core.Path.{_≡_, refl, sym, ap, ap₂, subst, fun-ext, _∙_}
-use mathlib.Core.Bool.{Bool, true, false, cond}
-use mathlib.Core.List.{List, [], _∷_}
+use mathlib.Core.List.{List}
 use Prim.Native.Nat.{ℕ, zero, suc, _+_, _*_, _-_, _≤_, _<_}
 use native.Mathlib.Omega.{arith}
 use lib.Dec.{leb}
-use lib.ListN.{length}
 use lib.Seq.{sets}
 use borrow.Author.Tests.{le-leb, lt-leb}
+use Rattle.circuit.specs.Limits.{stageLimit, wireLimit}
+use Rattle.circuit.specs.Kinds.{Kind, shape}
+use Rattle.circuit.specs.Circuit.{Circuit, size, newStage, made, extend}
+use Rattle.circuit.specs.Rules.{pass, refuse, need, _then_, wordsRule}
+use Rattle.circuit.proofs.Building.{size-extend}
 use Rattle.checker.specs.declared.kinds.Shape.{Shape as ShapeCode}
 use Rattle.checker.specs.declared.walk.Frame.{Frame}
 use Rattle.checker.specs.declared.notes.Found.{Found}
@@ -15,15 +18,10 @@ use Rattle.checker.specs.declared.notes.Made.{Made}
 use Rattle.checker.specs.declared.words.Spot.{Spot}
 use Rattle.checker.specs.declared.frame.Tally.{Tally}
 use Rattle.checker.specs.declared.frame.Added.the-variants.{Next, Refused}
-use Rattle.circuit.specs.Limits.{stageLimit, wireLimit}
-use Rattle.circuit.specs.Kinds.{Kind, shape}
-use Rattle.circuit.specs.Circuit.{Circuit, size, newStage, made, extend}
-use Rattle.circuit.specs.Rules.{Judgement, pass, refuse, need, _then_, wordsRule}
-use Rattle.checker.specs.Walk.{kindCode, shapeCode, frameCode}
-use Rattle.checker.specs.Sheet.{noted, foundOf, madeWords, madeFrame, latencyFrame, judged, Told, FirstBroken, tallyOf, judgementIn, laterRule, notesAdded, FrameOf, Placed, Adds}
+use Rattle.checker.specs.Walk.{kindCode, frameCode}
+use Rattle.checker.specs.Sheet.{noted, madeWords, madeFrame, latencyFrame, judged, Told, FirstBroken, tallyOf, laterRule, FrameOf, Placed, Adds}
 use Rattle.checker.proofs.Numbers.{broken-ends}
 use Rattle.checker.proofs.MadeNotes.{madeBy, made-count, uses-few, brings-few, made-stage, made-words, made-latency}
-use Rattle.circuit.proofs.Building.{size-extend}
 
 module _ {fr : Frame} {sh : ShapeCode} {d : ℕ} {ops : List ℕ} where
   -- a frame of one kind makes as many wires as the kind says, and uses no more random bits

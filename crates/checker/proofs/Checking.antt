@@ -1,38 +1,31 @@
 -- The whole check, frame by frame: what the loop keeps, and what each way out of it answers.
-use mathlib.Core.Path.{_≡_, refl, sym, ap, ap₂, subst, _∙_}
+use mathlib.Core.Path.{_≡_, refl, ap, _∙_}
 use mathlib.Core.Bool.{Bool, true, false, cond, _&&_}
-use mathlib.Core.List.{List, [], _∷_}
-use Prim.Native.Nat.{ℕ, zero, suc, _+_, _*_, _-_, _/_, _≤_, _<_}
+use mathlib.Core.List.{List, _∷_}
+use Prim.Native.Nat.{ℕ, zero, suc, _+_, _-_, _/_, _≤_, _<_}
 use native.Mathlib.Omega.{arith}
 use lib.Dec.{leb, ltb, eqb}
-use lib.ListN.{length, take, drop, length-drop, drop-of-length-le}
-use lib.Seq.{drop-cons, drop-drop, length-take-le}
-use borrow.Author.Tests.{leb-true, leb-false, ltb-true, ltb-false, eqb-true}
-use Rattle.checker.specs.declared.Verdict.the-variants.{Accepted, Refused}
+use lib.ListN.{length, drop}
+use lib.Seq.{drop-cons}
+use borrow.Author.Tests.{leb-true, ltb-true, ltb-false}
+use Rattle.circuit.specs.Limits.{tableLimit, notesRoom, fewestShares, mostShares, wireLimit}
+use Rattle.circuit.specs.Lists.{nth}
+use Rattle.circuit.specs.Kinds.{kindOf, words}
+use Rattle.circuit.specs.Circuit.{Circuit, size, empty}
+use Rattle.circuit.specs.Rules.{refuse, need, _then_, frameRule, onward, frames, headRule, checked}
+use Rattle.circuit.specs.Answer.{answer, verdictOf, notesAfter}
+use Rattle.circuit.proofs.Base.{cases}
+use Rattle.circuit.proofs.Building.{Lawful}
+use Rattle.checker.specs.declared.Verdict.the-variants.{Refused}
 use Rattle.checker.specs.declared.kinds.Shape.{Shape as ShapeCode}
 use Rattle.checker.specs.declared.walk.Frame.{Frame}
 use Rattle.checker.specs.declared.walk.Walk.{Walk}
-use Rattle.checker.specs.declared.walk.Step.{Step}
 use Rattle.checker.specs.declared.walk.Step.the-variants as step
 use Rattle.checker.specs.declared.frame.Tally.{Tally}
-use Rattle.checker.specs.declared.frame.Added.{Added}
-use Rattle.checker.specs.declared.frame.Added.the-variants as added
-use Rattle.circuit.specs.Limits.{tableLimit, notesRoom, fewestShares, mostShares, wireLimit}
-use Rattle.circuit.specs.Lists.{nth}
-use Rattle.circuit.specs.Kinds.{Kind, HEAD, kindOf, shape, words}
-use Rattle.circuit.specs.Circuit.{Circuit, size, empty, made, extend}
-use Rattle.circuit.specs.Rules.{Judgement, pass, refuse, need, _then_, frameRule, Checked, onward, frames, headRule, checked}
 use Rattle.checker.specs.Said.{said}
-use Rattle.circuit.specs.Answer.{answer, verdictOf, notesAfter}
 use Rattle.checker.specs.Walk.{kindCode, shapeCode, frameCode, operandsAt, behind, stepAt}
-use Rattle.checker.specs.Sheet.{judged, tallyOf, judgementIn, laterRule, notesAdded, FrameOf, Placed, Adds, headNumber}
-use Rattle.circuit.proofs.Base.{cases}
-use Rattle.circuit.specs.Composition.{kindWord}
-use Rattle.circuit.proofs.Building.{Lawful, size-extend}
-use Rattle.circuit.proofs.Steps.{frames-pass, frames-refuse}
-use Rattle.circuit.proofs.Fitting.{known, frame-pass}
-use Rattle.checker.proofs.MadeNotes.{uses-few}
-use Rattle.checker.proofs.Telling.{Labelled, tells, notes-more, label-step}
+use Rattle.checker.specs.Sheet.{judged, tallyOf, headNumber}
+use Rattle.checker.proofs.Telling.{Labelled}
 
 -- 1 to 4
 pub head-judged : (table : List ℕ) (room : ℕ) → headRule table room ≡ judged (headNumber table room) 0 (headNumber table room / 4)

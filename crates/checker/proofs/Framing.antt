@@ -1,16 +1,16 @@
 -- A frame's words in the table: whether they are all there, and that the frame is made of them alone.
 use mathlib.Core.Path.{_≡_, refl}
-use mathlib.Core.Bool.{true, false}
+use mathlib.Core.Bool.{false}
 use mathlib.Core.List.{List, [], _∷_}
 use Prim.Native.Nat.{ℕ, _≤_}
 use native.Mathlib.Omega.{arith}
 use lib.Dec.{leb}
 use lib.ListN.{length, take}
 use borrow.Author.Tests.{leb-true}
-use Rattle.checker.specs.declared.walk.Frame.{Frame}
-use Rattle.checker.specs.declared.walk.Framed.the-variants.{Whole, Short}
 use Rattle.circuit.specs.Kinds.{Kind, HEAD, IN, CON, XOR, NOT, REG, AND, REF, OUT, shape, words}
 use Rattle.circuit.proofs.Base.{cases}
+use Rattle.checker.specs.declared.walk.Frame.{Frame}
+use Rattle.checker.specs.declared.walk.Framed.the-variants.{Whole, Short}
 use Rattle.checker.specs.Walk.{kindCode, frameCode, framedBy}
 
 pub framed-short : (fr : Frame) (n : ℕ) (rest : List ℕ) → Short ≡ framedBy fr n rest → leb n (length rest) ≡ false

@@ -1,15 +1,14 @@
 -- The kind table in numbers: how many words each kind has, and that its numbers fit.
-use mathlib.Core.Path.{_≡_, refl, sym, ap, ap₂, subst, _∙_}
-use mathlib.Core.List.{List, [], _∷_, _++_, map}
-use Prim.Native.Nat.{ℕ, zero, suc, _+_, _*_, _-_, _/_, _≤_, _<_}
+use mathlib.Core.Path.{_≡_, refl}
+use Prim.Native.Nat.{ℕ, zero, suc, _+_, _*_, _-_, _≤_, _<_}
 use native.Mathlib.Nat.{mul-le-mul}
 use native.Mathlib.Omega.{arith}
 use lib.ListN.{length, length-append}
+use Rattle.circuit.proofs.Sizes.{labels-map}
+use Rattle.circuit.specs.Kinds.{WordRule, share, before, row, HEAD, AND, REF, OUT, kindOf, shape, words}
 use Rattle.checker.specs.declared.kinds.Kind.{Kind as KindCode}
 use Rattle.checker.specs.declared.kinds.Form.{Form}
 use Rattle.checker.specs.declared.kinds.Shape.{Shape as ShapeCode}
-use Rattle.circuit.proofs.Sizes.{labels-map}
-use Rattle.circuit.specs.Kinds.{WordRule, share, before, row, Kind, HEAD, AND, REF, OUT, kindOf, shape, words}
 
 pub row-length : (rule : ℕ → ℕ → WordRule) (place d : ℕ) → length (row rule place d) ≡ d
 row-length rule place d = labels-map d (λ i. rule i place)

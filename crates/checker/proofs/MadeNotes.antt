@@ -1,25 +1,24 @@
 -- What a frame adds, as the code counts and writes it: the stage, the latency, the number of wires, and their words in the notes.
 use mathlib.Core.Path.{_≡_, refl, sym, ap, ap₂, _∙_}
-use mathlib.Core.Bool.{true, false}
-use mathlib.Core.List.{List, [], _∷_, _++_, map, append-nil, append-assoc}
-use Prim.Native.Nat.{ℕ, zero, suc, _+_, _*_, _-_, _≤_, _<_, max}
+use mathlib.Core.List.{List, [], _∷_, _++_, map, append-assoc}
+use Prim.Native.Nat.{ℕ, zero, suc, _+_, _*_, _-_, _≤_}
 use native.Mathlib.Nat.{max-eq-left, max-eq-right}
 use native.Mathlib.Omega.{arith}
 use lib.Dec.{ltb}
 use lib.ListN.{length}
 use borrow.Author.Tests.{ltb-true, ltb-false}
-use Rattle.checker.specs.declared.notes.Made.{Made}
 use Rattle.circuit.specs.Lists.{range, nth, each}
 use Rattle.circuit.specs.Wires.{Gate, input, Wire, named, inner, _placed_}
 use Rattle.circuit.specs.Gadgets.{labels, Part, c, S, gate, delay, inAND, inREF, index, gadget}
 use Rattle.circuit.specs.Kinds.{Kind, HEAD, IN, CON, XOR, NOT, REG, AND, REF, OUT, pairs, shape}
 use Rattle.circuit.specs.Circuit.{Circuit, size, place, stageShown, newStage, made, latencyAfter}
 use Rattle.circuit.specs.Answer.{note}
+use Rattle.circuit.proofs.Base.{cases}
+use Rattle.circuit.proofs.Sizes.{and-size, ref-size}
+use Rattle.checker.specs.declared.notes.Made.{Made}
 use Rattle.checker.specs.Walk.{kindCode, frameCode}
 use Rattle.checker.specs.Sheet.{foundOf, innerWords, namedWords, madeWords, madeFrame, latencyFrame}
-use Rattle.circuit.proofs.Base.{cases}
 use Rattle.checker.proofs.WordRules.{label-found, stage-found}
-use Rattle.circuit.proofs.Sizes.{and-size, ref-size}
 
 -- the wires that a frame makes, by what a circuit says of those it names
 abbrev pub madeBy : Circuit → List ℕ → Kind → Made

@@ -1,21 +1,20 @@
 -- The number that a word's check gives is that of the rule which the word breaks, and a frame's first number is its judgement.
-use mathlib.Core.Path.{_≡_, refl, sym, ap, ap₂, subst, _∙_}
+use mathlib.Core.Path.{_≡_, refl, sym, ap, ap₂, _∙_}
 use mathlib.Core.Bool.{Bool, true, false, cond, _&&_}
 use mathlib.Core.List.{List, [], _∷_}
-use Prim.Native.Nat.{ℕ, zero, suc, _+_, _≤_, _<_}
+use Prim.Native.Nat.{ℕ, zero, suc, _+_, _<_}
 use native.Mathlib.Omega.{arith}
 use lib.Dec.{leb, ltb, eqb}
-use lib.ListN.{length, getD, drop, drop-of-length-le}
+use lib.ListN.{length, drop}
 use lib.Seq.{drop-cons}
-use Rattle.checker.specs.declared.kinds.Form.{Form}
-use Rattle.checker.specs.declared.notes.Found.{Found}
 use Rattle.circuit.specs.Lists.{nth}
 use Rattle.circuit.specs.Wires.{Place, named, inner}
 use Rattle.circuit.specs.Kinds.{Kind, WordRule, order, label, value, stage, random, like, share, before, shape, words}
 use Rattle.circuit.specs.Circuit.{Circuit, size, place, labelOf, stageShown}
-use Rattle.circuit.specs.Rules.{Judgement, pass, refuse, need, _then_, isNamed, wireRule, wordRule, wordsRule}
-use Rattle.checker.specs.Walk.{formOf}
-use Rattle.checker.specs.Sheet.{noted, shown, foundOf, labelFound, stageFound, ruleIn, leadPlace, wireNumber, wordNumber, judged, Told}
+use Rattle.circuit.specs.Rules.{Judgement, pass, need, _then_, isNamed, wireRule, wordRule, wordsRule}
+use Rattle.checker.specs.declared.kinds.Form.{Form}
+use Rattle.checker.specs.declared.notes.Found.{Found}
+use Rattle.checker.specs.Sheet.{noted, shown, foundOf, ruleIn, leadPlace, wireNumber, wordNumber, judged, Told}
 use Rattle.checker.proofs.WordRules.{rule-at, label-found, stage-found}
 
 -- a test's number

@@ -1,13 +1,18 @@
 -- Frames taken at one look: where every word keeps its rule, the words' judgement passes, and the frame is added.
 use mathlib.Core.Path.{_≡_, refl, sym, ap, subst, _∙_}
-use mathlib.Core.Bool.{Bool, true, false, cond}
-use mathlib.Core.List.{List, []}
+use mathlib.Core.Bool.{Bool, true, false}
+use mathlib.Core.List.{List}
 use Prim.Native.Nat.{ℕ, zero, suc, _+_, _*_, _-_, _≤_, _<_}
 use native.Mathlib.Omega.{arith}
 use lib.Dec.{eqb, ltb}
 use lib.ListN.{length, take, drop, length-drop, drop-of-length-le}
 use lib.Seq.{length-take-le, getD-take, getD-drop}
 use borrow.Author.Tests.{le-leb, lt-ltb, eq-eqb, eqb-false, ltb-true, ltb-false}
+use Rattle.circuit.specs.Limits.{innerNote, stageLimit, wireLimit}
+use Rattle.circuit.specs.Lists.{nth}
+use Rattle.circuit.specs.Kinds.{Kind, HEAD, IN, CON, XOR, NOT, REG, AND, REF, OUT, WordRule, shape, words}
+use Rattle.circuit.specs.Rules.{_then_, wordsRule}
+use Rattle.circuit.proofs.Base.{cases}
 use Rattle.checker.specs.declared.kinds.Form.{Form}
 use Rattle.checker.specs.declared.kinds.Shape.{Shape as ShapeCode}
 use Rattle.checker.specs.declared.notes.Found.{Found}
@@ -16,14 +21,8 @@ use Rattle.checker.specs.declared.notes.Made.{Made}
 use Rattle.checker.specs.declared.walk.Frame.{Frame}
 use Rattle.checker.specs.declared.frame.Tally.{Tally}
 use Rattle.checker.specs.declared.frame.Taken.{Taken}
-use Rattle.circuit.specs.Limits.{innerNote, stageLimit, wireLimit}
-use Rattle.circuit.specs.Lists.{nth}
-use Rattle.circuit.specs.Kinds.{Kind, HEAD, IN, CON, XOR, NOT, REG, AND, REF, OUT, WordRule, share, before, shape, words}
-use Rattle.circuit.specs.Circuit.{Circuit}
-use Rattle.circuit.specs.Rules.{_then_, wordsRule}
-use Rattle.circuit.proofs.Base.{cases}
 use Rattle.checker.specs.Walk.{formOf, kindCode, frameCode}
-use Rattle.checker.specs.Sheet.{noted, stageFound, innerWords, namedWords, madeWords, ruleIn, gadgetRule, leadPlace, wireNumber, wordNumber, judged, Told, FirstBroken, madeFrame, latencyFrame, FrameOf}
+use Rattle.checker.specs.Sheet.{noted, stageFound, innerWords, namedWords, ruleIn, gadgetRule, leadPlace, wordNumber, judged, FirstBroken, madeFrame, latencyFrame, FrameOf}
 use Rattle.checker.specs.Quick.{Right, Nameable, InRow, RowFrom, Kept, wordsOf, Put, Took, Fitting, grownBy, Takes}
 use Rattle.checker.proofs.KindTable.{words-AND, words-REF, words-OUT}
 use Rattle.checker.proofs.WordRules.{a-rule, b-rule}

@@ -1,16 +1,14 @@
 -- The notes of a circuit tell, of every number, what the circuit says of it; and a frame's words written behind them make the
 -- notes of the circuit with the frame.
-use mathlib.Core.Path.{_≡_, refl, sym, ap, ap₂, subst, _∙_}
-use mathlib.Core.Bool.{Bool, true, false, cond}
-use mathlib.Core.List.{List, [], _∷_, _++_, append-assoc}
+use mathlib.Core.Path.{_≡_, refl, sym, ap, ap₂, _∙_}
+use mathlib.Core.Bool.{false}
+use mathlib.Core.List.{List, [], _∷_, _++_}
 use Prim.Native.Nat.{ℕ, zero, suc, _+_, _*_, _-_, _≤_, _<_}
 use native.Mathlib.Omega.{arith}
-use lib.Dec.{ltb, eqb}
-use lib.ListN.{length, getD, take, drop, length-append, length-drop}
+use lib.Dec.{ltb}
+use lib.ListN.{length, getD, drop, length-append, length-drop}
 use lib.Seq.{sets, sets-eq, take-append-seam, drop-append-add, drop-drop}
-use borrow.Author.Tests.{ne-eqb, eq-eqb, ltb-true}
-use Rattle.checker.specs.declared.notes.Found.{Found}
-use Rattle.checker.specs.declared.notes.Found.the-variants.{Missing, Inner, Named}
+use borrow.Author.Tests.{ne-eqb, ltb-true}
 use Rattle.circuit.specs.Limits.{innerNote, fewestShares, mostShares}
 use Rattle.circuit.specs.Lists.{nth, each, over}
 use Rattle.circuit.specs.Wires.{Wire, Place, named, inner, constant, _placed_}
@@ -18,11 +16,11 @@ use Rattle.circuit.specs.Gadgets.{labels, c, S, inAND, inREF}
 use Rattle.circuit.specs.Kinds.{Kind}
 use Rattle.circuit.specs.Circuit.{Circuit, size, place, labelOf, newStage, made, extend}
 use Rattle.circuit.specs.Answer.{note, notesAfter}
-use Rattle.checker.specs.Sheet.{foundIn, noted, shown, foundOf, Tells}
 use Rattle.circuit.proofs.Base.{cases, AllFrom, all-map, all-of, every-of}
 use Rattle.circuit.proofs.Parts.{label-lt, InAND, InREF, and-parts, ref-parts}
 use Rattle.circuit.specs.Composition.{Fits, fit-IN, fit-CON, fit-XOR, fit-NOT, fit-REG, fit-AND, fit-REF, fit-OUT}
 use Rattle.circuit.proofs.Building.{Lawful, step-all, gadget-all}
+use Rattle.checker.specs.Sheet.{foundIn, shown, Tells}
 use Rattle.checker.proofs.MadeNotes.{notes-append}
 
 abbrev notesOf : List Wire → List ℕ

@@ -1,13 +1,20 @@
 -- The ways out of the loop over the frames, and its turn.
 use mathlib.Core.Path.{_≡_, refl, sym, ap, ap₂, subst, _∙_}
-use mathlib.Core.Bool.{true, _&&_}
-use mathlib.Core.List.{List, [], _∷_}
+use mathlib.Core.List.{List, []}
 use Prim.Native.Nat.{ℕ, suc, _+_, _*_, _-_, _≤_, _<_}
 use native.Mathlib.Omega.{arith}
-use lib.Dec.{leb}
 use lib.ListN.{length, take, drop, length-drop, drop-of-length-le}
 use lib.Seq.{sets, drop-drop, length-take-le}
 use borrow.Author.Tests.{le-leb}
+use Rattle.circuit.specs.Lists.{nth, each}
+use Rattle.circuit.specs.Kinds.{Kind, HEAD, kindOf, words}
+use Rattle.circuit.specs.Circuit.{Circuit, size, made, extend}
+use Rattle.circuit.specs.Rules.{pass, refuse, frameRule, Checked, frames, checked}
+use Rattle.circuit.specs.Answer.{Answer, answer, verdictOf, note, notesAfter}
+use Rattle.circuit.specs.Composition.{kindWord, Fits}
+use Rattle.circuit.proofs.Building.{size-extend}
+use Rattle.circuit.proofs.Steps.{frames-pass, frames-refuse}
+use Rattle.circuit.proofs.Fitting.{known, frame-pass}
 use Rattle.checker.specs.declared.Verdict.{Verdict}
 use Rattle.checker.specs.declared.Verdict.the-variants.{Accepted, Refused}
 use Rattle.checker.specs.declared.kinds.Shape.{Shape as ShapeCode}
@@ -19,20 +26,10 @@ use Rattle.checker.specs.declared.frame.Added.{Added}
 use Rattle.checker.specs.declared.frame.Added.the-variants as added
 use Rattle.checker.specs.declared.frame.Taken.{Taken}
 use Rattle.checker.specs.declared.frame.Taken.the-variants as taken
-use Rattle.circuit.specs.Limits.{notesRoom, fewestShares, mostShares, wireLimit}
-use Rattle.circuit.specs.Lists.{nth, each}
-use Rattle.circuit.specs.Kinds.{Kind, HEAD, kindOf, shape, words}
-use Rattle.circuit.specs.Circuit.{Circuit, size, made, extend}
-use Rattle.circuit.specs.Rules.{Judgement, pass, refuse, frameRule, Checked, frames, checked}
 use Rattle.checker.specs.Said.{said, inputsAre}
-use Rattle.circuit.specs.Answer.{Answer, answer, verdictOf, note, notesAfter}
 use Rattle.checker.specs.Walk.{shapeCode, operandsAt, behind, stepAt}
 use Rattle.checker.specs.Sheet.{Tells, tallyOf, judgementIn, laterRule, notesAdded, FrameOf, Placed, Adds}
 use Rattle.checker.specs.Quick.{Takes}
-use Rattle.circuit.specs.Composition.{kindWord, Fits}
-use Rattle.circuit.proofs.Building.{size-extend}
-use Rattle.circuit.proofs.Steps.{frames-pass, frames-refuse}
-use Rattle.circuit.proofs.Fitting.{known, frame-pass}
 use Rattle.checker.proofs.MadeNotes.{uses-few, brings-few}
 use Rattle.checker.proofs.Telling.{tells, notes-more, notes-same, label-step}
 use Rattle.checker.proofs.Checking.{Walking, here, step-end, step-refused, AtFrame, step-next}

@@ -1,27 +1,22 @@
 -- The words of a frame: the code's rule at each place is the kind table's, and the number that a word's check gives is the rule
 -- that the word breaks.
-use mathlib.Core.Path.{_≡_, refl, sym, ap, ap₂, subst, _∙_}
-use mathlib.Core.Bool.{Bool, true, false, cond, _&&_}
-use mathlib.Core.List.{List, [], _∷_, _++_, map}
-use Prim.Native.Nat.{ℕ, zero, suc, _+_, _*_, _-_, _≤_, _<_}
+use mathlib.Core.Path.{_≡_, refl, sym, ap, _∙_}
+use mathlib.Core.List.{_++_, map}
+use Prim.Native.Nat.{ℕ, zero, suc, _+_, _-_, _≤_, _<_}
 use native.Mathlib.Omega.{arith}
-use lib.Dec.{leb, ltb, eqb}
-use lib.ListN.{length, getD, drop, List·getD-append, List·getD-eq-default, drop-of-length-le}
-use lib.Seq.{drop-cons, getD-append-add}
-use borrow.Author.Tests.{le-leb, lt-leb, lt-ltb, le-ltb, eq-eqb, ne-eqb, ltb-true, ltb-false}
-use Rattle.checker.specs.declared.kinds.Form.{Form}
-use Rattle.checker.specs.declared.kinds.Form.the-variants.{Gadget}
-use Rattle.checker.specs.declared.notes.Found.{Found}
-use Rattle.checker.specs.declared.notes.Found.the-variants.{Missing, Inner, Named}
-use Rattle.circuit.specs.Limits.{fewestShares, mostShares, stageLimit}
-use Rattle.circuit.specs.Lists.{range, nth}
+use lib.Dec.{ltb}
+use lib.ListN.{length, getD, List·getD-append, List·getD-eq-default}
+use lib.Seq.{getD-append-add}
+use borrow.Author.Tests.{le-leb, lt-leb, ne-eqb, ltb-true, ltb-false}
+use Rattle.circuit.specs.Lists.{range}
 use Rattle.circuit.specs.Wires.{Place, named, inner}
-use Rattle.circuit.specs.Kinds.{Kind, HEAD, IN, CON, XOR, NOT, REG, AND, REF, OUT, WordRule, order, label, value, stage, random, like, share, before, row, shape, words}
+use Rattle.circuit.specs.Kinds.{Kind, HEAD, IN, CON, XOR, NOT, REG, AND, REF, OUT, WordRule, order, random, share, before, row, shape, words}
 use Rattle.circuit.specs.Circuit.{Circuit, size, place, labelOf, stageShown}
-use Rattle.circuit.specs.Rules.{Judgement, pass, refuse, need, _then_, isNamed, wireRule, wordRule, wordsRule}
-use Rattle.checker.specs.Walk.{formOf}
-use Rattle.checker.specs.Sheet.{noted, shown, foundOf, Tells, labelFound, stageFound, gadgetRule, ruleIn, leadPlace, wireNumber, wordNumber, judged}
 use Rattle.circuit.proofs.Base.{cases}
+use Rattle.checker.specs.declared.notes.Found.{Found}
+use Rattle.checker.specs.declared.notes.Found.the-variants.{Missing}
+use Rattle.checker.specs.Walk.{formOf}
+use Rattle.checker.specs.Sheet.{shown, foundOf, labelFound, stageFound, gadgetRule, ruleIn}
 use Rattle.checker.proofs.KindTable.{row-length, words-AND, words-REF, words-OUT}
 
 -- the rule at a place of a row

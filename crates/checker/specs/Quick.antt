@@ -6,6 +6,8 @@ use Prim.Native.Nat.{ℕ, _+_, _*_, _-_, _≤_, _<_}
 use lib.Dec.{ltb}
 use lib.ListN.{length}
 use lib.Seq.{sets}
+use Rattle.circuit.specs.Limits.{stageLimit, wireLimit}
+use Rattle.circuit.specs.Lists.{nth}
 use Rattle.checker.specs.declared.kinds.Shape.{Shape as ShapeCode}
 use Rattle.checker.specs.declared.notes.Found.{Found}
 use Rattle.checker.specs.declared.notes.Made.{Made}
@@ -17,8 +19,6 @@ use Rattle.checker.specs.declared.frame.Tally.{Tally}
 use Rattle.checker.specs.declared.frame.Added.the-variants as added
 use Rattle.checker.specs.declared.frame.Taken.{Taken}
 use Rattle.checker.specs.declared.frame.Taken.the-variants.{Next, Unsure}
-use Rattle.circuit.specs.Limits.{stageLimit, wireLimit}
-use Rattle.circuit.specs.Lists.{nth}
 use Rattle.checker.specs.Sheet.{labelFound, stageFound, madeWords, wireNumber, Adds}
 
 -- a wire of a label, a stage that much before another: no rule is broken

@@ -1,9 +1,9 @@
 -- What the code's answer says, in document 01's numbers.
 use mathlib.Core.Path.{_≡_}
 use Prim.Native.Nat.{ℕ}
+use Rattle.circuit.specs.Answer.{Answer, accepted, refused}
 use Rattle.checker.specs.declared.Verdict.{Verdict}
 use Rattle.checker.specs.declared.Verdict.the-variants.{Accepted, Refused}
-use Rattle.circuit.specs.Answer.{Answer, accepted, refused}
 
 abbrev pub said : Verdict → Answer
 said (Accepted wires randoms latency inputs) = accepted wires randoms latency

@@ -1,12 +1,19 @@
 -- For the contracts of the crate's own functions: what the notes say of wires, and how that stands to a circuit. The promise of
 -- `check` names none of this.
 use mathlib.Core.Path.{_≡_}
-use mathlib.Core.Bool.{Bool, true, false, cond, _&&_}
+use mathlib.Core.Bool.{cond, _&&_}
 use mathlib.Core.List.{List, [], _∷_, _++_}
-use Prim.Native.Nat.{ℕ, zero, suc, _+_, _*_, _-_, _≤_, _<_, max}
+use Prim.Native.Nat.{ℕ, zero, suc, _+_, _*_, _-_}
 use lib.Dec.{leb, ltb, eqb}
 use lib.ListN.{length}
 use lib.Seq.{sets}
+use Rattle.circuit.specs.Limits.{tableLimit, notesRoom, innerNote, fewestShares, mostShares, stageLimit, wireLimit}
+use Rattle.circuit.specs.Lists.{nth, each}
+use Rattle.circuit.specs.Wires.{Place, named, inner, Wire}
+use Rattle.circuit.specs.Kinds.{Kind, HEAD, WordRule, order, label, value, stage, random, like, share, before, shape, words}
+use Rattle.circuit.specs.Circuit.{Circuit, size, place, newStage, made, extend}
+use Rattle.circuit.specs.Rules.{Judgement, pass, refuse, _then_, need, wordsRule}
+use Rattle.circuit.specs.Answer.{note}
 use Rattle.checker.specs.declared.kinds.Form.{Form}
 use Rattle.checker.specs.declared.kinds.Form.the-variants.{Order, Stage, Constant, Wires, Gadget, Row}
 use Rattle.checker.specs.declared.kinds.Shape.{Shape as ShapeCode}
@@ -23,13 +30,6 @@ use Rattle.checker.specs.declared.walk.Frame.the-variants as frame
 use Rattle.checker.specs.declared.frame.Tally.{Tally}
 use Rattle.checker.specs.declared.frame.Added.{Added}
 use Rattle.checker.specs.declared.frame.Added.the-variants.{Next, Refused}
-use Rattle.circuit.specs.Limits.{tableLimit, notesRoom, innerNote, fewestShares, mostShares, stageLimit, wireLimit}
-use Rattle.circuit.specs.Lists.{nth, each}
-use Rattle.circuit.specs.Wires.{Place, named, inner, Wire}
-use Rattle.circuit.specs.Kinds.{Kind, HEAD, WordRule, order, label, value, stage, random, like, share, before, shape, words}
-use Rattle.circuit.specs.Circuit.{Circuit, size, place, newStage, made, latencyAfter, extend}
-use Rattle.circuit.specs.Rules.{Judgement, pass, refuse, _then_, need, wordsRule}
-use Rattle.circuit.specs.Answer.{note}
 use Rattle.checker.specs.Walk.{formOf, kindCode, shapeCode, frameCode}
 
 -- what two words of the notes say, and what the notes say of a wire, of so many that are in them

@@ -1,9 +1,11 @@
 -- What the walk over the frames of a table answers, by the kind table and rules 5 and 6.
 use mathlib.Core.Bool.{cond, _&&_}
 use mathlib.Core.List.{List}
-use Prim.Native.Nat.{ℕ, suc, _+_}
+use Prim.Native.Nat.{ℕ, _+_}
 use lib.Dec.{leb, ltb}
 use lib.ListN.{length, take, drop}
+use Rattle.circuit.specs.Lists.{nth}
+use Rattle.circuit.specs.Kinds.{Kind, HEAD, IN, CON, XOR, NOT, REG, AND, REF, OUT, kindOf, shape, words}
 use Rattle.checker.specs.declared.kinds.Kind.{Kind as KindCode}
 use Rattle.checker.specs.declared.kinds.Kind.the-variants.{Head, In, Con, Xor, Not, Reg, And, Ref, Out}
 use Rattle.checker.specs.declared.kinds.Form.{Form}
@@ -17,8 +19,6 @@ use Rattle.checker.specs.declared.walk.Framed.the-variants.{Whole, Short
 use Rattle.checker.specs.declared.walk.Walk.{Walk}
 use Rattle.checker.specs.declared.walk.Step.{Step}
 use Rattle.checker.specs.declared.walk.Step.the-variants.{Next, Refused, End}
-use Rattle.circuit.specs.Lists.{nth}
-use Rattle.circuit.specs.Kinds.{Kind, HEAD, IN, CON, XOR, NOT, REG, AND, REF, OUT, kindOf, shape, words}
 
 -- the code's name of a kind, and the form of the words after it
 abbrev pub kindCode : Kind → KindCode

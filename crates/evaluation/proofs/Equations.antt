@@ -1,7 +1,7 @@
 -- The values of AND's and REF's wires, from those of the wires that they take and the tape.
-use mathlib.Core.Path.{_≡_, refl, sym, ap, ap₂, subst, _∙_}
-use mathlib.Core.Bool.{Bool, false, not, _&&_}
-use mathlib.Core.List.{List, [], _∷_, _++_, map}
+use mathlib.Core.Path.{_≡_, sym, ap, ap₂, subst, _∙_}
+use mathlib.Core.Bool.{false, not, _&&_}
+use mathlib.Core.List.{List, [], _∷_, map}
 use Prim.Native.Nat.{ℕ, zero, suc, _+_, _*_, _-_, _≤_, _<_}
 use native.Mathlib.Omega.{arith}
 use lib.ListN.{length, take, drop}
@@ -19,12 +19,12 @@ use Rattle.circuit.proofs.Sizes.{pairs-twice}
 use Rattle.netlist.specs.Values.{bits, at, total, value, isRandom, valuesOf}
 use Rattle.netlist.proofs.Randoms.{randomsIn}
 use Rattle.secrecy.proofs.Totals.{total-ext, total-append, total-map, total-xor}
-use Rattle.evaluation.specs.Places.{cellRow, pairSite, pairAt, ownAt, cellAt, outAt, maskAt, sumAt, heldAt}
+use Rattle.evaluation.specs.Places.{pairSite, pairAt, ownAt, cellAt, outAt, maskAt, sumAt, heldAt}
 use Rattle.evaluation.specs.Gates.{gateAt, AndGates, RefGates}
 use Rattle.evaluation.specs.Filling.{Values, Copied, Drawn, Owned, RowCrossed, crossingAt, Multiplied, AndValues, Masked, Held, RefValues}
 use Rattle.evaluation.proofs.Bits.{bits-at}
 use Rattle.evaluation.proofs.Sites.{pair-lt}
-use Rattle.evaluation.proofs.Rows.{pair-early, own-early, cell-room}
+use Rattle.evaluation.proofs.Rows.{own-early, cell-room}
 use Rattle.evaluation.proofs.Solving.{Early, solved, rank-random, rank-other}
 
 tape-at : (tape : List ℕ) (n : ℕ) → at (drop n (bits tape)) 0 ≡ isSet (nth tape n)

@@ -2,7 +2,7 @@
 use mathlib.Core.Path.{_≡_, refl, sym, ap, ap₂, subst, _∙_}
 use mathlib.Core.Bool.{Bool, false}
 use mathlib.Core.List.{List, [], _∷_, _++_, append-nil}
-use Prim.Native.Nat.{ℕ, zero, suc, _+_, _-_, _*_, _≤_, _<_}
+use Prim.Native.Nat.{ℕ, suc, _+_, _-_, _*_, _≤_, _<_}
 use native.Mathlib.Nat.{mul-le-mul}
 use native.Mathlib.Omega.{arith}
 use lib.Dec.{ltb}
@@ -15,7 +15,7 @@ use Rattle.circuit.specs.Wires.{Wire}
 use Rattle.circuit.specs.Kinds.{Kind, shape, words}
 use Rattle.circuit.specs.Circuit.{Circuit, size, empty, extend}
 use Rattle.circuit.specs.Rules.{checked}
-use Rattle.circuit.specs.Composition.{Frame, Fits, AllFit, build}
+use Rattle.circuit.specs.Composition.{build}
 use Rattle.circuit.proofs.Base.{cases}
 use Rattle.circuit.proofs.Building.{build-shares, size-extend}
 use Rattle.circuit.proofs.Exact.{Accepted, accepted-size}

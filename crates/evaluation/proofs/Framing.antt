@@ -1,16 +1,15 @@
 -- A frame of an accepted circuit: what its code rests on, and the values of its wires.
-use mathlib.Core.Path.{_≡_, refl, sym, ap, ap₂, subst, _∙_}
-use mathlib.Core.Bool.{Bool, false, not}
+use mathlib.Core.Path.{_≡_, refl, sym, ap, subst, _∙_}
 use mathlib.Core.List.{List, [], _∷_, _++_, map, append-assoc}
 use Prim.Native.Nat.{ℕ, suc, _+_, _*_, _-_, _≤_, _<_}
 use native.Mathlib.Omega.{arith}
 use lib.ListN.{length, getD, take, drop, length-append, List·getD-append}
 use lib.Seq.{take-at, getD-append-add}
-use Rattle.circuit.specs.Lists.{_⊕_, nth, range}
+use Rattle.circuit.specs.Lists.{_⊕_, nth}
 use Rattle.circuit.specs.Wires.{Gate, input, constant, reg, inverse, sum, named, Wire, _placed_}
 use Rattle.circuit.specs.Gadgets.{labels}
-use Rattle.circuit.specs.Kinds.{Kind, HEAD, IN, CON, XOR, NOT, REG, AND, REF, OUT, pairs, shape}
-use Rattle.circuit.specs.Circuit.{Circuit, size, isSet, place, stageShown, newStage, made, extend}
+use Rattle.circuit.specs.Kinds.{Kind, HEAD, IN, CON, XOR, NOT, REG, AND, REF, OUT, shape}
+use Rattle.circuit.specs.Circuit.{Circuit, size, isSet, newStage, made, extend}
 use Rattle.circuit.specs.Composition.{Frame, Fits, fit-IN, fit-CON, fit-XOR, fit-NOT, fit-REG, fit-AND, fit-REF, fit-OUT, build}
 use Rattle.circuit.proofs.Base.{no-flip, AllFrom}
 use Rattle.circuit.proofs.Building.{size-extend}
@@ -20,7 +19,7 @@ use Rattle.circuit.proofs.Sizes.{made-size}
 use Rattle.netlist.specs.Values.{bits, at, value, valuesOf}
 use Rattle.netlist.proofs.Randoms.{randomsIn}
 use Rattle.checker.specs.Walk.{kindCode, frameCode}
-use Rattle.evaluation.specs.Places.{wordA, wordB, outAt, heldAt}
+use Rattle.evaluation.specs.Places.{wordA, wordB}
 use Rattle.evaluation.specs.Gates.{nothing, gateAt}
 use Rattle.evaluation.specs.Filling.{FrameValues, frameMakes}
 use Rattle.evaluation.specs.Gadgets.{FrameReady}

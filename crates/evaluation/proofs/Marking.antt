@@ -4,9 +4,9 @@ use mathlib.Core.List.{List, _∷_}
 use Prim.Native.Nat.{ℕ, suc, _+_, _-_, _≤_, _<_}
 use native.Mathlib.Omega.{arith}
 use lib.ListN.{length, set, drop, drop-of-length-le}
+use lib.Seq.{sets, drop-cons}
 use Rattle.circuit.specs.Lists.{nth}
 use Rattle.evaluation.specs.Marks.{markAll, shownAt, shownFrom}
-use lib.Seq.{sets, drop-cons}
 
 pub drop-turn : (xs : List ℕ) (i : ℕ) → i < length xs → drop i xs ≡ nth xs i ∷ drop (i + 1) xs
 drop-turn xs i h = let e : suc i ≡ i + 1 = omega arith in drop-cons xs i 0 h ∙ ap (λ n. nth xs i ∷ drop n xs) e

@@ -5,10 +5,10 @@ use mathlib.Core.List.{List, [], _∷_, _++_, map}
 use Prim.Native.Nat.{ℕ, zero, suc, _+_, _-_, _*_, _≤_, _<_}
 use native.Mathlib.Omega.{arith}
 use lib.Dec.{ltb, eqb}
-use lib.ListN.{length, set, length-set, length-append}
+use lib.ListN.{length, set, length-set}
 use borrow.Author.Tests.{le-ltb, ltb-true, ltb-false}
 use Rattle.circuit.specs.Lists.{nth, range, mem}
-use Rattle.circuit.specs.Wires.{Gate, reg, sum, product, gated, inverse, Wire}
+use Rattle.circuit.specs.Wires.{Gate, reg, sum, product, gated, inverse}
 use Rattle.circuit.specs.Gadgets.{others}
 use Rattle.circuit.specs.Kinds.{pairs}
 use Rattle.circuit.proofs.Base.{cases, or-cases, or-left, or-right, In}
@@ -16,7 +16,7 @@ use Rattle.circuit.proofs.Sizes.{pairs-twice}
 use Rattle.netlist.specs.Probes.{isStop, operands}
 use Rattle.evaluation.specs.Places.{slotOf, cellRow, pairAt, cellAt, ownAt, outAt, maskAt, sumAt, heldAt}
 use Rattle.evaluation.specs.Gates.{gateAt, OwnGates, CellGates, CellsGates, RowsGates, OwnsGates, OutGates, AndGates, RefGates}
-use Rattle.evaluation.specs.Marks.{markAll, handedOn, sixes, outWires, Ordered, Moving, Moves}
+use Rattle.evaluation.specs.Marks.{markAll, handedOn, sixes, outWires, Moving, Moves}
 use Rattle.evaluation.proofs.Bits.{set-low}
 use Rattle.evaluation.proofs.Ranges.{others-is, map-append}
 use Rattle.evaluation.proofs.Adding.{range-turn, range-end}

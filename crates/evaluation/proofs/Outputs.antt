@@ -1,5 +1,5 @@
 -- The wires of AND behind B, m and M, share by share: a row, then its output, which stands behind all rows.
-use mathlib.Core.Path.{_≡_, refl, sym, ap, ap₂, _∙_}
+use mathlib.Core.Path.{_≡_, refl, sym, ap, _∙_}
 use mathlib.Core.Bool.{Bool}
 use mathlib.Core.List.{List}
 use Prim.Native.Nat.{ℕ, _+_, _-_, _*_, _≤_, _<_}
@@ -12,7 +12,7 @@ use Rattle.circuit.proofs.Base.{cases, xor-assoc}
 use Rattle.netlist.specs.Values.{byte, total}
 use Rattle.evaluation.specs.Places.{slotOf, cellRow, ownAt, cellAt, outAt}
 use Rattle.evaluation.specs.Filling.{Values, Known, Fills, crossingAt, Multiplied}
-use Rattle.evaluation.specs.Gadgets.{RowCrossedBy, CrossesRow, Early}
+use Rattle.evaluation.specs.Gadgets.{RowCrossedBy, CrossesRow}
 use Rattle.evaluation.proofs.Adding.{total-others}
 use Rattle.evaluation.proofs.Filled.{known-all, nth-set}
 use Rattle.evaluation.proofs.Rows.{slot-low, slot-high, own-early, row-next, row-room}

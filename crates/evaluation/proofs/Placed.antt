@@ -1,10 +1,9 @@
 -- The gates of AND and REF in a circuit, by the places of their wires.
 use mathlib.Core.Path.{_≡_, refl, sym, ap, ap₂, subst, _∙_}
-use mathlib.Core.Bool.{false}
 use mathlib.Core.List.{List, [], _∷_, _++_, map}
 use Prim.Native.Nat.{ℕ, zero, suc, _+_, _*_, _-_, _≤_, _<_}
 use native.Mathlib.Omega.{arith}
-use lib.Dec.{ltb, eqb}
+use lib.Dec.{ltb}
 use lib.ListN.{length, length-append, List·getD-append}
 use borrow.Author.Tests.{lt-ltb, ltb-true, ltb-false, ne-eqb}
 use Rattle.circuit.specs.Wires.{Gate, random, reg, sum, product, gated, Wire}
@@ -15,7 +14,7 @@ use Rattle.circuit.proofs.Base.{cases, In, in-head, in-tail, Has}
 use Rattle.circuit.proofs.Parts.{index-lt, Pair, others-pair, InAND, is-r, is-R, is-B, is-m, is-M, is-u, is-U, is-v, is-V, is-w, is-W, and-has, InREF, fresh, added, ref-has}
 use Rattle.circuit.proofs.Sizes.{and-size, ref-size, gadget-size}
 use Rattle.circuit.proofs.Building.{part-at, output-at}
-use Rattle.evaluation.specs.Places.{rowStart, pairSite, slotOf, cellRow, pairAt, ownAt, cellAt, outAt, maskAt, sumAt, heldAt}
+use Rattle.evaluation.specs.Places.{rowStart, pairAt, ownAt, cellAt, outAt, maskAt, sumAt, heldAt}
 use Rattle.evaluation.specs.Gates.{nothing, gateAt, AndGates, RefGates}
 use Rattle.evaluation.proofs.Sites.{row-next, row-last, site, and-site, r-site, R-site, refSite, ref-site, fresh-site}
 

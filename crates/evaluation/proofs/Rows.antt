@@ -1,28 +1,24 @@
 -- The wires u to W of a share and each other, and the outputs of AND, share by share.
-use mathlib.Core.Path.{_≡_, refl, sym, ap, ap₂, subst, subst₂, _∙_}
+use mathlib.Core.Path.{_≡_, refl, ap, subst, subst₂}
 use mathlib.Core.Bool.{Bool, cond}
-use mathlib.Core.List.{List, _++_}
-use Prim.Native.Nat.{ℕ, suc, _+_, _-_, _*_, _≤_, _<_}
+use mathlib.Core.List.{List}
+use Prim.Native.Nat.{ℕ, _+_, _-_, _*_, _≤_, _<_}
 use native.Mathlib.Nat.{mul-le-mul}
 use native.Mathlib.Omega.{arith}
 use lib.Bits.{bitXor}
 use lib.Dec.{ltb}
-use lib.ListN.{length, set, length-set}
 use borrow.Author.Tests.{lt-ltb, le-ltb, ltb-true, ltb-false}
 use Rattle.circuit.specs.Lists.{_⊕_, nth, range}
-use Rattle.circuit.specs.Gadgets.{others}
 use Rattle.circuit.specs.Kinds.{pairs}
-use Rattle.circuit.proofs.Base.{cases, xor-assoc}
+use Rattle.circuit.proofs.Base.{cases}
 use Rattle.circuit.proofs.Sizes.{pairs-twice}
 use Rattle.netlist.specs.Values.{byte, total}
-use Rattle.secrecy.proofs.Totals.{total-append}
-use Rattle.evaluation.specs.Places.{slotOf, cellRow, pairSite, pairAt, ownAt, cellAt, outAt}
-use Rattle.evaluation.specs.Filling.{Values, Known, Fills, RowCrossed, crossingAt, Multiplied}
+use Rattle.evaluation.specs.Places.{slotOf, cellRow, pairSite, pairAt, ownAt, cellAt}
+use Rattle.evaluation.specs.Filling.{Values, Known, Fills, crossingAt}
 use Rattle.evaluation.specs.Gadgets.{CrossedBy, Crosses, RowCrossedBy, CrossesRow}
-use Rattle.evaluation.proofs.Ranges.{others-is}
 use Rattle.evaluation.proofs.Sites.{pair-lt}
-use Rattle.evaluation.proofs.Adding.{Adds, adds-start, adds-turn, adds-same, adds-end, total-turn, total-end}
-use Rattle.evaluation.proofs.Filled.{known-all, fills-none, fills-next, fills-at, nth-set}
+use Rattle.evaluation.proofs.Adding.{Adds, adds-start, adds-turn, adds-end, total-turn, total-end}
+use Rattle.evaluation.proofs.Filled.{known-all, fills-none, fills-next, fills-at}
 
 -- the slot of j, below i and above it
 pub slot-low : (i j : ℕ) → j ≤ i → slotOf i j ≡ j

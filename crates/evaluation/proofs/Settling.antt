@@ -1,21 +1,18 @@
 -- The places of an accepted table's frames, and the marks moved on from the last frame to the first.
 use mathlib.Core.Path.{_≡_, refl, sym, ap, ap₂, subst, _∙_}
-use mathlib.Core.Bool.{Bool, true}
+use mathlib.Core.Bool.{true}
 use mathlib.Core.List.{List, [], _∷_, _++_, append-nil}
-use Prim.Native.Nat.{ℕ, zero, suc, _+_, _-_, _*_, _≤_, _<_}
+use Prim.Native.Nat.{ℕ, suc, _+_, _-_, _*_, _≤_, _<_}
 use native.Mathlib.Omega.{arith}
-use lib.Dec.{ltb}
 use lib.ListN.{length, take, set, length-append}
 use lib.Seq.{length-take-le, take-at}
-use borrow.Author.Tests.{ltb-true, ltb-false}
 use Rattle.circuit.specs.Limits.{wireLimit}
 use Rattle.circuit.specs.Lists.{nth, mem}
-use Rattle.circuit.specs.Wires.{Gate, input, constant, reg, inverse, sum, Wire}
+use Rattle.circuit.specs.Wires.{constant, reg, inverse, sum, Wire}
 use Rattle.circuit.specs.Kinds.{Kind, HEAD, IN, CON, XOR, NOT, REG, AND, REF, OUT, shape, words}
 use Rattle.circuit.specs.Circuit.{Circuit, size, isSet, empty, made, extend}
 use Rattle.circuit.specs.Rules.{checked}
 use Rattle.circuit.specs.Composition.{Frame, Fits, fit-IN, fit-CON, fit-XOR, fit-NOT, fit-REG, fit-AND, fit-REF, fit-OUT, build}
-use Rattle.circuit.proofs.Base.{cases}
 use Rattle.circuit.proofs.Building.{build-shares, size-extend}
 use Rattle.circuit.proofs.Judging.{named-made}
 use Rattle.circuit.proofs.Sizes.{made-size}

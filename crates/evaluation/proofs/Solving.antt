@@ -9,7 +9,7 @@ use lib.ListN.{length, getD, take, drop, length-append, List·getD-append}
 use lib.Seq.{drop-drop, take-suc, getD-append-add}
 use Rattle.circuit.specs.Lists.{_⊕_}
 use Rattle.circuit.specs.Wires.{Gate, input, constant, random, reg, inverse, sum, product, gated, Wire}
-use Rattle.circuit.proofs.Base.{cases, Every, every-imp, AllFrom}
+use Rattle.circuit.proofs.Base.{Every, every-imp, AllFrom}
 use Rattle.netlist.specs.Values.{at, total, value, isRandom, valuesFrom, valuesOf}
 use Rattle.netlist.specs.Probes.{operands}
 use Rattle.netlist.proofs.Randoms.{randomsIn, randoms-append}

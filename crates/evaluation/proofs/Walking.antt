@@ -1,5 +1,5 @@
 -- The walk over an accepted table: it stands between two of its frames, and each step meets the next.
-use mathlib.Core.Path.{_≡_, refl, sym, ap, ap₂, subst, _∙_}
+use mathlib.Core.Path.{_≡_, refl, sym, ap, subst, _∙_}
 use mathlib.Core.Bool.{true, _&&_}
 use mathlib.Core.List.{List, [], _∷_, _++_, append-assoc}
 use Prim.Native.Nat.{ℕ, suc, _+_, _≤_, _<_}
@@ -11,7 +11,7 @@ use borrow.Author.Tests.{lt-ltb, le-ltb, le-leb}
 use Rattle.circuit.specs.Limits.{wireLimit}
 use Rattle.circuit.specs.Lists.{nth}
 use Rattle.circuit.specs.Wires.{Wire}
-use Rattle.circuit.specs.Kinds.{Kind, kindOf, shape, words}
+use Rattle.circuit.specs.Kinds.{Kind, shape, words}
 use Rattle.circuit.specs.Circuit.{Circuit, size, empty, made, extend}
 use Rattle.circuit.specs.Composition.{Frame, frame, Fits, fit-IN, fit-CON, fit-XOR, fit-NOT, fit-REG, fit-AND, fit-REF, fit-OUT, AllFit, next, build, kindWord, wordsOf}
 use Rattle.circuit.proofs.Base.{and-both}
@@ -20,11 +20,10 @@ use Rattle.circuit.proofs.Fitting.{kind-known, fit-meets}
 use Rattle.circuit.proofs.Exact.{Accepted}
 use Rattle.checker.specs.declared.walk.Frame.{Frame as FrameCode}
 use Rattle.checker.specs.declared.walk.Walk.{Walk}
-use Rattle.checker.specs.declared.walk.Step.{Step}
 use Rattle.checker.specs.declared.walk.Step.the-variants.{Next, Refused, End}
 use Rattle.checker.specs.declared.kinds.Shape.{Shape as ShapeCode}
-use Rattle.evaluation.specs.Walking.{Between}
 use Rattle.checker.specs.Walk.{kindCode, shapeCode, frameCode, operandsAt, behind, stepAt}
+use Rattle.evaluation.specs.Walking.{Between}
 
 abbrev pub between-start : {table : List ℕ} {room : ℕ} (a : Accepted table room) → Between table (a .fs) 2
 between-start {table} a = record {

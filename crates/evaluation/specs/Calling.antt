@@ -5,9 +5,9 @@ use Prim.Native.Nat.{ℕ}
 use lib.Dec.{leb}
 use Rattle.circuit.specs.Limits.{wireLimit}
 use Rattle.circuit.specs.Rules.{need}
+use Rattle.netlist.specs.Calls.{sheetsRule, callAnswer, callNotes}
 use Rattle.checker.specs.declared.Verdict.{Verdict}
 use Rattle.checker.specs.Said.{said}
-use Rattle.netlist.specs.Calls.{sheetsRule, callAnswer, callNotes}
 
 -- sheets of which the shortest has so many bytes
 abbrev pub Shortest : ℕ → List (List ℕ) → Type 0

@@ -4,15 +4,15 @@ use mathlib.Core.Bool.{Bool, not, _&&_}
 use mathlib.Core.List.{List}
 use Prim.Native.Nat.{ℕ, _+_, _-_, _*_, _≤_, _<_}
 use lib.ListN.{length}
-use Rattle.checker.specs.declared.walk.Gate.{Gate as GateCode}
-use Rattle.checker.specs.declared.walk.Gate.the-variants as gate
-use Rattle.checker.specs.declared.walk.Frame.{Frame as FrameCode}
-use Rattle.checker.specs.declared.walk.Frame.the-variants as frame
-use Rattle.circuit.specs.Lists.{_⊕_, nth, range}
+use Rattle.circuit.specs.Lists.{_⊕_, nth}
 use Rattle.circuit.specs.Gadgets.{others}
 use Rattle.circuit.specs.Kinds.{pairs}
 use Rattle.circuit.specs.Circuit.{isSet}
 use Rattle.netlist.specs.Values.{bits, byte, at, total}
+use Rattle.checker.specs.declared.walk.Gate.{Gate as GateCode}
+use Rattle.checker.specs.declared.walk.Gate.the-variants as gate
+use Rattle.checker.specs.declared.walk.Frame.{Frame as FrameCode}
+use Rattle.checker.specs.declared.walk.Frame.the-variants as frame
 use Rattle.evaluation.specs.Places.{wordA, wordB, pairAt, ownAt, cellAt, outAt, maskAt, sumAt, heldAt}
 
 -- the value of each wire

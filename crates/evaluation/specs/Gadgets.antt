@@ -2,15 +2,15 @@
 use mathlib.Core.Path.{_≡_}
 use mathlib.Core.Bool.{Bool}
 use mathlib.Core.List.{List}
-use Prim.Native.Nat.{ℕ, _+_, _-_, _*_, _≤_, _<_}
+use Prim.Native.Nat.{ℕ, _+_, _-_, _≤_, _<_}
 use lib.ListN.{length}
+use Rattle.circuit.specs.Lists.{_⊕_, range}
+use Rattle.circuit.specs.Kinds.{pairs}
+use Rattle.netlist.specs.Values.{byte, total}
 use Rattle.checker.specs.declared.walk.Gate.{Gate as GateCode}
 use Rattle.checker.specs.declared.walk.Gate.the-variants as gate
 use Rattle.checker.specs.declared.walk.Frame.{Frame as FrameCode}
 use Rattle.checker.specs.declared.walk.Frame.the-variants as frame
-use Rattle.circuit.specs.Lists.{_⊕_, range}
-use Rattle.circuit.specs.Kinds.{pairs}
-use Rattle.netlist.specs.Values.{byte, total}
 use Rattle.evaluation.specs.Places.{wordA, wordB, cellAt, maskAt, cellRow}
 use Rattle.evaluation.specs.Filling.{Values, Known, Fills, Crossed, crossing, RowCrossed, crossingAt}
 

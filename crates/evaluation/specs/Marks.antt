@@ -2,22 +2,22 @@
 use mathlib.Core.Path.{_≡_}
 use mathlib.Core.Bool.{cond, true}
 use mathlib.Core.List.{List, [], _∷_, _++_, map}
-use Prim.Native.Nat.{ℕ, zero, suc, _+_, _-_, _*_, _≤_, _<_}
+use Prim.Native.Nat.{ℕ, zero, suc, _+_, _-_, _≤_, _<_}
 use lib.Dec.{ltb}
 use lib.ListN.{length, set}
-use Rattle.checker.specs.declared.walk.Gate.{Gate as GateCode}
-use Rattle.checker.specs.declared.walk.Gate.the-variants as gate
-use Rattle.checker.specs.declared.walk.Frame.{Frame as FrameCode}
-use Rattle.checker.specs.declared.walk.Frame.the-variants as frame
-use Rattle.circuit.specs.Lists.{nth, range, mem}
-use Rattle.circuit.specs.Wires.{Gate, reg, inverse, sum, product, gated, Wire}
+use Rattle.circuit.specs.Lists.{nth, range}
+use Rattle.circuit.specs.Wires.{Gate, inverse, sum, Wire}
 use Rattle.circuit.specs.Circuit.{isSet}
 use Rattle.circuit.proofs.Base.{Every, AllFrom, In}
 use Rattle.netlist.specs.Probes.{isStop, operands, stops}
 use Rattle.netlist.proofs.Reading.{probe}
-use Rattle.evaluation.specs.Places.{wordA, wordB, pairSite, cellRow, pairAt, ownAt, cellAt, outAt, sumAt, maskAt, heldAt}
+use Rattle.checker.specs.declared.walk.Gate.{Gate as GateCode}
+use Rattle.checker.specs.declared.walk.Gate.the-variants as gate
+use Rattle.checker.specs.declared.walk.Frame.{Frame as FrameCode}
+use Rattle.checker.specs.declared.walk.Frame.the-variants as frame
+use Rattle.evaluation.specs.Places.{wordA, wordB, cellRow, ownAt}
 use Rattle.evaluation.specs.Gadgets.{Early}
-use Rattle.evaluation.specs.Gates.{gateAt, OwnGates, CellGates, CellsGates, OutGates, AndGates, SumGates, RefGates}
+use Rattle.evaluation.specs.Gates.{gateAt, AndGates, RefGates}
 
 -- a mark on each wire of a list
 abbrev pub markAll : List ℕ → List ℕ → List ℕ

@@ -72,11 +72,12 @@ impl Load {
         start.elapsed().as_secs_f64() * 1e6 / times as f64
     }
 
-    /// The medians of both programs, measured in turns.
+    /// The medians of both programs, measured in turns of a third of a millisecond: a turn is short beside the swings of a
+    /// machine's clock, so that both programs meet the same ones.
     fn medians(&mut self, call: usize, subject: &dyn Calls, rounds: usize) -> (f64, f64) {
         let (mut ours, mut theirs) = (Vec::new(), Vec::new());
         let once = self.time(call, subject, 3).max(0.1);
-        let times = (2000.0 / once).clamp(1.0, 20_000.0) as usize;
+        let times = (300.0 / once).clamp(1.0, 5_000.0) as usize;
         for _ in 0..rounds {
             ours.push(self.time(call, subject, times));
             theirs.push(self.time(call, &Tuned, times));
@@ -133,7 +134,7 @@ fn print_line(load: &mut Load, name: &str, subject: &dyn Calls, rounds: usize) {
 fn main() {
     options::only(&["rounds", "seed"]);
     let random = &mut Random::new(options::number("seed", 1));
-    let rounds = options::number("rounds", 31) as usize;
+    let rounds = options::number("rounds", 201) as usize;
     let (subject, name) = subject();
     println!("benchmark: {name} and the tuned opponent; medians of {rounds} turns, microseconds");
     println!("each call: first program, opponent, ratio");

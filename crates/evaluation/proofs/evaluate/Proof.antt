@@ -1,16 +1,16 @@
 -- `evaluation::evaluate` meets its contract.
-use borrow.Author.Needs.{needs}
-use Rattle.evaluation.proofs.evaluate.Statement.{statement}
-use Rattle.evaluation.proofs.evaluate.Tie as tie
 use mathlib.Core.List.{[], _∷_}
 use mathlib.Core.Path.{_≡_, sym, ap, _∙_}
 use lib.ListN.{length}
+use borrow.Author.Needs.{needs}
 use Rattle.circuit.specs.Rules.{checked}
 use Rattle.circuit.specs.Answer.{accepted, refused, answer}
 use Rattle.netlist.specs.Values.{bits}
 use Rattle.netlist.specs.Calls.{written, callRule, valueBytes}
 use Rattle.secrecy.proofs.Accepted.{gadgets-compute}
 use Rattle.checker.specs.Said.{said}
+use Rattle.evaluation.proofs.evaluate.Statement.{statement}
+use Rattle.evaluation.proofs.evaluate.Tie as tie
 use Rattle.evaluation.proofs.Answering.{answer-pass, untouched, one-sheet, parts, sheet-room}
 
 sub-none : tie.Need-sub-none

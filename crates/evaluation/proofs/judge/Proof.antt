@@ -1,17 +1,16 @@
 -- `evaluation::judge` meets its contract.
-use borrow.Author.Needs.{needs}
-use Rattle.evaluation.proofs.judge.Statement.{statement}
-use Rattle.evaluation.proofs.judge.Tie as tie
 use mathlib.Core.Path.{_≡_, sym, ap, ap₂, subst, _∙_}
 use Prim.Native.Nat.{ℕ, _*_}
 use native.Mathlib.Omega.{arith}
 use lib.ListN.{length}
+use borrow.Author.Needs.{needs}
 use Rattle.circuit.specs.Lists.{nth}
-use Rattle.circuit.specs.Circuit.{Circuit}
 use Rattle.circuit.specs.Rules.{checked}
 use Rattle.circuit.specs.Answer.{accepted, refused, answer, verdictOf}
 use Rattle.checker.specs.declared.Verdict.{Verdict}
 use Rattle.checker.specs.Said.{said, inputsAre}
+use Rattle.evaluation.proofs.judge.Statement.{statement}
+use Rattle.evaluation.proofs.judge.Tie as tie
 use Rattle.evaluation.specs.Refusing.{MissingFirst}
 use Rattle.evaluation.proofs.Answering.{answer-pass, refused-first, headed, order-is, shares-few, rule15, rule16, rule17, rule18-shares, rule18-tape, rule19, all-pass}
 

@@ -1,22 +1,22 @@
 -- `evaluation::read_probes` meets its contract.
-use borrow.Author.Needs.{needs}
-use Rattle.evaluation.proofs.read_probes.Statement.{statement}
-use Rattle.evaluation.proofs.read_probes.Tie as tie
-use Prim.Native.Nat.{ℕ}
 use mathlib.Core.List.{[], _∷_}
 use mathlib.Core.Path.{_≡_, sym, ap, _∙_}
+use Prim.Native.Nat.{ℕ}
 use native.Mathlib.Omega.{arith}
 use lib.ListN.{length, length-replicate}
+use borrow.Author.Needs.{needs}
 use Rattle.circuit.specs.Limits.{wireLimit}
 use Rattle.circuit.specs.Circuit.{size}
 use Rattle.circuit.specs.Rules.{checked}
 use Rattle.circuit.specs.Answer.{accepted, refused, answer}
+use Rattle.circuit.proofs.Exact.{accepted-size}
 use Rattle.netlist.specs.Values.{bits, valuesOf}
 use Rattle.netlist.specs.Probes.{stops}
 use Rattle.netlist.specs.Calls.{written, callRule, valueBytes, readingBytes}
 use Rattle.secrecy.proofs.Accepted.{equal-counts}
 use Rattle.checker.specs.Said.{said}
-use Rattle.circuit.proofs.Exact.{accepted-size}
+use Rattle.evaluation.proofs.read_probes.Statement.{statement}
+use Rattle.evaluation.proofs.read_probes.Tie as tie
 use Rattle.evaluation.proofs.Answering.{answer-pass, untouched, two-sheets, parts, sheet-room, probes-made, probe-made}
 use Rattle.evaluation.proofs.Evaluating.{values-length}
 use Rattle.evaluation.proofs.Showing.{marked-probes, reading-is, unmarked}

@@ -3,16 +3,16 @@ use mathlib.Core.Path.{_≡_, refl, sym, ap, subst, _∙_}
 use mathlib.Core.List.{List}
 use Prim.Native.Nat.{ℕ, _+_, _*_, _-_, _/_, _≤_}
 use native.Mathlib.Omega.{arith}
-use lib.ListN.{set, length, take, drop, length-set, length-drop}
+use lib.ListN.{set, length, take, drop, length-set}
 use lib.Seq.{sets, length-take-le}
-use denote.Ref.{now}
 use borrow.Author.Needs.{needs}
+use denote.Ref.{now}
 use Rattle.circuit.specs.Rules.{Judgement, pass, refuse}
 use Rattle.text.specs.Reader.{readText}
 use Rattle.text.specs.Answer.{tableAfter}
 use Rattle.text.specs.Scan.{codeTable, valueIn, countFrom, wordsAt, limitOf, ruled, headWord, frameByCount}
 use Rattle.text.proofs.read_by.Tie as tie
-use Rattle.text.proofs.Reading.{stop, line-fits}
+use Rattle.text.proofs.Reading.{stop}
 use Rattle.text.proofs.Scanning.{behind-some, store-turn, same-head, same-frame, limit-most, limit-least}
 use Rattle.text.proofs.Progress.{Progress, Fitting, headHere, head-refused, head-fits, start, rest-behind, rule-broken, passing, refused, ended, turn, table-after}
 use Rattle.text.proofs.read_by.Statement.{statement}

@@ -1,19 +1,17 @@
 -- `evaluation::gadget::add_masks` meets its contract.
+use mathlib.Core.Path.{_≡_, ap, _∙_}
+use mathlib.Core.Bool.{Bool}
+use Prim.Native.Nat.{ℕ, _+_, _-_, _≤_}
+use native.Mathlib.Omega.{arith}
+use Rattle.circuit.specs.Lists.{_⊕_, nth, range}
+use Rattle.circuit.specs.Kinds.{pairs}
+use Rattle.netlist.specs.Values.{byte, total}
 use Rattle.evaluation.proofs.gadget.add_masks.Statement.{statement}
 use Rattle.evaluation.proofs.gadget.add_masks.Tie as tie
-use borrow.Author.Needs.{needs}
-use mathlib.Core.Path.{_≡_, refl, sym, ap, ap₂, subst, _∙_}
-use Prim.Native.Nat.{ℕ, _+_, _-_, _*_, _≤_, _<_}
-use native.Mathlib.Omega.{arith}
-use lib.ListN.{length, set, length-set}
-use Rattle.circuit.specs.Lists.{_⊕_, nth, range}
-use mathlib.Core.Bool.{Bool, true, false, not, _&&_}
-use Rattle.evaluation.specs.Places.{wordA, wordB, rowStart, pairSite, slotOf, cellRow, pairAt, ownAt, cellAt, outAt, maskAt, sumAt, heldAt}
-use Rattle.evaluation.specs.Filling.{Values, Known, Fills, Copied, Drawn, Owned, Crossed, RowCrossed, Multiplied, AndValues, Masked, Held, RefValues}
-use Rattle.circuit.specs.Kinds.{pairs}
+use Rattle.evaluation.specs.Places.{maskAt}
+use Rattle.evaluation.specs.Filling.{Values, Known}
 use Rattle.evaluation.proofs.Adding.{Adds, adds-start, adds-turn, adds-end, total-turn, total-end}
 use Rattle.evaluation.proofs.Sites.{pair-lt}
-use Rattle.netlist.specs.Values.{byte, total}
 
 abbrev Inv-loop : tie.InvT-loop
 Inv-loop values first d i bit from to sum₀ j₀ sum j = (from ≤ j) × (j ≤ to) × ((x : Bool) → bit ≡ byte x → (v : Values) → Known v 0 (first + pairs d) values → let f : ℕ → Bool = λ k. v (maskAt d first i k) in Adds (x ⊕ total (range from (to - from)) f) sum (total (range j (to - j)) f))

@@ -1,15 +1,13 @@
 -- `evaluation::gadget::and` meets its contract.
+use Prim.Native.Nat.{_-_}
+use native.Mathlib.Omega.{arith}
 use borrow.Author.Needs.{needs}
+use Rattle.circuit.specs.Kinds.{pairs}
+use Rattle.circuit.proofs.Sizes.{pairs-twice}
 use Rattle.evaluation.proofs.gadget.and.Statement.{statement}
 use Rattle.evaluation.proofs.gadget.and.Tie as tie
-use mathlib.Core.Path.{_≡_, refl, sym, ap, ap₂, subst, _∙_}
-use Prim.Native.Nat.{ℕ, _+_, _-_, _*_, _≤_, _<_}
-use native.Mathlib.Omega.{arith}
-use Rattle.evaluation.proofs.Bounds.{eights, sixteens}
-use Rattle.evaluation.specs.Places.{wordA, wordB, rowStart, pairSite, slotOf, cellRow, pairAt, ownAt, cellAt, outAt, maskAt, sumAt, heldAt}
-use Rattle.circuit.specs.Kinds.{pairs}
+use Rattle.evaluation.specs.Places.{wordA, wordB}
 use Rattle.evaluation.proofs.Gadgets.{and-filled}
-use Rattle.circuit.proofs.Sizes.{pairs-twice}
 use Rattle.evaluation.proofs.Rows.{own-early}
 
 pairs-requires : tie.Need-pairs-requires

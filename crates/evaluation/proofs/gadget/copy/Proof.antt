@@ -1,16 +1,14 @@
 -- `evaluation::gadget::copy` meets its contract.
+use mathlib.Core.Path.{refl, sym, ap, _∙_}
+use Prim.Native.Nat.{_+_, _-_, _≤_}
+use native.Mathlib.Omega.{arith}
+use Rattle.circuit.specs.Lists.{nth}
+use Rattle.netlist.specs.Values.{byte}
 use Rattle.evaluation.proofs.gadget.copy.Statement.{statement}
 use Rattle.evaluation.proofs.gadget.copy.Tie as tie
-use borrow.Author.Needs.{needs}
-use mathlib.Core.Path.{_≡_, refl, sym, ap, ap₂, subst, _∙_}
-use Prim.Native.Nat.{ℕ, _+_, _-_, _*_, _≤_, _<_}
-use native.Mathlib.Omega.{arith}
-use lib.ListN.{length, set, length-set}
-use Rattle.circuit.specs.Lists.{_⊕_, nth, range}
-use Rattle.evaluation.proofs.Bits.{set-byte, byte-and, byte-xor, byte-not}
-use Rattle.evaluation.proofs.Filled.{known-all, fills-none, fills-next, fills-for, fills-at, fills-set}
-use Rattle.evaluation.specs.Filling.{Values, Known, Fills, Copied, Drawn, Owned, Crossed, RowCrossed, Multiplied, AndValues, Masked, Held, RefValues}
-use Rattle.netlist.specs.Values.{byte}
+use Rattle.evaluation.proofs.Bits.{set-byte}
+use Rattle.evaluation.proofs.Filled.{fills-none, fills-at, fills-set}
+use Rattle.evaluation.specs.Filling.{Fills, Copied}
 
 abbrev Inv-loop : tie.InvT-loop
 Inv-loop values₀ at sheet from count q₀ values q = (q ≤ count) × Fills (Copied sheet from at count) at (at + q) values₀ values

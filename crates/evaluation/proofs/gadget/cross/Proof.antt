@@ -1,19 +1,10 @@
 -- `evaluation::gadget::cross` meets its contract.
+use Prim.Native.Nat.{_-_}
+use native.Mathlib.Omega.{arith}
+use lib.ListN.{length-set}
 use borrow.Author.Needs.{needs}
 use Rattle.evaluation.proofs.gadget.cross.Statement.{statement}
 use Rattle.evaluation.proofs.gadget.cross.Tie as tie
-use lib.Seq.{length-sets}
-use mathlib.Core.Path.{_≡_, refl, sym, ap, ap₂, subst, _∙_}
-use Prim.Native.Nat.{ℕ, _+_, _-_, _*_, _≤_, _<_}
-use native.Mathlib.Omega.{arith}
-use lib.ListN.{length, set, length-set}
-use Rattle.circuit.specs.Lists.{_⊕_, nth, range}
-use Rattle.evaluation.proofs.Bits.{set-byte, byte-and, byte-xor, byte-not}
-use Rattle.evaluation.proofs.Filled.{known-all, fills-none, fills-next, fills-for, fills-at, fills-set}
-use Rattle.evaluation.specs.Filling.{Values, Known, Fills, Copied, Drawn, Owned, Crossed, RowCrossed, Multiplied, AndValues, Masked, Held, RefValues}
-use mathlib.Core.Bool.{Bool, true, false, not, _&&_}
-use Rattle.netlist.specs.Values.{byte}
-use lib.Bits.{bitAnd, bitXor}
 use Rattle.evaluation.proofs.Crossing.{crosses}
 
 slice-write-values : tie.Need-slice-write-values

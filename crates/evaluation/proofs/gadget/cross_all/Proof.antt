@@ -1,14 +1,13 @@
 -- `evaluation::gadget::cross_all` meets its contract.
+use mathlib.Core.Path.{_≡_, sym, subst}
+use Prim.Native.Nat.{ℕ, _+_, _-_}
+use native.Mathlib.Omega.{arith}
+use lib.ListN.{set}
+use borrow.Author.Needs.{needs}
 use Rattle.evaluation.proofs.gadget.cross_all.Statement.{statement}
 use Rattle.evaluation.proofs.gadget.cross_all.Tie as tie
-use borrow.Author.Needs.{needs}
-use mathlib.Core.Path.{_≡_, refl, sym, ap, ap₂, subst, _∙_}
-use Prim.Native.Nat.{ℕ, _+_, _-_, _*_, _≤_, _<_}
-use native.Mathlib.Omega.{arith}
-use lib.ListN.{length, set, length-set}
-use Rattle.circuit.specs.Lists.{_⊕_, nth, range}
-use Rattle.evaluation.proofs.Bounds.{eights, sixteens}
-use Rattle.evaluation.specs.Places.{wordA, wordB, rowStart, pairSite, slotOf, cellRow, pairAt, ownAt, cellAt, outAt, maskAt, sumAt, heldAt}
+use Rattle.evaluation.proofs.Bounds.{eights}
+use Rattle.evaluation.specs.Places.{wordA, outAt}
 use Rattle.evaluation.proofs.Rows.{own-early}
 use Rattle.evaluation.proofs.Outputs.{OutputsOn, outputs-start, outputs-turn, outputs-end}
 

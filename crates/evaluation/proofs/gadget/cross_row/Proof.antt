@@ -1,14 +1,10 @@
 -- `evaluation::gadget::cross_row` meets its contract.
+use Prim.Native.Nat.{_+_, _-_, _*_}
+use native.Mathlib.Omega.{arith}
+use borrow.Author.Needs.{needs}
 use Rattle.evaluation.proofs.gadget.cross_row.Statement.{statement}
 use Rattle.evaluation.proofs.gadget.cross_row.Tie as tie
-use borrow.Author.Needs.{needs}
-use mathlib.Core.Path.{_≡_, refl, sym, ap, ap₂, subst, _∙_}
-use Prim.Native.Nat.{ℕ, _+_, _-_, _*_, _≤_, _<_}
-use native.Mathlib.Omega.{arith}
-use lib.ListN.{length, set, length-set}
-use Rattle.circuit.specs.Lists.{_⊕_, nth, range}
-use Rattle.evaluation.proofs.Bounds.{eights, sixteens}
-use Rattle.evaluation.specs.Places.{wordA, wordB, rowStart, pairSite, slotOf, cellRow, pairAt, ownAt, cellAt, outAt, maskAt, sumAt, heldAt}
+use Rattle.evaluation.proofs.Bounds.{eights}
 use Rattle.evaluation.proofs.Rows.{RowOn, row-start, row-turn-at, row-end, pair-early, own-early, cell-room}
 
 abbrev Inv-loop : tie.InvT-loop

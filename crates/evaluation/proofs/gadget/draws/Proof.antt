@@ -1,17 +1,16 @@
 -- `evaluation::gadget::draws` meets its contract.
+use mathlib.Core.Path.{_≡_, refl, sym, ap, _∙_}
+use Prim.Native.Nat.{_+_, _-_, _*_, _≤_}
+use native.Mathlib.Omega.{arith}
+use lib.ListN.{length-set}
+use Rattle.circuit.specs.Lists.{nth}
+use Rattle.circuit.specs.Circuit.{isSet}
+use Rattle.netlist.specs.Values.{byte}
 use Rattle.evaluation.proofs.gadget.draws.Statement.{statement}
 use Rattle.evaluation.proofs.gadget.draws.Tie as tie
-use borrow.Author.Needs.{needs}
-use mathlib.Core.Path.{_≡_, refl, sym, ap, ap₂, subst, _∙_}
-use Prim.Native.Nat.{ℕ, _+_, _-_, _*_, _≤_, _<_}
-use native.Mathlib.Omega.{arith}
-use lib.ListN.{length, set, length-set}
-use Rattle.circuit.specs.Lists.{_⊕_, nth, range}
-use Rattle.evaluation.proofs.Bits.{set-byte, byte-and, byte-xor, byte-not}
-use Rattle.evaluation.proofs.Filled.{known-all, fills-none, fills-next, fills-for, fills-at, fills-set}
-use Rattle.evaluation.specs.Filling.{Values, Known, Fills, Copied, Drawn, Owned, Crossed, RowCrossed, Multiplied, AndValues, Masked, Held, RefValues}
-use Rattle.netlist.specs.Values.{byte}
-use Rattle.circuit.specs.Circuit.{isSet}
+use Rattle.evaluation.proofs.Bits.{set-byte}
+use Rattle.evaluation.proofs.Filled.{fills-none, fills-at, fills-set}
+use Rattle.evaluation.specs.Filling.{Fills, Drawn}
 
 abbrev Inv-loop : tie.InvT-loop
 Inv-loop values₀ at tape used count q₀ values q = (q ≤ count) × Fills (Drawn tape used at count) at (at + 2 * q) values₀ values

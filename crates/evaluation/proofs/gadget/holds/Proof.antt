@@ -1,17 +1,15 @@
 -- `evaluation::gadget::holds` meets its contract.
-use Rattle.evaluation.proofs.gadget.holds.Statement.{statement}
-use Rattle.evaluation.proofs.gadget.holds.Tie as tie
-use borrow.Author.Needs.{needs}
-use mathlib.Core.Path.{_≡_, refl, sym, ap, ap₂, subst, _∙_}
-use Prim.Native.Nat.{ℕ, _+_, _-_, _*_, _≤_, _<_}
+use mathlib.Core.Path.{_≡_, refl, sym, ap, _∙_}
+use Prim.Native.Nat.{_+_, _-_, _≤_}
 use native.Mathlib.Omega.{arith}
-use lib.ListN.{length, set, length-set}
-use Rattle.circuit.specs.Lists.{_⊕_, nth, range}
-use Rattle.evaluation.specs.Places.{wordA, wordB, rowStart, pairSite, slotOf, cellRow, pairAt, ownAt, cellAt, outAt, maskAt, sumAt, heldAt}
-use Rattle.evaluation.specs.Filling.{Values, Known, Fills, Copied, Drawn, Owned, Crossed, RowCrossed, Multiplied, AndValues, Masked, Held, RefValues}
-use Rattle.evaluation.proofs.Filled.{known-all, fills-none, fills-next, fills-for, fills-at, fills-set}
+use Rattle.circuit.specs.Lists.{nth}
 use Rattle.circuit.specs.Kinds.{pairs}
 use Rattle.netlist.specs.Values.{byte}
+use Rattle.evaluation.proofs.gadget.holds.Statement.{statement}
+use Rattle.evaluation.proofs.gadget.holds.Tie as tie
+use Rattle.evaluation.specs.Places.{sumAt}
+use Rattle.evaluation.specs.Filling.{Fills, Held}
+use Rattle.evaluation.proofs.Filled.{known-all, fills-none, fills-at, fills-set}
 
 abbrev Inv-loop : tie.InvT-loop
 Inv-loop values₀ first d start i₀ values i = (i ≤ d) × Fills (Held d first) (first + pairs d + d) (first + pairs d + d + i) values₀ values

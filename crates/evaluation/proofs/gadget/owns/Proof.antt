@@ -1,19 +1,17 @@
 -- `evaluation::gadget::owns` meets its contract.
+use mathlib.Core.Path.{refl}
+use Prim.Native.Nat.{_+_, _-_, _≤_}
+use native.Mathlib.Omega.{arith}
+use lib.ListN.{length-set}
+use borrow.Author.Needs.{needs}
+use Rattle.circuit.specs.Lists.{nth}
 use Rattle.evaluation.proofs.gadget.owns.Statement.{statement}
 use Rattle.evaluation.proofs.gadget.owns.Tie as tie
-use borrow.Author.Needs.{needs}
 use Rattle.evaluation.proofs.Owning.{owned-turn}
-use mathlib.Core.Path.{_≡_, refl, sym, ap, ap₂, subst, _∙_}
-use Prim.Native.Nat.{ℕ, _+_, _-_, _*_, _≤_, _<_}
-use native.Mathlib.Omega.{arith}
-use lib.ListN.{length, set, length-set}
-use Rattle.circuit.specs.Lists.{_⊕_, nth, range}
-use Rattle.evaluation.proofs.Bits.{set-byte, byte-and, byte-xor, byte-not}
-use Rattle.evaluation.proofs.Filled.{known-all, fills-none, fills-next, fills-for, fills-at, fills-set}
-use Rattle.evaluation.specs.Filling.{Values, Known, Fills, Copied, Drawn, Owned, Crossed, RowCrossed, Multiplied, AndValues, Masked, Held, RefValues}
-use Rattle.evaluation.proofs.Bounds.{eights, sixteens}
-use Rattle.evaluation.specs.Places.{wordA, wordB, rowStart, pairSite, slotOf, cellRow, pairAt, ownAt, cellAt, outAt, maskAt, sumAt, heldAt}
-use Rattle.netlist.specs.Values.{byte}
+use Rattle.evaluation.proofs.Filled.{fills-none, fills-at}
+use Rattle.evaluation.specs.Filling.{Fills, Owned}
+use Rattle.evaluation.proofs.Bounds.{eights}
+use Rattle.evaluation.specs.Places.{wordA, wordB, ownAt}
 
 abbrev Inv-loop : tie.InvT-loop
 Inv-loop values₀ first d ops start i₀ values i = (i ≤ d) × Fills (Owned d first (wordA ops) (wordB d ops)) (ownAt d first 0) (ownAt d first i) values₀ values

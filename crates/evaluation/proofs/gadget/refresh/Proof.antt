@@ -1,13 +1,11 @@
 -- `evaluation::gadget::refresh` meets its contract.
+use Prim.Native.Nat.{_-_}
+use native.Mathlib.Omega.{arith}
 use borrow.Author.Needs.{needs}
+use Rattle.circuit.specs.Kinds.{pairs}
 use Rattle.evaluation.proofs.gadget.refresh.Statement.{statement}
 use Rattle.evaluation.proofs.gadget.refresh.Tie as tie
-use mathlib.Core.Path.{_≡_, refl, sym, ap, ap₂, subst, _∙_}
-use Prim.Native.Nat.{ℕ, _+_, _-_, _*_, _≤_, _<_}
-use native.Mathlib.Omega.{arith}
-use Rattle.evaluation.proofs.Bounds.{eights, sixteens}
-use Rattle.evaluation.specs.Places.{wordA, wordB, rowStart, pairSite, slotOf, cellRow, pairAt, ownAt, cellAt, outAt, maskAt, sumAt, heldAt}
-use Rattle.circuit.specs.Kinds.{pairs}
+use Rattle.evaluation.specs.Places.{wordA}
 use Rattle.evaluation.proofs.Gadgets.{ref-filled}
 
 pairs-requires : tie.Need-pairs-requires

@@ -1,18 +1,16 @@
 -- `evaluation::gadget::sums` meets its contract.
+use mathlib.Core.Path.{_≡_, refl, subst}
+use Prim.Native.Nat.{ℕ, _+_, _-_, _≤_}
+use native.Mathlib.Omega.{arith}
+use lib.ListN.{set}
+use borrow.Author.Needs.{needs}
+use Rattle.circuit.specs.Kinds.{pairs}
 use Rattle.evaluation.proofs.gadget.sums.Statement.{statement}
 use Rattle.evaluation.proofs.gadget.sums.Tie as tie
-use borrow.Author.Needs.{needs}
 use Rattle.evaluation.proofs.Gadgets.{masked-turn}
-use mathlib.Core.Path.{_≡_, refl, sym, ap, ap₂, subst, _∙_}
-use Prim.Native.Nat.{ℕ, _+_, _-_, _*_, _≤_, _<_}
-use native.Mathlib.Omega.{arith}
-use lib.ListN.{length, set, length-set}
-use Rattle.circuit.specs.Lists.{_⊕_, nth, range}
-use Rattle.evaluation.specs.Places.{wordA, wordB, rowStart, pairSite, slotOf, cellRow, pairAt, ownAt, cellAt, outAt, maskAt, sumAt, heldAt}
-use Rattle.evaluation.specs.Filling.{Values, Known, Fills, Copied, Drawn, Owned, Crossed, RowCrossed, Multiplied, AndValues, Masked, Held, RefValues}
-use Rattle.evaluation.proofs.Filled.{known-all, fills-none, fills-next, fills-for, fills-at, fills-set}
-use Rattle.circuit.specs.Kinds.{pairs}
-use Rattle.netlist.specs.Values.{byte}
+use Rattle.evaluation.specs.Places.{wordA}
+use Rattle.evaluation.specs.Filling.{Fills, Masked}
+use Rattle.evaluation.proofs.Filled.{fills-none, fills-at}
 
 abbrev Inv-loop : tie.InvT-loop
 Inv-loop values₀ first d ops start i₀ values i = (i ≤ d) × Fills (Masked d first (wordA ops)) (first + pairs d) (first + pairs d + i) values₀ values

@@ -1,11 +1,11 @@
 -- `evaluation::places::pairs` meets its contract.
+use mathlib.Core.Path.{refl}
+use Prim.Native.Nat.{_-_}
+use native.Mathlib.Omega.{arith}
 use borrow.Author.Needs.{needs}
 use Rattle.evaluation.proofs.places.pairs.Statement.{statement}
 use Rattle.evaluation.proofs.places.pairs.Tie as tie
-use mathlib.Core.Path.{_≡_, refl, sym, ap, ap₂, subst, _∙_}
-use Prim.Native.Nat.{ℕ, _+_, _-_, _*_, _≤_, _<_}
-use native.Mathlib.Omega.{arith}
-use Rattle.evaluation.proofs.Bounds.{eights, sixteens}
+use Rattle.evaluation.proofs.Bounds.{eights}
 
 sub-result : tie.Need-sub-result
 sub-result c = search needs

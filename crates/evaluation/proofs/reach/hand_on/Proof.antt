@@ -1,14 +1,10 @@
 -- `evaluation::reach::hand_on` meets its contract.
-use borrow.Author.Needs.{needs}
+use Prim.Native.Nat.{_-_}
+use lib.ListN.{length-set}
+use borrow.Author.Tests.{lt-ltb, le-ltb}
+use Rattle.circuit.specs.Lists.{nth}
 use Rattle.evaluation.proofs.reach.hand_on.Statement.{statement}
 use Rattle.evaluation.proofs.reach.hand_on.Tie as tie
-use mathlib.Core.Path.{_≡_, refl, sym, ap, ap₂, subst, _∙_}
-use Prim.Native.Nat.{ℕ, _+_, _-_, _*_, _≤_, _<_}
-use native.Mathlib.Omega.{arith}
-use lib.ListN.{length, set, length-set}
-use Rattle.circuit.specs.Lists.{_⊕_, nth, range}
-use borrow.Author.Tests.{lt-ltb, le-ltb}
-use Rattle.evaluation.specs.Marks.{markAll, handedOn, sixes, outWires, Moves}
 
 slice-read-if1 : tie.Need-slice-read-if1
 slice-read-if1 c = c .before .pre .0

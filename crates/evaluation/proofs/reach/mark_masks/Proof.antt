@@ -1,18 +1,16 @@
 -- `evaluation::reach::mark_masks` meets its contract.
-use Rattle.evaluation.proofs.reach.mark_masks.Statement.{statement}
-use Rattle.evaluation.proofs.reach.mark_masks.Tie as tie
-use mathlib.Core.Path.{_≡_, refl, sym, ap, ap₂, subst, _∙_}
-use Prim.Native.Nat.{ℕ, _+_, _-_, _*_, _≤_, _<_}
+use mathlib.Core.Path.{_≡_, refl, sym, ap, _∙_}
+use mathlib.Core.List.{map}
+use Prim.Native.Nat.{_+_, _-_, _≤_}
 use native.Mathlib.Omega.{arith}
 use lib.ListN.{length, set, length-set}
-use Rattle.circuit.specs.Lists.{_⊕_, nth, range}
-use Rattle.evaluation.specs.Places.{wordA, wordB, rowStart, pairSite, slotOf, cellRow, pairAt, ownAt, cellAt, outAt, maskAt, sumAt, heldAt}
-use Rattle.circuit.specs.Kinds.{pairs}
-use Rattle.evaluation.specs.Marks.{markAll, handedOn, sixes, outWires, Moves}
-use Rattle.evaluation.proofs.Moved.{mark-length, handed-length, moves-none, moves-then, moves-at, moves-stop, moves-stops, moves-gate, moves-unmarked, twice-moved, masks-turn, masks-end, sum-handed, sum-moved, held-moved, drawn-moved, zero-is}
-use mathlib.Core.List.{List, map}
+use Rattle.circuit.specs.Lists.{range}
+use Rattle.evaluation.proofs.reach.mark_masks.Statement.{statement}
+use Rattle.evaluation.proofs.reach.mark_masks.Tie as tie
+use Rattle.evaluation.specs.Places.{maskAt}
+use Rattle.evaluation.specs.Marks.{markAll}
+use Rattle.evaluation.proofs.Moved.{masks-turn, masks-end}
 use Rattle.evaluation.proofs.Sites.{pair-lt}
-use borrow.Author.Needs.{needs}
 
 abbrev Inv-loop : tie.InvT-loop
 Inv-loop marks₀ first d i from to j₀ marks j = (from ≤ j) × (j ≤ to) × (markAll marks (map (maskAt d first i) (range j (to - j))) ≡ markAll marks₀ (map (maskAt d first i) (range from (to - from)))) × (length marks ≡ length marks₀)

@@ -1,14 +1,12 @@
 -- `evaluation::reach::mark_sixes` meets its contract.
+use mathlib.Core.Path.{_≡_, refl, sym, ap, _∙_}
+use Prim.Native.Nat.{_+_, _-_, _*_, _≤_}
+use native.Mathlib.Omega.{arith}
+use lib.ListN.{length, length-set}
 use Rattle.evaluation.proofs.reach.mark_sixes.Statement.{statement}
 use Rattle.evaluation.proofs.reach.mark_sixes.Tie as tie
-use borrow.Author.Needs.{needs}
-use mathlib.Core.Path.{_≡_, refl, sym, ap, ap₂, subst, _∙_}
-use Prim.Native.Nat.{ℕ, _+_, _-_, _*_, _≤_, _<_}
-use native.Mathlib.Omega.{arith}
-use lib.ListN.{length, set, length-set}
-use Rattle.circuit.specs.Lists.{_⊕_, nth, range}
-use Rattle.evaluation.specs.Marks.{markAll, handedOn, sixes, outWires, Moves}
-use Rattle.evaluation.proofs.Moved.{mark-append, handed-length, moves-none, moves-then, moves-for, moves-at, cell-moved, sixes-turn, sixes-end, out-moved, row-moved, rows-moved, own-moved, and-moved, zero-is}
+use Rattle.evaluation.specs.Marks.{markAll, sixes}
+use Rattle.evaluation.proofs.Moved.{sixes-turn, sixes-end}
 
 abbrev Inv-loop : tie.InvT-loop
 Inv-loop marks₀ from count x₀ k₀ marks x k = (k ≤ count) × (x ≡ from + 6 * k) × (markAll marks (sixes x (count - k)) ≡ markAll marks₀ (sixes from count)) × (length marks ≡ length marks₀)

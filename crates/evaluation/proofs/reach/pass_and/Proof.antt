@@ -1,12 +1,11 @@
 -- `evaluation::reach::pass_and` meets its contract.
-use borrow.Author.Needs.{needs}
+use mathlib.Core.Path.{_∙_}
+use Prim.Native.Nat.{_-_}
+use native.Mathlib.Omega.{arith}
 use Rattle.evaluation.proofs.reach.pass_and.Statement.{statement}
 use Rattle.evaluation.proofs.reach.pass_and.Tie as tie
-use mathlib.Core.Path.{_≡_, refl, sym, ap, ap₂, subst, _∙_}
-use Prim.Native.Nat.{ℕ, _+_, _-_, _*_, _≤_, _<_}
-use native.Mathlib.Omega.{arith}
-use Rattle.evaluation.specs.Places.{wordA, wordB, rowStart, pairSite, slotOf, cellRow, pairAt, ownAt, cellAt, outAt, maskAt, sumAt, heldAt}
-use Rattle.evaluation.proofs.Moved.{mark-length, mark-append, out-handed, handed-length, moves-none, moves-then, moves-for, moves-at, cell-moved, sixes-turn, sixes-end, out-moved, row-moved, rows-moved, own-moved, and-moved, zero-is, below-is, slots-up}
+use Rattle.evaluation.specs.Places.{wordA, wordB}
+use Rattle.evaluation.proofs.Moved.{and-moved}
 
 pass-outs-requires : tie.Need-pass-outs-requires
 pass-outs-requires c κs = (c .before .before .before .pre .0, c .before .before .before .pre .1)

@@ -1,15 +1,14 @@
 -- `evaluation::reach::pass_cell` meets its contract.
-use borrow.Author.Needs.{needs}
+use mathlib.Core.Path.{sym, ap, subst, _∙_}
+use mathlib.Core.List.{List, [], _∷_}
+use Prim.Native.Nat.{ℕ, _+_, _-_}
+use native.Mathlib.Omega.{arith}
+use lib.ListN.{length}
 use Rattle.evaluation.proofs.reach.pass_cell.Statement.{statement}
 use Rattle.evaluation.proofs.reach.pass_cell.Tie as tie
-use mathlib.Core.Path.{_≡_, refl, sym, ap, ap₂, subst, _∙_}
-use Prim.Native.Nat.{ℕ, _+_, _-_, _*_, _≤_, _<_}
-use native.Mathlib.Omega.{arith}
-use lib.ListN.{length, set, length-set}
-use Rattle.evaluation.specs.Marks.{markAll, handedOn, sixes, outWires, Moves}
-use Rattle.evaluation.proofs.Moved.{mark-append, handed-length, moves-none, moves-then, moves-for, moves-at, cell-moved, sixes-turn, sixes-end, out-moved, row-moved, rows-moved, own-moved, and-moved, zero-is}
-use Rattle.evaluation.specs.Gates.{OwnGates, CellGates, CellsGates, RowsGates, OwnsGates, OutGates, AndGates}
-use mathlib.Core.List.{List, [], _∷_, _++_}
+use Rattle.evaluation.specs.Marks.{handedOn, Moves}
+use Rattle.evaluation.proofs.Moved.{handed-length, cell-moved}
+use Rattle.evaluation.specs.Gates.{CellGates}
 
 add-hand-on : tie.Need-add-hand-on
 add-hand-on c = record { fits = omega (arith, c .before .before .pre .0, c .before .before .pre .1, c .before .before .pre .2, c .before .before .pre .3, c .before .before .good .0 .0) }

@@ -1,19 +1,17 @@
 -- `evaluation::reach::pass_out` meets its contract.
-use borrow.Author.Needs.{needs}
-use Rattle.evaluation.proofs.reach.pass_out.Statement.{statement}
-use Rattle.evaluation.proofs.reach.pass_out.Tie as tie
-use mathlib.Core.Path.{_≡_, refl, sym, ap, ap₂, subst, _∙_}
-use Prim.Native.Nat.{ℕ, _+_, _-_, _*_, _≤_, _<_}
+use mathlib.Core.Path.{_≡_, ap, subst, _∙_}
+use Prim.Native.Nat.{ℕ, _+_, _-_, _*_, _<_}
 use native.Mathlib.Omega.{arith}
 use lib.ListN.{length, set, length-set}
-use Rattle.circuit.specs.Lists.{_⊕_, nth, range}
-use Rattle.evaluation.proofs.Bounds.{eights, sixteens}
-use Rattle.evaluation.specs.Places.{wordA, wordB, rowStart, pairSite, slotOf, cellRow, pairAt, ownAt, cellAt, outAt, maskAt, sumAt, heldAt}
-use Rattle.evaluation.specs.Marks.{markAll, handedOn, sixes, outWires, Moves}
-use Rattle.evaluation.proofs.Moved.{mark-length, mark-append, out-handed, handed-length, moves-none, moves-then, moves-for, moves-at, cell-moved, sixes-turn, sixes-end, out-moved, row-moved, rows-moved, own-moved, and-moved, zero-is, below-is, slots-up}
-use borrow.Author.Tests.{lt-ltb, le-ltb}
-use Rattle.evaluation.proofs.Rows.{pair-early, own-early, cell-room, slot-low, slot-high, row-next, row-room}
-use mathlib.Core.List.{List, [], _∷_, _++_}
+use borrow.Author.Tests.{lt-ltb}
+use Rattle.circuit.specs.Lists.{nth}
+use Rattle.evaluation.proofs.reach.pass_out.Statement.{statement}
+use Rattle.evaluation.proofs.reach.pass_out.Tie as tie
+use Rattle.evaluation.proofs.Bounds.{eights}
+use Rattle.evaluation.specs.Places.{outAt}
+use Rattle.evaluation.specs.Marks.{sixes}
+use Rattle.evaluation.proofs.Moved.{mark-length, out-handed}
+use Rattle.evaluation.proofs.Rows.{own-early, row-next, row-room}
 
 cell-row-requires : tie.Need-cell-row-requires
 cell-row-requires c κs = (omega (arith, c .before .pre .0 .0, c .before .pre .0 .1, c .before .pre .0 .2, c .before .pre .1, c .before .pre .2, eights (c .before .args .d) (c .before .args .d - 1) (omega (arith, c .before .pre .0 .2)) (omega (arith, c .before .pre .0 .2)), own-early (c .before .args .d) (c .before .args .first) (c .before .args .d) (c .before .args .i) (c .before .pre .1)), omega (arith, c .before .pre .0 .0, c .before .pre .0 .1, c .before .pre .0 .2, c .before .pre .1, c .before .pre .2, eights (c .before .args .d) (c .before .args .d - 1) (omega (arith, c .before .pre .0 .2)) (omega (arith, c .before .pre .0 .2)), own-early (c .before .args .d) (c .before .args .first) (c .before .args .d) (c .before .args .i) (c .before .pre .1)), omega (arith, c .before .pre .0 .0, c .before .pre .0 .1, c .before .pre .0 .2, c .before .pre .1, c .before .pre .2, eights (c .before .args .d) (c .before .args .d - 1) (omega (arith, c .before .pre .0 .2)) (omega (arith, c .before .pre .0 .2)), own-early (c .before .args .d) (c .before .args .first) (c .before .args .d) (c .before .args .i) (c .before .pre .1)))

@@ -1,16 +1,14 @@
 -- `evaluation::reach::pass_outs` meets its contract.
+use mathlib.Core.Path.{refl, sym, subst}
+use mathlib.Core.List.{List}
+use Prim.Native.Nat.{ℕ, _+_, _-_, _≤_}
+use native.Mathlib.Omega.{arith}
 use Rattle.evaluation.proofs.reach.pass_outs.Statement.{statement}
 use Rattle.evaluation.proofs.reach.pass_outs.Tie as tie
-use borrow.Author.Needs.{needs}
-use mathlib.Core.Path.{_≡_, refl, sym, ap, ap₂, subst, _∙_}
-use Prim.Native.Nat.{ℕ, _+_, _-_, _*_, _≤_, _<_}
-use native.Mathlib.Omega.{arith}
-use lib.ListN.{length, set, length-set}
-use mathlib.Core.List.{List}
-use Rattle.evaluation.specs.Places.{wordA, wordB, rowStart, pairSite, slotOf, cellRow, pairAt, ownAt, cellAt, outAt, maskAt, sumAt, heldAt}
-use Rattle.evaluation.specs.Marks.{markAll, handedOn, sixes, outWires, Moves}
-use Rattle.evaluation.proofs.Moved.{mark-append, handed-length, moves-none, moves-then, moves-for, moves-at, cell-moved, sixes-turn, sixes-end, out-moved, row-moved, rows-moved, own-moved, and-moved, zero-is}
-use Rattle.evaluation.specs.Gates.{OwnGates, CellGates, CellsGates, RowsGates, OwnsGates, OutGates, AndGates}
+use Rattle.evaluation.specs.Places.{outAt}
+use Rattle.evaluation.specs.Marks.{Moves}
+use Rattle.evaluation.proofs.Moved.{moves-none, moves-then, moves-at, out-moved}
+use Rattle.evaluation.specs.Gates.{OutGates}
 
 abbrev Inv-loop : tie.InvT-loop
 Inv-loop marks₀ first d i₀ marks i = (i ≤ d) × Moves (OutGates d first) (outAt d first i) (outAt d first d) marks₀ marks

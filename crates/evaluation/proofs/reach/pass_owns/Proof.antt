@@ -1,20 +1,17 @@
 -- `evaluation::reach::pass_owns` meets its contract.
+use mathlib.Core.Path.{refl, sym, ap, subst}
+use mathlib.Core.List.{List}
+use Prim.Native.Nat.{ℕ, _+_, _-_, _≤_, _<_}
+use native.Mathlib.Omega.{arith}
+use borrow.Author.Needs.{needs}
 use Rattle.evaluation.proofs.reach.pass_owns.Statement.{statement}
 use Rattle.evaluation.proofs.reach.pass_owns.Tie as tie
-use borrow.Author.Needs.{needs}
-use mathlib.Core.Path.{_≡_, refl, sym, ap, ap₂, subst, _∙_}
-use Prim.Native.Nat.{ℕ, _+_, _-_, _*_, _≤_, _<_}
-use native.Mathlib.Omega.{arith}
-use lib.ListN.{length, set, length-set}
-use Rattle.circuit.specs.Lists.{_⊕_, nth, range}
-use Rattle.evaluation.proofs.Bounds.{eights, sixteens}
-use Rattle.evaluation.specs.Places.{wordA, wordB, rowStart, pairSite, slotOf, cellRow, pairAt, ownAt, cellAt, outAt, maskAt, sumAt, heldAt}
-use Rattle.evaluation.specs.Marks.{markAll, handedOn, sixes, outWires, Moves}
-use Rattle.evaluation.proofs.Moved.{mark-append, handed-length, moves-none, moves-then, moves-for, moves-at, cell-moved, sixes-turn, sixes-end, out-moved, row-moved, rows-moved, own-moved, and-moved, zero-is}
-use Rattle.evaluation.specs.Gates.{OwnGates, CellGates, CellsGates, RowsGates, OwnsGates, OutGates, AndGates}
-use Rattle.evaluation.proofs.Rows.{pair-early, own-early, cell-room, slot-low, slot-high, row-next, row-room}
-use mathlib.Core.List.{List, [], _∷_, _++_}
-use Rattle.circuit.specs.Wires.{Gate}
+use Rattle.evaluation.proofs.Bounds.{eights}
+use Rattle.evaluation.specs.Places.{wordA, wordB, ownAt}
+use Rattle.evaluation.specs.Marks.{Moves}
+use Rattle.evaluation.proofs.Moved.{moves-none, moves-then, moves-for, moves-at, own-moved, zero-is}
+use Rattle.evaluation.specs.Gates.{OwnGates, OwnsGates}
+use Rattle.evaluation.proofs.Rows.{own-early}
 
 abbrev Inv-loop : tie.InvT-loop
 Inv-loop marks₀ first d ops start i₀ marks i = (i ≤ d) × Moves (OwnsGates d first (wordA ops) (wordB d ops)) (ownAt d first i) (ownAt d first d) marks₀ marks

@@ -1,18 +1,16 @@
 -- `evaluation::reach::pass_ref` meets its contract.
+use mathlib.Core.Path.{refl, sym, ap, subst}
+use mathlib.Core.List.{List}
+use Prim.Native.Nat.{ℕ, _+_, _-_, _*_, _≤_}
+use native.Mathlib.Omega.{arith}
+use borrow.Author.Needs.{needs}
+use Rattle.circuit.specs.Kinds.{pairs}
 use Rattle.evaluation.proofs.reach.pass_ref.Statement.{statement}
 use Rattle.evaluation.proofs.reach.pass_ref.Tie as tie
-use mathlib.Core.Path.{_≡_, refl, sym, ap, ap₂, subst, _∙_}
-use Prim.Native.Nat.{ℕ, _+_, _-_, _*_, _≤_, _<_}
-use native.Mathlib.Omega.{arith}
-use lib.ListN.{length, set, length-set}
-use Rattle.circuit.specs.Lists.{_⊕_, nth, range}
-use Rattle.evaluation.specs.Places.{wordA, wordB, rowStart, pairSite, slotOf, cellRow, pairAt, ownAt, cellAt, outAt, maskAt, sumAt, heldAt}
-use Rattle.circuit.specs.Kinds.{pairs}
-use mathlib.Core.List.{List}
-use Rattle.evaluation.specs.Marks.{markAll, handedOn, sixes, outWires, Moves}
-use Rattle.evaluation.proofs.Moved.{mark-length, handed-length, moves-none, moves-then, moves-at, moves-stop, moves-stops, moves-gate, moves-unmarked, twice-moved, masks-turn, masks-end, sum-handed, sum-moved, held-moved, drawn-moved, zero-is}
+use Rattle.evaluation.specs.Places.{wordA, sumAt}
+use Rattle.evaluation.specs.Marks.{Moves}
+use Rattle.evaluation.proofs.Moved.{moves-then, moves-at, sum-moved, held-moved, drawn-moved, zero-is}
 use Rattle.evaluation.specs.Gates.{RefGates}
-use borrow.Author.Needs.{needs}
 
 abbrev Inv-loop : tie.InvT-loop
 Inv-loop marks₀ first d ops i₀ marks i = (i ≤ d) × Moves (λ g. RefGates g d first (wordA ops)) (sumAt d first i) (first + (pairs d + 2 * d)) marks₀ marks

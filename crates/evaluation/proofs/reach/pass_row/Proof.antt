@@ -1,18 +1,15 @@
 -- `evaluation::reach::pass_row` meets its contract.
+use mathlib.Core.Path.{_≡_, refl, ap, subst₂}
+use Prim.Native.Nat.{_+_, _-_, _*_, _≤_}
+use native.Mathlib.Omega.{arith}
+use borrow.Author.Needs.{needs}
 use Rattle.evaluation.proofs.reach.pass_row.Statement.{statement}
 use Rattle.evaluation.proofs.reach.pass_row.Tie as tie
-use borrow.Author.Needs.{needs}
-use mathlib.Core.Path.{_≡_, refl, sym, ap, subst, subst₂, _∙_}
-use Prim.Native.Nat.{ℕ, _+_, _-_, _*_, _≤_, _<_}
-use native.Mathlib.Omega.{arith}
-use lib.ListN.{length, set, length-set}
-use Rattle.circuit.specs.Lists.{_⊕_, nth, range}
-use Rattle.evaluation.proofs.Bounds.{eights, sixteens}
-use Rattle.evaluation.specs.Places.{wordA, wordB, rowStart, pairSite, slotOf, cellRow, pairAt, ownAt, cellAt, outAt, maskAt, sumAt, heldAt}
-use Rattle.evaluation.specs.Marks.{markAll, handedOn, sixes, outWires, Moves}
-use Rattle.evaluation.proofs.Moved.{mark-length, mark-append, out-handed, handed-length, moves-none, moves-then, moves-for, moves-at, cell-moved, sixes-turn, sixes-end, out-moved, row-moved, rows-moved, own-moved, and-moved, zero-is, below-is, slots-up}
-use Rattle.evaluation.specs.Gates.{OwnGates, CellGates, CellsGates, RowsGates, OwnsGates, OutGates, AndGates}
-use Rattle.evaluation.proofs.Rows.{pair-early, own-early, cell-room, slot-low, slot-high, row-next, row-room}
+use Rattle.evaluation.specs.Places.{wordA, wordB, pairAt, cellAt}
+use Rattle.evaluation.specs.Marks.{Moves}
+use Rattle.evaluation.proofs.Moved.{moves-none, moves-at, row-moved, below-is, slots-up}
+use Rattle.evaluation.specs.Gates.{CellGates, CellsGates}
+use Rattle.evaluation.proofs.Rows.{pair-early, own-early, cell-room}
 
 abbrev Inv-loop : tie.InvT-loop
 Inv-loop marks₀ first d i ops from to a start j₀ marks j = (from ≤ j) × (j ≤ to) × Moves (CellsGates d first (wordA ops) (wordB d ops) i) (cellAt d first i j) (cellAt d first i to) marks₀ marks

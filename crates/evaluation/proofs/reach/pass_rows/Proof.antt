@@ -1,18 +1,13 @@
 -- `evaluation::reach::pass_rows` meets its contract.
+use mathlib.Core.Path.{_≡_, refl, ap}
+use Prim.Native.Nat.{_+_, _-_, _≤_}
+use native.Mathlib.Omega.{arith}
 use Rattle.evaluation.proofs.reach.pass_rows.Statement.{statement}
 use Rattle.evaluation.proofs.reach.pass_rows.Tie as tie
-use borrow.Author.Needs.{needs}
-use mathlib.Core.Path.{_≡_, refl, sym, ap, ap₂, subst, _∙_}
-use Prim.Native.Nat.{ℕ, _+_, _-_, _*_, _≤_, _<_}
-use native.Mathlib.Omega.{arith}
-use lib.ListN.{length, set, length-set}
-use mathlib.Core.List.{List}
-use Rattle.evaluation.specs.Places.{wordA, wordB, rowStart, pairSite, slotOf, cellRow, pairAt, ownAt, cellAt, outAt, maskAt, sumAt, heldAt}
-use Rattle.evaluation.specs.Marks.{markAll, handedOn, sixes, outWires, Moves}
-use Rattle.evaluation.proofs.Moved.{mark-append, handed-length, moves-none, moves-then, moves-for, moves-at, cell-moved, sixes-turn, sixes-end, out-moved, row-moved, rows-moved, own-moved, and-moved, zero-is}
-use Rattle.evaluation.specs.Gates.{OwnGates, CellGates, CellsGates, RowsGates, OwnsGates, OutGates, AndGates}
-use Rattle.evaluation.proofs.Rows.{pair-early, own-early, cell-room, slot-low, slot-high, row-next, row-room}
-use Rattle.circuit.specs.Wires.{Gate}
+use Rattle.evaluation.specs.Places.{wordA, wordB, cellRow}
+use Rattle.evaluation.specs.Marks.{Moves}
+use Rattle.evaluation.proofs.Moved.{moves-none, moves-at, rows-moved, zero-is}
+use Rattle.evaluation.specs.Gates.{RowsGates}
 
 abbrev Inv-loop : tie.InvT-loop
 Inv-loop marks₀ first d ops i₀ marks i = (i ≤ d) × Moves (RowsGates d first (wordA ops) (wordB d ops)) (first + cellRow d i) (first + cellRow d d) marks₀ marks

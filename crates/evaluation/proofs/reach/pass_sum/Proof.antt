@@ -1,18 +1,16 @@
 -- `evaluation::reach::pass_sum` meets its contract.
-use borrow.Author.Needs.{needs}
-use Rattle.evaluation.proofs.reach.pass_sum.Statement.{statement}
-use Rattle.evaluation.proofs.reach.pass_sum.Tie as tie
-use mathlib.Core.Path.{_≡_, refl, sym, ap, ap₂, subst, _∙_}
-use Prim.Native.Nat.{ℕ, _+_, _-_, _*_, _≤_, _<_}
+use mathlib.Core.Path.{_≡_, ap, subst, _∙_}
+use mathlib.Core.List.{map}
+use Prim.Native.Nat.{ℕ, _+_, _-_, _<_}
 use native.Mathlib.Omega.{arith}
 use lib.ListN.{length, set, length-set}
-use Rattle.circuit.specs.Lists.{_⊕_, nth, range}
-use Rattle.evaluation.specs.Places.{wordA, wordB, rowStart, pairSite, slotOf, cellRow, pairAt, ownAt, cellAt, outAt, maskAt, sumAt, heldAt}
+use borrow.Author.Tests.{lt-ltb}
+use Rattle.circuit.specs.Lists.{nth, range}
 use Rattle.circuit.specs.Kinds.{pairs}
-use Rattle.evaluation.specs.Marks.{markAll, handedOn, sixes, outWires, Moves}
-use Rattle.evaluation.proofs.Moved.{mark-length, handed-length, moves-none, moves-then, moves-at, moves-stop, moves-stops, moves-gate, moves-unmarked, twice-moved, masks-turn, masks-end, sum-handed, sum-moved, held-moved, drawn-moved, zero-is}
-use borrow.Author.Tests.{lt-ltb, le-ltb}
-use mathlib.Core.List.{List, map}
+use Rattle.evaluation.proofs.reach.pass_sum.Statement.{statement}
+use Rattle.evaluation.proofs.reach.pass_sum.Tie as tie
+use Rattle.evaluation.specs.Places.{maskAt, sumAt}
+use Rattle.evaluation.proofs.Moved.{mark-length, sum-handed}
 
 pairs-requires : tie.Need-pairs-requires
 pairs-requires c κs = (omega (arith, c .before .pre .0 .0, c .before .pre .0 .1, c .before .pre .0 .2, c .before .pre .1, c .before .pre .2, c .before .pre .3), omega (arith, c .before .pre .0 .0, c .before .pre .0 .1, c .before .pre .0 .2, c .before .pre .1, c .before .pre .2, c .before .pre .3))

@@ -1,13 +1,11 @@
 -- `evaluation::readings::largest` meets its contract.
+use Prim.Native.Nat.{ℕ, _+_, _-_, _≤_, _<_}
+use native.Mathlib.Omega.{arith}
+use borrow.Author.Needs.{needs}
+use Rattle.circuit.specs.Lists.{nth}
 use Rattle.evaluation.proofs.readings.largest.Statement.{statement}
 use Rattle.evaluation.proofs.readings.largest.Tie as tie
-use mathlib.Core.Path.{_≡_, refl, sym, ap, ap₂, subst, _∙_}
-use Prim.Native.Nat.{ℕ, _+_, _-_, _*_, _≤_, _<_}
-use native.Mathlib.Omega.{arith}
-use lib.ListN.{length, set, length-set}
-use Rattle.circuit.specs.Lists.{_⊕_, nth, range}
 use Rattle.evaluation.proofs.Highest.{highest-turn}
-use borrow.Author.Needs.{needs}
 
 abbrev Inv-loop : tie.InvT-loop
 Inv-loop marks from count most₀ i₀ most i = (i ≤ count) × ((x : ℕ) → from ≤ x → x < from + i → nth marks x ≤ most)

@@ -1,15 +1,15 @@
 -- `evaluation::readings::list` meets its contract.
-use Rattle.evaluation.proofs.readings.list.Statement.{statement}
-use Rattle.evaluation.proofs.readings.list.Tie as tie
-use borrow.Author.Needs.{needs}
-use mathlib.Core.Path.{_≡_, refl, sym, ap, ap₂, subst, _∙_}
-use Prim.Native.Nat.{ℕ, _+_, _-_, _*_, _≤_, _<_}
+use mathlib.Core.Path.{_≡_, refl, sym, ap, subst, _∙_}
+use Prim.Native.Nat.{ℕ, _-_}
 use native.Mathlib.Omega.{arith}
-use lib.ListN.{length, set, length-set}
-use Rattle.circuit.specs.Lists.{_⊕_, nth, range}
+use lib.ListN.{length, length-set}
+use borrow.Author.Needs.{needs}
+use Rattle.circuit.specs.Lists.{nth}
 use Rattle.circuit.proofs.Exact.{Accepted}
 use Rattle.checker.specs.Walk.{stepAt}
 use Rattle.checker.specs.declared.walk.Step.the-variants.{Next, Refused, End}
+use Rattle.evaluation.proofs.readings.list.Statement.{statement}
+use Rattle.evaluation.proofs.readings.list.Tie as tie
 use Rattle.evaluation.proofs.Evaluating.{second-word}
 use Rattle.evaluation.proofs.Settling.{ListedTo, listed-start, listed-end, listed-never, listed-next}
 

@@ -1,14 +1,14 @@
 -- `evaluation::readings::mark` meets its contract.
+use mathlib.Core.Path.{_≡_, refl, sym, _∙_}
+use Prim.Native.Nat.{_-_, _≤_}
+use native.Mathlib.Omega.{arith}
+use lib.ListN.{length, drop, length-set}
+use borrow.Author.Needs.{needs}
+use Rattle.circuit.specs.Lists.{nth}
 use Rattle.evaluation.proofs.readings.mark.Statement.{statement}
 use Rattle.evaluation.proofs.readings.mark.Tie as tie
-use mathlib.Core.Path.{_≡_, refl, sym, ap, ap₂, subst, _∙_}
-use Prim.Native.Nat.{ℕ, _+_, _-_, _*_, _≤_, _<_}
-use native.Mathlib.Omega.{arith}
-use Rattle.circuit.specs.Lists.{_⊕_, nth, range}
-use lib.ListN.{length, drop, length-set}
-use Rattle.evaluation.specs.Marks.{markAll, handedOn, sixes, outWires, Moves}
+use Rattle.evaluation.specs.Marks.{markAll}
 use Rattle.evaluation.proofs.Marking.{mark-turn, mark-end}
-use borrow.Author.Needs.{needs}
 
 abbrev Inv-loop : tie.InvT-loop
 Inv-loop marks₀ wires i₀ marks i = (i ≤ length wires) × (length marks ≡ length marks₀) × (markAll marks₀ wires ≡ markAll marks (drop i wires))

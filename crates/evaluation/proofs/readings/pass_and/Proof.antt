@@ -1,13 +1,11 @@
 -- `evaluation::readings::pass_and` meets its contract.
-use borrow.Author.Needs.{needs}
+use mathlib.Core.Path.{refl}
+use Prim.Native.Nat.{_+_, _-_, _*_}
+use native.Mathlib.Omega.{arith}
 use Rattle.evaluation.proofs.readings.pass_and.Statement.{statement}
 use Rattle.evaluation.proofs.readings.pass_and.Tie as tie
-use mathlib.Core.Path.{_≡_, refl, sym, ap, ap₂, subst, _∙_}
-use Prim.Native.Nat.{ℕ, _+_, _-_, _*_, _≤_, _<_}
-use native.Mathlib.Omega.{arith}
-use lib.ListN.{length, set, length-set}
-use Rattle.evaluation.proofs.Bounds.{eights, sixteens}
-use Rattle.evaluation.proofs.Moved.{mark-length, handed-length, moves-none, moves-then, moves-at, moves-stop, moves-stops, moves-gate, moves-unmarked, twice-moved, masks-turn, masks-end, sum-handed, sum-moved, held-moved, drawn-moved, zero-is}
+use Rattle.evaluation.proofs.Bounds.{eights}
+use Rattle.evaluation.proofs.Moved.{moves-unmarked}
 
 sub-largest : tie.Need-sub-largest
 sub-largest c = omega (arith, c .before .before .before .pre .0 .0, c .before .before .before .pre .0 .1, c .before .before .before .pre .0 .2, c .before .before .before .pre .1, eights (c .before .before .before .args .d) (c .before .before .before .args .d - 1) (omega (arith, c .before .before .before .pre .0 .2)) (omega (arith, c .before .before .before .pre .0 .2)))

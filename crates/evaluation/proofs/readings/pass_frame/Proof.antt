@@ -1,19 +1,18 @@
 -- `evaluation::readings::pass_frame` meets its contract.
-use borrow.Author.Needs.{needs}
-use Rattle.evaluation.proofs.readings.pass_frame.Statement.{statement}
-use Rattle.evaluation.proofs.readings.pass_frame.Tie as tie
-use mathlib.Core.Path.{_≡_, refl, sym, ap, ap₂, subst, _∙_}
-use Prim.Native.Nat.{ℕ, _+_, _-_, _*_, _≤_, _<_}
-use native.Mathlib.Omega.{arith}
-use lib.ListN.{length, set, length-set}
-use Rattle.circuit.specs.Kinds.{pairs}
-use Rattle.evaluation.proofs.Moved.{handed-length, moves-none, moves-at, moves-stop, moves-stops, moves-gate, twice-moved}
+use mathlib.Core.Path.{_≡_, refl, sym, ap, subst, _∙_}
 use mathlib.Core.List.{List, [], _∷_}
+use Prim.Native.Nat.{ℕ, _+_, _-_, _≤_}
+use native.Mathlib.Omega.{arith}
+use lib.ListN.{length}
+use borrow.Author.Needs.{needs}
 use Rattle.circuit.specs.Wires.{Gate, sum, inverse}
-use Rattle.evaluation.specs.Filling.{frameMakes}
-use Rattle.evaluation.specs.Marks.{Moves, FrameGates, FrameEarly}
 use Rattle.checker.specs.declared.walk.Frame.{Frame as FrameCode}
 use Rattle.checker.specs.declared.walk.Frame.the-variants as frame
+use Rattle.evaluation.proofs.readings.pass_frame.Statement.{statement}
+use Rattle.evaluation.proofs.readings.pass_frame.Tie as tie
+use Rattle.evaluation.proofs.Moved.{handed-length, moves-none, moves-at, moves-stop, moves-stops, moves-gate, twice-moved}
+use Rattle.evaluation.specs.Filling.{frameMakes}
+use Rattle.evaluation.specs.Marks.{Moves, FrameGates, FrameEarly}
 
 enum-known-frame : tie.Need-enum-known-frame
 enum-known-frame c = search needs

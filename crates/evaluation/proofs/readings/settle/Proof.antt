@@ -1,24 +1,24 @@
 -- `evaluation::readings::settle` meets its contract.
+use mathlib.Core.Path.{_≡_, refl, sym, ap, subst, _∙_}
+use mathlib.Core.List.{List}
+use mathlib.Core.Bool.{true}
+use Prim.Native.Nat.{ℕ, _+_, _-_, _≤_, _<_}
+use native.Mathlib.Omega.{arith}
+use lib.ListN.{length}
+use borrow.Author.Needs.{needs}
+use Rattle.circuit.specs.Rules.{checked}
+use Rattle.circuit.proofs.Exact.{Accepted}
+use Rattle.circuit.specs.Circuit.{Circuit, size, isSet}
+use Rattle.circuit.specs.Lists.{nth, mem}
+use Rattle.netlist.specs.Probes.{stops}
+use Rattle.checker.specs.Walk.{operandsAt, stepAt}
+use Rattle.checker.specs.declared.walk.Step.the-variants.{Next}
 use Rattle.evaluation.proofs.readings.settle.Statement.{statement}
 use Rattle.evaluation.proofs.readings.settle.Tie as tie
-use mathlib.Core.Path.{_≡_, refl, sym, ap, ap₂, subst, _∙_}
-use Prim.Native.Nat.{ℕ, _+_, _-_, _*_, _≤_, _<_}
-use native.Mathlib.Omega.{arith}
-use lib.ListN.{length, set, length-set}
-use mathlib.Core.List.{List}
-use Rattle.circuit.specs.Rules.{checked}
-use Rattle.circuit.proofs.Exact.{Accepted, accepted-size}
-use Rattle.checker.specs.Walk.{operandsAt, stepAt}
-use Rattle.checker.specs.declared.walk.Step.the-variants.{Next, Refused, End}
 use Rattle.evaluation.specs.Filling.{frameMakes}
 use Rattle.evaluation.specs.Marks.{FrameEarly, FrameGates, Moves}
 use Rattle.evaluation.proofs.Evaluating.{second-word}
 use Rattle.evaluation.proofs.Settling.{SettledTo, settled-start, settled-end, frame-handed, no-end, no-refusal, settled-size}
-use Rattle.circuit.specs.Circuit.{Circuit, size, isSet}
-use Rattle.circuit.specs.Lists.{nth, mem}
-use Rattle.netlist.specs.Probes.{stops}
-use mathlib.Core.Bool.{true}
-use borrow.Author.Needs.{needs}
 
 abbrev Inv-loop : tie.InvT-loop
 Inv-loop table starts count wires marks₀ d n w₀ i₀ marks w i = (i ≤ count) × (length marks ≡ length marks₀) × ((room : ℕ) (a : Accepted table room) → wires ≡ size (checked table room .circuit) → SettledTo a marks₀ marks w i)

@@ -1,14 +1,14 @@
 -- `evaluation::readings::show` meets its contract.
-use Rattle.evaluation.proofs.readings.show.Statement.{statement}
-use Rattle.evaluation.proofs.readings.show.Tie as tie
-use borrow.Author.Needs.{needs}
-use mathlib.Core.Path.{_≡_, refl, sym, ap, ap₂, subst, _∙_}
-use Prim.Native.Nat.{ℕ, _+_, _-_, _*_, _≤_, _<_}
+use mathlib.Core.Path.{_≡_, refl, sym, ap, _∙_}
+use Prim.Native.Nat.{_+_, _-_, _≤_}
 use native.Mathlib.Omega.{arith}
-use Rattle.circuit.specs.Lists.{_⊕_, nth, range}
 use lib.ListN.{length, set, length-set}
 use lib.Seq.{sets}
+use borrow.Author.Needs.{needs}
 use borrow.Author.Tests.{lt-ltb}
+use Rattle.circuit.specs.Lists.{nth}
+use Rattle.evaluation.proofs.readings.show.Statement.{statement}
+use Rattle.evaluation.proofs.readings.show.Tie as tie
 use Rattle.evaluation.specs.Marks.{shownAt, shownFrom}
 use Rattle.evaluation.proofs.Marking.{show-store, show-end}
 

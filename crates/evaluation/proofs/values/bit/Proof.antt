@@ -1,10 +1,9 @@
 -- `evaluation::values::bit` meets its contract.
+use mathlib.Core.Path.{sym, ap}
+use Rattle.netlist.specs.Values.{byte}
 use Rattle.evaluation.proofs.values.bit.Statement.{statement}
 use Rattle.evaluation.proofs.values.bit.Tie as tie
-use mathlib.Core.Path.{_≡_, refl, sym, ap, ap₂, subst, _∙_}
-use Rattle.netlist.specs.Values.{byte}
 use Rattle.evaluation.proofs.Bits.{set-low, set-high}
-use borrow.Author.Needs.{needs}
 
 returns : tie.Need-returns
 returns c = sym (ap byte (set-low (c .before .args .word) (c .if1 .taken)))

@@ -1,19 +1,19 @@
 -- `evaluation::values::fill` meets its contract.
-use Rattle.evaluation.proofs.values.fill.Statement.{statement}
-use Rattle.evaluation.proofs.values.fill.Tie as tie
-use borrow.Author.Needs.{needs}
-use mathlib.Core.Path.{_≡_, refl, sym, ap, ap₂, subst, _∙_}
-use Prim.Native.Nat.{ℕ, _+_, _-_, _*_, _≤_, _<_}
-use native.Mathlib.Omega.{arith}
-use lib.ListN.{length, set, length-set}
+use mathlib.Core.Path.{_≡_, refl, sym, ap, subst, _∙_}
 use mathlib.Core.List.{List}
-use Rattle.circuit.specs.Lists.{_⊕_, nth, range}
+use Prim.Native.Nat.{ℕ, _+_, _-_}
+use native.Mathlib.Omega.{arith}
+use lib.ListN.{length}
+use borrow.Author.Needs.{needs}
+use Rattle.circuit.specs.Lists.{nth}
 use Rattle.circuit.specs.Rules.{checked}
 use Rattle.circuit.proofs.Exact.{Accepted}
 use Rattle.checker.specs.Walk.{operandsAt, stepAt}
 use Rattle.checker.specs.declared.walk.Step.the-variants.{Next, Refused, End}
+use Rattle.evaluation.proofs.values.fill.Statement.{statement}
+use Rattle.evaluation.proofs.values.fill.Tie as tie
 use Rattle.evaluation.specs.Filling.{Fills, FrameValues, frameMakes}
-use Rattle.evaluation.specs.Gadgets.{Small, FrameReady}
+use Rattle.evaluation.specs.Gadgets.{FrameReady}
 use Rattle.evaluation.specs.Evaluating.{Supplied}
 use Rattle.evaluation.proofs.Evaluating.{FilledTo, filled-start, frame-taken, no-refusal, all-filled, second-word}
 

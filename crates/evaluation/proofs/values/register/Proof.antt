@@ -1,15 +1,12 @@
 -- `evaluation::values::register` meets its contract.
+use mathlib.Core.Path.{sym, ap, _∙_}
+use Prim.Native.Nat.{_-_}
+use native.Mathlib.Omega.{arith}
 use borrow.Author.Needs.{needs}
+use Rattle.circuit.specs.Lists.{nth}
+use Rattle.netlist.specs.Values.{byte}
 use Rattle.evaluation.proofs.values.register.Statement.{statement}
 use Rattle.evaluation.proofs.values.register.Tie as tie
-use mathlib.Core.Path.{_≡_, refl, sym, ap, ap₂, subst, _∙_}
-use Prim.Native.Nat.{ℕ, _+_, _-_, _*_, _≤_, _<_}
-use native.Mathlib.Omega.{arith}
-use lib.ListN.{length, set, length-set}
-use Rattle.circuit.specs.Lists.{_⊕_, nth, range}
-use Rattle.evaluation.proofs.Bits.{set-byte, byte-and, byte-xor, byte-not}
-use Rattle.netlist.specs.Values.{byte}
-use lib.Bits.{bitXor}
 use Rattle.evaluation.proofs.Filled.{fills-one}
 
 slice-read-values : tie.Need-slice-read-values

@@ -1,17 +1,15 @@
 -- `evaluation::values::write_frame` meets its contract.
-use borrow.Author.Needs.{needs}
-use Rattle.evaluation.proofs.values.write_frame.Statement.{statement}
-use Rattle.evaluation.proofs.values.write_frame.Tie as tie
-use mathlib.Core.Path.{_≡_, refl, sym, ap, ap₂, subst, _∙_}
-use Prim.Native.Nat.{ℕ, _+_, _-_, _*_, _≤_, _<_}
+use mathlib.Core.Path.{refl, sym, ap, subst, _∙_}
+use Prim.Native.Nat.{_+_, _-_, _≤_}
 use native.Mathlib.Omega.{arith}
-use lib.ListN.{length, set, length-set}
-use Rattle.circuit.specs.Kinds.{pairs}
-use Rattle.evaluation.specs.Places.{wordA, wordB, rowStart, pairSite, slotOf, cellRow, pairAt, ownAt, cellAt, outAt, maskAt, sumAt, heldAt}
-use Rattle.evaluation.specs.Filling.{Fills, FrameValues, frameMakes}
-use Rattle.evaluation.specs.Gadgets.{FrameReady}
+use lib.ListN.{length}
+use borrow.Author.Needs.{needs}
 use Rattle.checker.specs.declared.walk.Frame.{Frame as FrameCode}
 use Rattle.checker.specs.declared.walk.Frame.the-variants as frame
+use Rattle.evaluation.proofs.values.write_frame.Statement.{statement}
+use Rattle.evaluation.proofs.values.write_frame.Tie as tie
+use Rattle.evaluation.specs.Filling.{Fills, FrameValues, frameMakes}
+use Rattle.evaluation.specs.Gadgets.{FrameReady}
 use Rattle.evaluation.proofs.Filled.{fills-none, fills-at}
 
 enum-known-frame : tie.Need-enum-known-frame

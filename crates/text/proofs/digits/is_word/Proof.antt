@@ -1,5 +1,5 @@
 -- `text::digits::is_word` meets its contract: the codes of four digits are small together.
-use Prim.Native.Nat.{ℕ, _+_, _≤_}
+use Prim.Native.Nat.{_≤_}
 use native.Mathlib.Omega.{arith}
 use borrow.Author.Needs.{needs}
 use Rattle.text.proofs.Hex.{code-small, sum-of-codes}

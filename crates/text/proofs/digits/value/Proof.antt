@@ -1,7 +1,7 @@
 -- `text::digits::value` meets its contract: the four bytes at the place, each by its code.
 use native.Mathlib.Omega.{arith}
-use denote.Ref.{now}
 use borrow.Author.Needs.{needs}
+use denote.Ref.{now}
 use Rattle.text.specs.Scan.{valueOf}
 use Rattle.text.proofs.Hex.{value-at}
 use Rattle.text.proofs.digits.value.Statement.{statement}

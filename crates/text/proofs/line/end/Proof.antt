@@ -1,12 +1,12 @@
 -- `text::line::end` meets its contract. The loop's invariant: the count of words is that from here on, behind those passed; the measure is what is left of the text.
-use mathlib.Core.Path.{_≡_, refl, ap, _∙_}
+use mathlib.Core.Path.{_≡_, ap, _∙_}
 use mathlib.Core.Bool.{cond}
 use Prim.Native.Nat.{ℕ, _+_, _*_, _-_, _/_, _≤_}
 use native.Mathlib.Omega.{arith}
 use lib.Dec.{eqb}
 use lib.ListN.{length, drop, getD}
-use denote.Ref.{now}
 use borrow.Author.Tests.{eq-eqb, ne-eqb, not-true, not-false}
+use denote.Ref.{now}
 use Rattle.text.specs.Lines.{lineFeed, space}
 use Rattle.text.specs.Scan.{countFrom}
 use Rattle.text.proofs.line.end.Tie as tie

@@ -4,8 +4,8 @@ use Prim.Native.Nat.{ℕ, _+_, _*_, _-_, _/_}
 use native.Mathlib.Omega.{arith}
 use lib.ListN.{set, length, drop, length-set}
 use lib.Seq.{sets}
-use denote.Ref.{now}
 use borrow.Author.Needs.{needs}
+use denote.Ref.{now}
 use Rattle.text.specs.Scan.{wordsAt}
 use Rattle.text.proofs.line.store.Tie as tie
 use Rattle.text.proofs.Scanning.{store-turn}

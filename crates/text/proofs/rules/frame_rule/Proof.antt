@@ -3,11 +3,11 @@ use mathlib.Core.Path.{_≡_, sym, ap, subst, _∙_}
 use Prim.Native.Nat.{ℕ, suc, _+_, _*_, _≤_, _<_}
 use native.Mathlib.Omega.{arith}
 use lib.ListN.{drop, length-drop}
-use denote.Ref.{now}
 use borrow.Author.Tests.{eq-eqb, ne-eqb, lt-ltb, le-leb, lt-leb}
 use borrow.Author.Needs.{needs}
-use Rattle.checker.specs.declared.kinds.Shape.{Shape}
+use denote.Ref.{now}
 use Rattle.circuit.specs.Kinds.{words, kindOf}
+use Rattle.checker.specs.declared.kinds.Shape.{Shape}
 use Rattle.text.specs.Reader.{roomRule}
 use Rattle.text.specs.Scan.{countFrom, ruled}
 use Rattle.text.proofs.rules.frame_rule.Tie as tie

@@ -3,9 +3,9 @@ use mathlib.Core.Path.{_≡_, sym, _∙_}
 use Prim.Native.Nat.{ℕ, _*_, _≤_, _<_}
 use native.Mathlib.Omega.{arith}
 use lib.ListN.{length}
-use denote.Ref.{now}
 use borrow.Author.Tests.{ne-eqb, lt-ltb, le-leb, lt-leb}
 use borrow.Author.Needs.{needs}
+use denote.Ref.{now}
 use Rattle.text.specs.Reader.{roomRule}
 use Rattle.text.specs.Scan.{countFrom, behindLine, ruled}
 use Rattle.text.proofs.rules.head_rule.Tie as tie
