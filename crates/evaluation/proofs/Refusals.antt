@@ -1,15 +1,16 @@
 -- Rules 18 and 19, byte by byte and probe by probe.
-use mathlib.Core.Path.{_≡_, ap, _∙_}
-use mathlib.Core.List.{List, _∷_}
+use mathlib.Core.Path.{_≡_, refl, sym, ap, _∙_}
+use mathlib.Core.Bool.{cond}
+use mathlib.Core.List.{List, [], _∷_}
 use Prim.Native.Nat.{ℕ, suc, _+_, _≤_, _<_}
 use native.Mathlib.Omega.{arith}
 use lib.ListN.{length, drop, drop-of-length-le}
 use borrow.Author.Tests.{lt-ltb, le-ltb, le-leb, lt-leb}
 use Rattle.circuit.specs.Lists.{nth}
 use Rattle.circuit.specs.Circuit.{Circuit, size}
-use Rattle.circuit.specs.Rules.{Judgement}
+use Rattle.circuit.specs.Rules.{Judgement, pass, refuse}
 use Rattle.netlist.specs.Calls.{bytesRule, probesRule}
-use Rattle.evaluation.specs.Refusing.{refusal}
+use Rattle.evaluation.specs.Refusing.{refusal, OverFirst}
 use Rattle.evaluation.proofs.Marking.{drop-turn}
 
 -- a rule of lists that goes on behind a place
@@ -48,3 +49,12 @@ module _ (k : Circuit) where
   pub probe-end : (xs : List ℕ) (i : ℕ) → Passed (probesRule k) xs i → length xs ≤ i → (n : ℕ) → probesRule k n xs ≡ refusal 19 n xs i
   unfolding probesRule
   probe-end xs i h l n = h n ∙ ap (probesRule k (n + i)) (drop-of-length-le xs l) ∙ rw (le-ltb i (length xs) l)
+
+-- bytes none of which is over 1 pass
+all-pass : (bytes : List ℕ) (i : ℕ) → ((x : ℕ) → x < length bytes → nth bytes x ≤ 1) → bytesRule i bytes ≡ pass
+unfolding bytesRule
+all-pass [] i h = refl
+all-pass (b ∷ bs) i h = rw (le-leb b 1 (h 0 (omega arith))) (all-pass bs (suc i) (λ x l. h (suc x) (omega arith)))
+
+pub over-none : (bytes : List ℕ) → ((x : ℕ) → x < length bytes → nth bytes x ≤ 1) → OverFirst bytes (length bytes)
+over-none bytes h = record { is = λ i. all-pass bytes i h ∙ sym (ap (λ b. cond b (refuse 18 0 (i + length bytes)) pass) (le-ltb (length bytes) (length bytes) (omega arith))) }

@@ -91,10 +91,6 @@ FrameEarly (frame.Gate g) d first ops = GateEarly g first
 FrameEarly frame.And d first ops = (length ops ≡ 1 + d + d) × Early first d (wordA ops) × Early first d (wordB d ops)
 FrameEarly frame.Ref d first ops = (1 + d ≤ length ops) × Early first d (wordA ops)
 
--- no mark is over a byte
-pub record Most (marks : List ℕ) (from count r : ℕ) : Type 0 where
-  pub is : (x : ℕ) → from ≤ x → x < from + count → nth marks x ≤ r
-
 -- the bytes of the reading sheet from wire x on
 abbrev pub shownAt : (mark value : ℕ) → ℕ
 shownAt mark value = cond (ltb mark 1) 2 value

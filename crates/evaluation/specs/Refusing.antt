@@ -1,10 +1,11 @@
--- The first place where rules 18 and 19 are broken.
+-- The first place where rules 18 and 19 are broken, and the largest of some bytes.
 use mathlib.Core.Path.{_≡_}
 use mathlib.Core.Bool.{cond}
 use mathlib.Core.List.{List}
-use Prim.Native.Nat.{ℕ, _+_}
+use Prim.Native.Nat.{ℕ, _+_, _≤_, _<_}
 use lib.Dec.{ltb}
 use lib.ListN.{length}
+use Rattle.circuit.specs.Lists.{nth}
 use Rattle.circuit.specs.Circuit.{Circuit, size}
 use Rattle.circuit.specs.Rules.{Judgement, pass, refuse}
 use Rattle.netlist.specs.Calls.{bytesRule, probesRule}
@@ -18,3 +19,7 @@ pub record OverFirst (bytes : List ℕ) (r : ℕ) : Type 0 where
 
 pub record MissingFirst (probes : List ℕ) (wires r : ℕ) : Type 0 where
   pub is : (k : Circuit) → size k ≡ wires → (i : ℕ) → probesRule k i probes ≡ refusal 19 i probes r
+
+-- none of so many bytes is over r
+pub record Most (bytes : List ℕ) (from count r : ℕ) : Type 0 where
+  pub is : (x : ℕ) → from ≤ x → x < from + count → nth bytes x ≤ r

@@ -12,6 +12,7 @@ ghost use Rattle.secrecy.specs.Gadgets.{Computes};
 ghost use Rattle.evaluation.specs.Calling.{Judged};
 use checker::Verdict;
 
+mod bytes;
 mod gadget;
 mod places;
 mod reach;

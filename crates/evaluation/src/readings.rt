@@ -6,8 +6,9 @@ ghost use lib.Seq.{sets};
 ghost use Rattle.circuit.specs.Lists.{nth};
 ghost use Rattle.evaluation.specs.Filling.{frameMakes};
 ghost use Rattle.evaluation.specs.Gadgets.{Small, Roomy, Early};
-ghost use Rattle.evaluation.specs.Marks.{markAll, Moves, FrameGates, FrameEarly, Most, shownAt, shownFrom};
+ghost use Rattle.evaluation.specs.Marks.{markAll, Moves, FrameGates, FrameEarly, shownAt, shownFrom};
 ghost use Rattle.evaluation.specs.Walking.{Walkable, Lists, Settles, Markable};
+use super::bytes;
 use super::reach;
 use checker::walk::Frame;
 use checker::walk::Gate;
@@ -27,33 +28,12 @@ pub(crate) fn mark(marks: &mut [u8], wires: &[u16])
     }
 }
 
-// The largest mark of so many wires.
-fn largest(marks: &[u8], from: usize, count: usize) -> u8
-    requires { ⌜ from + count ≤ length (now marks) ⌝ }
-    ensures { λ r. ⌜ Most (now (marks .entry)) from count r ⌝ }
-{
-    let mut most: u8 = 0;
-    let mut i = 0;
-    while i < count {
-        most = larger(most, marks[from + i]);
-        i += 1;
-    }
-    most
-}
-
-// The larger of two bytes.
-fn larger(one: u8, other: u8) -> u8
-    ensures { λ r. ⌜ (one ≤ r) × (other ≤ r) ⌝ }
-{
-    if one < other { other } else { one }
-}
-
 // AND's wires, where one of them is marked.
 fn pass_and(marks: &mut [u8], first: usize, d: usize, ops: &[u16])
     requires { ⌜ Small first d × (first + frameMakes Frame.And d ≤ length (now marks)) × FrameEarly Frame.And d first (now ops) ⌝ }
     ensures { λ _. ⌜ Moves (FrameGates Frame.And d first (now (ops .entry))) first (first + frameMakes Frame.And d) (now (marks .entry)) (now (marks .exit)) ⌝ }
 {
-    let most = largest(marks, first, 7 * (d * (d - 1)) + 4 * d);
+    let most = bytes::largest(marks, first, 7 * (d * (d - 1)) + 4 * d);
     if most < 1 {
         return;
     }

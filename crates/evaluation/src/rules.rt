@@ -1,11 +1,16 @@
 // Rules 18 and 19, each by the first place where it is broken.
 ghost use lib.ListN.{length};
 ghost use Rattle.evaluation.specs.Refusing.{OverFirst, MissingFirst};
+use super::bytes::largest;
 
 // The first byte over 1; the length where there is none.
 pub(crate) fn first_over(bytes: &[u8]) -> usize
     ensures { λ r. ⌜ OverFirst (now (bytes .entry)) r ⌝ }
 {
+    let count = bytes.len();
+    if largest(bytes, 0, count) <= 1 {
+        return count;
+    }
     let mut i = 0;
     while i < bytes.len() {
         if 1 < bytes[i] {

@@ -1,17 +1,17 @@
--- `evaluation::readings::largest` meets its contract.
+-- `evaluation::bytes::largest` meets its contract.
 use Prim.Native.Nat.{ℕ, _+_, _-_, _≤_, _<_}
 use native.Mathlib.Omega.{arith}
 use borrow.Author.Needs.{needs}
 use Rattle.circuit.specs.Lists.{nth}
-use Rattle.evaluation.proofs.readings.largest.Statement.{statement}
-use Rattle.evaluation.proofs.readings.largest.Tie as tie
+use Rattle.evaluation.proofs.bytes.largest.Statement.{statement}
+use Rattle.evaluation.proofs.bytes.largest.Tie as tie
 use Rattle.evaluation.proofs.Highest.{highest-turn}
 
 abbrev Inv-loop : tie.InvT-loop
-Inv-loop marks from count most₀ i₀ most i = (i ≤ count) × ((x : ℕ) → from ≤ x → x < from + i → nth marks x ≤ most)
+Inv-loop bytes from count most₀ i₀ most i = (i ≤ count) × ((x : ℕ) → from ≤ x → x < from + i → nth bytes x ≤ most)
 
 abbrev μ-loop : tie.MeasureT-loop
-μ-loop marks from count most₀ i₀ most i = count - i
+μ-loop bytes from count most₀ i₀ most i = count - i
 
 loop-holds : tie.Need-loop-holds Inv-loop μ-loop
 loop-holds c = (omega arith, λ x l u. absurd (omega arith))
@@ -35,7 +35,7 @@ loop-again : tie.Need-loop-again Inv-loop μ-loop
 loop-again c =
     let a = c .before .before .before .before .before .args in
     let l = c .before .before .before .loop in
-    (omega (arith, c .before .before .before .loop .inv .0, c .before .before .loop-test .taken, c .before .before .before .before .before .pre, c .before .before .before .before .before .good .0 .0), highest-turn (a .marks .now) (a .from) (l .i) (l .most) (c .larger .result) (l .inv .1) (c .larger .ensures .0) (c .larger .ensures .1))
+    (omega (arith, c .before .before .before .loop .inv .0, c .before .before .loop-test .taken, c .before .before .before .before .before .pre, c .before .before .before .before .before .good .0 .0), highest-turn (a .bytes .now) (a .from) (l .i) (l .most) (c .larger .result) (l .inv .1) (c .larger .ensures .0) (c .larger .ensures .1))
 
 returns : tie.Need-returns Inv-loop μ-loop
 returns c = record { is = λ x l u. c .before .loop .inv .1 x l (omega (arith, c .before .loop .inv .0, c .loop-test .left, c .before .before .before .pre, c .before .before .before .good .0 .0)) }
