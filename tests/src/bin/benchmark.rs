@@ -72,18 +72,25 @@ impl Load {
         start.elapsed().as_secs_f64() * 1e6 / times as f64
     }
 
-    /// The medians of both programs, measured in turns of a third of a millisecond: a turn is short beside the swings of a
-    /// machine's clock, so that both programs meet the same ones.
-    fn medians(&mut self, call: usize, subject: &dyn Calls, rounds: usize) -> (f64, f64) {
-        let (mut ours, mut theirs) = (Vec::new(), Vec::new());
+    /// How many calls take a third of a millisecond: a turn is short beside the swings of a machine's clock.
+    fn calls_in_a_turn(&mut self, call: usize, subject: &dyn Calls) -> usize {
         let once = self.time(call, subject, 3).max(0.1);
-        let times = (300.0 / once).clamp(1.0, 5_000.0) as usize;
-        for _ in 0..rounds {
-            ours.push(self.time(call, subject, times));
-            theirs.push(self.time(call, &Tuned, times));
-        }
-        (median(ours), median(theirs))
+        (300.0 / once).clamp(1.0, 5_000.0) as usize
     }
+}
+
+/// The medians of both programs for each circuit. All circuits and both programs take turns, so that they meet the same swings.
+fn medians(loads: &mut [Load], call: usize, subject: &dyn Calls, rounds: usize) -> Vec<(f64, f64)> {
+    let times: Vec<usize> =
+        loads.iter_mut().map(|load| load.calls_in_a_turn(call, subject)).collect();
+    let mut samples = vec![(Vec::new(), Vec::new()); loads.len()];
+    for _ in 0..rounds {
+        for ((load, (ours, theirs)), &times) in loads.iter_mut().zip(&mut samples).zip(&times) {
+            ours.push(load.time(call, subject, times));
+            theirs.push(load.time(call, &Tuned, times));
+        }
+    }
+    samples.into_iter().map(|(ours, theirs)| (median(ours), median(theirs))).collect()
 }
 
 fn median(mut times: Vec<f64>) -> f64 {
@@ -121,14 +128,25 @@ fn products(d: usize, wires: usize) -> Builder {
     builder
 }
 
-fn print_line(load: &mut Load, name: &str, subject: &dyn Calls, rounds: usize) {
-    let (words, wires) = (load.builder.table.len(), load.builder.wires());
-    print!("{name:<22}{words:>6}{wires:>6} ");
-    for call in 0..4 {
-        let (ours, theirs) = load.medians(call, subject, rounds);
-        print!("{ours:>9.1}{theirs:>8.1}{:>6.2}", ours / theirs);
+/// A line for each circuit: of each call both medians and their ratio.
+fn print_lines(
+    circuits: Vec<(String, Builder)>,
+    random: &mut Random,
+    subject: &dyn Calls,
+    rounds: usize,
+) {
+    let names: Vec<String> = circuits.iter().map(|(name, _)| name.clone()).collect();
+    let mut loads: Vec<Load> =
+        circuits.into_iter().map(|(_, builder)| Load::new(random, builder)).collect();
+    let columns: Vec<_> = (0..4).map(|call| medians(&mut loads, call, subject, rounds)).collect();
+    for (i, (name, load)) in names.iter().zip(&loads).enumerate() {
+        print!("{name:<22}{:>6}{:>6} ", load.builder.table.len(), load.builder.wires());
+        for column in &columns {
+            let (ours, theirs) = column[i];
+            print!("{ours:>9.1}{theirs:>8.1}{:>6.2}", ours / theirs);
+        }
+        println!();
     }
-    println!();
 }
 
 fn main() {
@@ -145,23 +163,19 @@ fn main() {
         "wires",
         NAMES.map(|n| format!("{n:>23}")).concat()
     );
-    let largest = [
-        ("AES S-box, d 5", mask(&aes().netlist, 5).builder),
-        ("gates, d 2", gates(2, 8192)),
-        ("gates, d 8", gates(8, 8192)),
-        ("AND chain, d 2", products(2, 8192)),
-        ("AND chain, d 8", products(8, 8192)),
+    let largest = vec![
+        ("AES S-box, d 5".to_string(), mask(&aes().netlist, 5).builder),
+        ("gates, d 2".to_string(), gates(2, 8192)),
+        ("gates, d 8".to_string(), gates(8, 8192)),
+        ("AND chain, d 2".to_string(), products(2, 8192)),
+        ("AND chain, d 8".to_string(), products(8, 8192)),
     ];
-    for (name, builder) in largest {
-        print_line(&mut Load::new(random, builder), name, subject.as_ref(), rounds);
-    }
+    print_lines(largest, random, subject.as_ref(), rounds);
     println!("growth with the size");
-    for part in [512, 1024, 2048, 4096, 8192] {
-        let name = format!("gates, d 2, 1/{}", 8192 / part);
-        print_line(&mut Load::new(random, gates(2, part)), &name, subject.as_ref(), rounds);
-    }
-    for part in [512, 1024, 2048, 4096, 8192] {
-        let name = format!("AND chain, d 3, 1/{}", 8192 / part);
-        print_line(&mut Load::new(random, products(3, part)), &name, subject.as_ref(), rounds);
-    }
+    let sizes = [512, 1024, 2048, 4096, 8192];
+    let part = |size: usize| 8192 / size;
+    let rows = sizes.map(|size| (format!("gates, d 2, 1/{}", part(size)), gates(2, size)));
+    print_lines(rows.into(), random, subject.as_ref(), rounds);
+    let rows = sizes.map(|size| (format!("AND chain, d 3, 1/{}", part(size)), products(3, size)));
+    print_lines(rows.into(), random, subject.as_ref(), rounds);
 }
