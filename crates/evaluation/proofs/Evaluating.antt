@@ -32,7 +32,7 @@ use Rattle.evaluation.specs.Gadgets.{Small, FrameReady}
 use Rattle.evaluation.specs.Evaluating.{Supplied}
 use Rattle.evaluation.specs.Walking.{Between}
 use Rattle.evaluation.proofs.Filled.{known-all}
-use Rattle.evaluation.proofs.Walking.{between-start, Met, step-next, step-never, step-end}
+use Rattle.evaluation.proofs.Walking.{next-frame, next-shape, next-walk, between-start, Met, step-next, step-never, step-end}
 use Rattle.evaluation.proofs.Solving.{Early}
 use Rattle.evaluation.proofs.Framing.{inputs-more, randoms-more, makes-same, frame-ready, frame-values}
 
@@ -206,18 +206,9 @@ module _ {table : List ℕ} {room : ℕ} (a : Accepted table room) (shares tape 
     frame-taken d same fr sh wk = subst (λ (n : ℕ). stepAt table n at ≡ Next fr sh wk → Taken n old values at w from used fr sh wk) (sym same) (λ e.
         let m = step-next a at (f .between) fr sh wk e in
         let q : Next (frameCode (kindCode (m .kind)) (m .ops)) (shapeCode (a .d) (m .kind)) (behind (a .d) at (words (a .d) (m .kind))) ≡ Next fr sh wk = sym (m .step-is) ∙ e in
-        subst (λ z. Taken (a .d) old values at w from used fr sh z) (walk-is _ _ _ _ _ _ q)
-        (subst (λ z. Taken (a .d) old values at w from used fr z (behind (a .d) at (words (a .d) (m .kind)))) (shape-is _ _ _ _ _ _ q)
-        (subst (λ z. Taken (a .d) old values at w from used z (shapeCode (a .d) (m .kind)) (behind (a .d) at (words (a .d) (m .kind)))) (frame-is _ _ _ _ _ _ q) (taken m))))
-      where
-        frame-is : (a b : FrameCode) (c d : ShapeCode) (e f : Walk) → Next a c e ≡ Next b d f → a ≡ b
-        frame-is a b c d e f h = cc
-
-        shape-is : (a b : FrameCode) (c d : ShapeCode) (e f : Walk) → Next a c e ≡ Next b d f → c ≡ d
-        shape-is a b c d e f h = cc
-
-        walk-is : (a b : FrameCode) (c d : ShapeCode) (e f : Walk) → Next a c e ≡ Next b d f → e ≡ f
-        walk-is a b c d e f h = cc
+        subst (λ z. Taken (a .d) old values at w from used fr sh z) (next-walk q)
+        (subst (λ z. Taken (a .d) old values at w from used fr z (behind (a .d) at (words (a .d) (m .kind)))) (next-shape q)
+        (subst (λ z. Taken (a .d) old values at w from used z (shapeCode (a .d) (m .kind)) (behind (a .d) at (words (a .d) (m .kind)))) (next-frame q) (taken m))))
 
     pub no-refusal : (rule : ℕ) → stepAt table (a .d) at ≡ Refused rule → ⊥
     no-refusal rule e = step-never a at (f .between) rule e

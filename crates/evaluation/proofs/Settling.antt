@@ -33,8 +33,9 @@ use Rattle.evaluation.specs.Walking.{Between, Starts}
 use Rattle.evaluation.proofs.Filled.{nth-set}
 use Rattle.evaluation.proofs.Placed.{and-gates, ref-gates}
 use Rattle.evaluation.proofs.Framing.{one-gate, input-gate, makes-same}
-use Rattle.evaluation.proofs.Walking.{between-start, Met, meet, step-next, step-never, step-end}
+use Rattle.evaluation.proofs.Walking.{next-frame, next-shape, next-walk, between-start, Met, meet, step-next, step-never, step-end}
 use Rattle.evaluation.proofs.Reaching.{moving-start, moving-end}
+use Rattle.evaluation.proofs.Moved.{zero-is}
 
 -- a frame's wires are earlier ones, and its gates are these
 pub frame-early : (k : Circuit) (kind : Kind) (ops : List ℕ) → Fits k kind ops → FrameEarly (frameCode (kindCode kind) ops) (k .d) (size k) ops
@@ -88,8 +89,8 @@ module _ {table : List ℕ} {room : ℕ} (a : Accepted table room) (starts : Lis
     pub small : count < 4096
     pub next : count < length starts → ListedTo a (set starts count at) (wk .at) (count + 1)
 
-  listing : Met table (a .d) (a .fs) at (l .between) → (m : Met table (a .d) (a .fs) at (l .between)) → Listing (behind (a .d) at (words (a .d) (m .kind)))
-  listing _ m = record {
+  listing : (m : Met table (a .d) (a .fs) at (l .between)) → Listing (behind (a .d) at (words (a .d) (m .kind)))
+  listing m = record {
     same = refl;
     later = omega arith;
     ends = m .onward .most;
@@ -108,10 +109,7 @@ module _ {table : List ℕ} {room : ℕ} (a : Accepted table room) (starts : Lis
   listed-next d same fr sh wk h =
       let e = subst (λ (n : ℕ). stepAt table n at ≡ Next fr sh wk) same h in
       let m = step-next a at (l .between) fr sh wk e in
-      subst Listing (walk-is _ _ _ _ _ _ (sym (m .step-is) ∙ e)) (listing m m)
-    where
-      walk-is : (a b : FrameCode) (c d : ShapeCode) (e f : Walk) → Next a c e ≡ Next b d f → e ≡ f
-      walk-is a b c d e f h = cc
+      subst Listing (next-walk (sym (m .step-is) ∙ e)) (listing m)
 
 -- the frames from i on have handed their marks on
 module _ {table : List ℕ} {room : ℕ} (a : Accepted table room) where
@@ -149,9 +147,6 @@ module _ {table : List ℕ} {room : ℕ} (a : Accepted table room) where
   settled-end old marks w i z s probes e l =
       let none : w ≡ 0 = s .wires-are ∙ ap (λ n. size (circuit n)) (zero-is i z) in
       moving-end wires ordered probes marks (subst (Moving wires probes marks) none (s .moved probes (moving-start wires probes old e l)))
-    where
-      zero-is : (n : ℕ) → n ≤ 0 → n ≡ 0
-      zero-is n h = omega arith
 
   -- the frame before the place i + 1
   module _ (old marks : List ℕ) (w i : ℕ) (at : ℕ) (b : Between table (a .fs) at) (first : b .before ≡ take i (a .fs)) (inside : i < length (a .fs)) (s : SettledTo old marks w (i + 1)) where
@@ -216,13 +211,7 @@ module _ {table : List ℕ} {room : ℕ} (a : Accepted table room) where
     frame-handed d same fr sh wk = subst (λ (n : ℕ). stepAt table n at ≡ Next fr sh wk → Handing n fr sh) (sym same) (λ e.
         let m = step-next a at b fr sh wk e in
         let q : Next (frameCode (kindCode (m .kind)) (m .ops)) (shapeCode (a .d) (m .kind)) (behind (a .d) at (words (a .d) (m .kind))) ≡ Next fr sh wk = sym (m .step-is) ∙ e in
-        subst (Handing (a .d) fr) (shape-is _ _ _ _ _ _ q) (subst (λ z. Handing (a .d) z (shapeCode (a .d) (m .kind))) (frame-is _ _ _ _ _ _ q) (handing m)))
-      where
-        frame-is : (a b : FrameCode) (c d : ShapeCode) (e f : Walk) → Next a c e ≡ Next b d f → a ≡ b
-        frame-is a b c d e f h = cc
-
-        shape-is : (a b : FrameCode) (c d : ShapeCode) (e f : Walk) → Next a c e ≡ Next b d f → c ≡ d
-        shape-is a b c d e f h = cc
+        subst (Handing (a .d) fr) (next-shape q) (subst (λ z. Handing (a .d) z (shapeCode (a .d) (m .kind))) (next-frame q) (handing m)))
 
     -- the step always answers a frame here
     pub no-end : (d : ℕ) → d ≡ a .d → stepAt table d at ≡ End → ⊥

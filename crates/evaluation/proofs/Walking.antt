@@ -50,6 +50,16 @@ pub record Met (table : List ℕ) (d : ℕ) (fs : List Frame) (at : ℕ) (b : Be
   pub wide : 1 ≤ words d kind
   pub circuit-is : build (empty d) (onward .before) ≡ extend (build (empty d) (b .before)) ops kind
 
+-- the parts of a step's answer
+pub next-frame : {a b : FrameCode} {c d : ShapeCode} {e f : Walk} → Next a c e ≡ Next b d f → a ≡ b
+next-frame h = cc
+
+pub next-shape : {a b : FrameCode} {c d : ShapeCode} {e f : Walk} → Next a c e ≡ Next b d f → c ≡ d
+next-shape h = cc
+
+pub next-walk : {a b : FrameCode} {c d : ShapeCode} {e f : Walk} → Next a c e ≡ Next b d f → e ≡ f
+next-walk h = cc
+
 module _ {table : List ℕ} {room : ℕ} (a : Accepted table room) (at : ℕ) (b : Between table (a .fs) at) where
   abbrev k : Circuit
   k = build (empty (a .d)) (b .before)

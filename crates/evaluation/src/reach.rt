@@ -93,7 +93,7 @@ fn pass_row(marks: &mut [u8], first: usize, d: usize, i: usize, ops: &[u16], fro
     }
 }
 
-// The wires m, and the rows before them, of each share.
+// The same of every share and each other.
 fn pass_rows(marks: &mut [u8], first: usize, d: usize, ops: &[u16])
     requires { ⌜ Small first d × Roomy d first (now marks) × (length (now ops) ≡ 1 + d + d) × Early first d (wordA (now ops)) × Early first d (wordB d (now ops)) ⌝ }
     ensures { λ _. ⌜ Moves (RowsGates d first (wordA (now (ops .entry))) (wordB d (now (ops .entry)))) (first + cellRow d 0) (first + cellRow d d) (now (marks .entry)) (now (marks .exit)) ⌝ }
@@ -106,7 +106,7 @@ fn pass_rows(marks: &mut [u8], first: usize, d: usize, ops: &[u16])
     }
 }
 
-// The wires m.
+// The wires m of all shares. Their B and M are stops.
 fn pass_owns(marks: &mut [u8], first: usize, d: usize, ops: &[u16])
     requires { ⌜ Small first d × Roomy d first (now marks) × (length (now ops) ≡ 1 + d + d) × Early first d (wordA (now ops)) ⌝ }
     ensures { λ _. ⌜ Moves (OwnsGates d first (wordA (now (ops .entry))) (wordB d (now (ops .entry)))) (ownAt d first 0) (ownAt d first d) (now (marks .entry)) (now (marks .exit)) ⌝ }
