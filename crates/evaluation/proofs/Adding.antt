@@ -29,9 +29,6 @@ adds-turn e b more a r h = record {
   adds = a .adds ∙ ap (λ t. a .bit ⊕ t) r ∙ sym (xor-assoc (a .bit) b more);
 }
 
-pub adds-same : {whole : Bool} {sum : ℕ} {rest more : Bool} → Adds whole sum rest → rest ≡ more → Adds whole sum more
-adds-same a r = record { bit = a .bit; is = a .is; adds = a .adds ∙ ap (λ t. a .bit ⊕ t) r }
-
 pub adds-end : {whole : Bool} {sum : ℕ} {rest : Bool} → Adds whole sum rest → rest ≡ false → sum ≡ byte whole
 adds-end a r = a .is ∙ ap byte (sym (a .adds ∙ ap (λ t. a .bit ⊕ t) r ∙ no-flip (a .bit)))
 

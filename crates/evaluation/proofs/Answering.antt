@@ -37,9 +37,6 @@ module _ (k : Circuit) where
   answer-refuse pass rest h = absurd (clash (sym h))
   answer-refuse (refuse a b c) rest h = h
 
-  pub no-pass : {j : Judgement} {a b c : ℕ} → refused a b c ≡ answer k j → j ≡ pass → ⊥
-  no-pass h e = clash (sym (h ∙ ap (answer k) e))
-
   pub untouched : (j : Judgement) {a b c : ℕ} (new old : List ℕ) → refused a b c ≡ answer k j → old ≡ written j new old
   untouched pass new old h = absurd (clash (sym h))
   untouched (refuse a b c) new old h = refl

@@ -2,7 +2,7 @@
 use mathlib.Core.Path.{_≡_, refl, sym, ap, ap₂, subst, _∙_}
 use mathlib.Core.Bool.{Bool, true, false, not}
 use mathlib.Core.List.{List, [], _∷_, _++_, map, append-assoc}
-use Prim.Native.Nat.{ℕ, zero, suc, _+_, _*_, _-_, _≤_, _<_}
+use Prim.Native.Nat.{ℕ, zero, suc, _+_, _-_, _≤_, _<_}
 use native.Mathlib.Omega.{arith}
 use lib.Dec.{eqb, ltb}
 use lib.ListN.{length, length-append}
@@ -81,9 +81,6 @@ module _ {A : Type 0} (f : ℕ → List A) (start : ℕ → ℕ) where
   all-each Q m (suc c) h g = all-append Q (start m) (f m) (each (range (suc m) c) f) (g m (omega arith) (omega arith))
       (subst (λ (n : ℕ). AllFrom Q n (each (range (suc m) c) f)) (sym (h m (omega arith) (omega arith)))
       (all-each Q (suc m) c (λ i l u. h i (omega arith) (omega arith)) (λ i l u. g i (omega arith) (omega arith))))
-
-pub each-count : {A : Type 0} (f : ℕ → List A) (q d : ℕ) → ((i : ℕ) → i < d → length (f i) ≡ q) → length (each (labels d) f) ≡ d * q
-each-count f q d h = omega (arith, each-length f (λ i. i * q) 0 d (λ i l u. omega (arith, h i (omega arith))))
 
 pub each-on : {A : Type 0} (f g : ℕ → List A) (xs : List ℕ) → ((i : ℕ) → In i xs → f i ≡ g i) → each xs f ≡ each xs g
 each-on f g [] h = refl
