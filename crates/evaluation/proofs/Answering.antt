@@ -1,6 +1,6 @@
 -- A call's judgement, rule by rule.
 use mathlib.Core.Path.{_≡_, refl, sym, ap, ap₂, subst, _∙_}
-use mathlib.Core.Bool.{false, false≢true}
+use mathlib.Core.Bool.{false≢true}
 use mathlib.Core.List.{List, [], _∷_, _++_}
 use Prim.Native.Nat.{ℕ, zero, suc, _+_, _*_, _≤_, _<_, min}
 use native.Mathlib.Omega.{arith}
@@ -12,6 +12,9 @@ use Rattle.circuit.specs.Lists.{nth, mem}
 use Rattle.circuit.specs.Circuit.{Circuit, size, empty}
 use Rattle.circuit.specs.Rules.{Judgement, pass, refuse, need, _then_, checked}
 use Rattle.circuit.specs.Answer.{accepted, refused, answer, verdictOf}
+use Rattle.checker.specs.declared.Verdict.{Verdict}
+use Rattle.checker.specs.declared.Verdict.the-variants as verdict
+use Rattle.checker.specs.Said.{said}
 use Rattle.circuit.proofs.Base.{cases, or-cases, In}
 use Rattle.circuit.proofs.Judging.{then-pass, need-then}
 use Rattle.circuit.proofs.Building.{build-shares}
@@ -20,7 +23,7 @@ use Rattle.netlist.specs.Calls.{written, bytesRule, probesRule, sheetsRule, cir
 use Rattle.evaluation.specs.Filling.{Bits}
 use Rattle.evaluation.specs.Evaluating.{Supplied}
 use Rattle.evaluation.specs.Refusing.{refusal, OverFirst, MissingFirst}
-use Rattle.evaluation.specs.Calling.{Shortest}
+use Rattle.evaluation.specs.Calling.{Shortest, Judged}
 use Rattle.evaluation.proofs.Framing.{inputs-few}
 use Rattle.evaluation.proofs.Evaluating.{second-word}
 
@@ -202,3 +205,21 @@ unfolding probesRule
 probe-made k n [] h x l = absurd (omega arith)
 probe-made k n (p ∷ ps) h zero l = ltb-true p (size k) (need-then (ltb p (size k)) 19 0 n (probesRule k (suc n) ps) h .0)
 probe-made k n (p ∷ ps) h (suc x) l = probe-made k (suc n) ps (need-then (ltb p (size k)) 19 0 n (probesRule k (suc n) ps) h .1) x (omega arith)
+
+-- what an accepted call rests on
+pub record Passed (table notes shares tape : List ℕ) (sheets : List (List ℕ)) (probes : List ℕ) (wires : ℕ) : Type 0 where
+  pub passes : callRule table notes shares tape sheets probes ≡ pass
+  pub shows : Parts table notes shares tape sheets probes
+  pub wires-are : wires ≡ size (circuitOf table notes)
+  pub few : size (circuitOf table notes) ≤ wireLimit
+
+-- a judged call by its answer: accepted, it rests on that; refused, its sheets are as found
+module _ {table notes shares tape probes new : List ℕ} {room : ℕ} {r : Verdict} (j : Judged table notes shares tape probes room new r) (sheets : List (List ℕ)) (shortest : Shortest room sheets) where
+  pub passed : {w n l i : ℕ} → r ≡ verdict.Accepted w n l i → Passed table notes shares tape sheets probes w
+  passed e =
+      let (p, wires, _) = answer-pass (circuitOf table notes) (callRule table notes shares tape sheets probes) (sym (ap said e) ∙ j .answers sheets shortest) in
+      let q = parts table notes shares tape sheets probes p in
+      record { passes = p; shows = q; wires-are = wires; few = accepted-size (q .accepted) }
+
+  pub left : {a b c : ℕ} → r ≡ verdict.Refused a b c → (bytes sheet : List ℕ) → sheet ≡ written (callRule table notes shares tape sheets probes) bytes sheet
+  left e bytes sheet = untouched (circuitOf table notes) (callRule table notes shares tape sheets probes) bytes sheet (sym (ap said e) ∙ j .answers sheets shortest)

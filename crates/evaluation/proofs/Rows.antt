@@ -16,6 +16,7 @@ use Rattle.netlist.specs.Values.{byte, total}
 use Rattle.evaluation.specs.Places.{slotOf, cellRow, pairSite, pairAt, ownAt, cellAt}
 use Rattle.evaluation.specs.Filling.{Values, Known, Fills, crossingAt}
 use Rattle.evaluation.specs.Gadgets.{CrossedBy, Crosses, RowCrossedBy, CrossesRow}
+use Rattle.evaluation.proofs.Bounds.{eights}
 use Rattle.evaluation.proofs.Sites.{pair-lt}
 use Rattle.evaluation.proofs.Adding.{Adds, adds-start, adds-turn, adds-end, total-turn, total-end}
 use Rattle.evaluation.proofs.Filled.{known-all, fills-none, fills-next, fills-at}
@@ -70,6 +71,16 @@ row-room d first i l = more (mul-le-mul {n₁ = i + 1} {m₁ = d - 1} {n₂ = d}
   where
     more : (i + 1) * (d - 1) ≤ d * (d - 1) → (m : ℕ) → first + (m + 6 * ((i + 1) * (d - 1))) ≤ first + (m + 6 * (d * (d - 1)))
     more h m = omega arith
+
+-- the numbers of the share i of an AND
+pub record ShareOf (d first i : ℕ) : Type 0 where
+  pub few : d * (d - 1) ≤ 64
+  pub own : ownAt d first i + 2 < first + cellRow d d
+  pub next : first + cellRow d i + 6 * (d - 1) ≡ first + cellRow d (i + 1)
+  pub room : first + cellRow d (i + 1) ≤ first + cellRow d d
+
+pub share-of : (d first i : ℕ) → d ≤ 8 → i < d → ShareOf d first i
+share-of d first i few l = record { few = eights d (d - 1) few (omega arith); own = own-early d first d i l; next = row-next d first i; room = row-room d first i l }
 
 pub cell-room : (d first i j : ℕ) → i < d → j < d → (j ≡ i → ⊥) → cellAt d first i j + 6 ≤ first + cellRow d d
 cell-room d first i j l k ne = within (cellRow d i) (cellRow d (i + 1)) (cellRow d d) (slotOf i j) (slot-most d i j l k ne) (row-next d first i) (row-room d first i l)

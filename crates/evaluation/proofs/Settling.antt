@@ -75,11 +75,13 @@ pub listed-start : {table : List ℕ} {room : ℕ} (a : Accepted table room) (st
 listed-start a starts = record { between = between-start a; counted = refl; starts-are = λ i l. absurd (omega arith); spaced = omega arith }
 
 module _ {table : List ℕ} {room : ℕ} (a : Accepted table room) (starts : List ℕ) (at count : ℕ) (l : ListedTo a starts at count) where
-  pub listed-end : stepAt table (a .d) at ≡ End → (count ≡ length (a .fs)) × Starts table (a .fs) starts count
-  listed-end e = (sym (ap length (l .between .split ∙ ap (λ r. l .between .before ++ r) (step-end a at (l .between) e) ∙ append-nil (l .between .before)) ∙ l .counted), l .starts-are)
+  pub listed-end : (d : ℕ) → d ≡ a .d → stepAt table d at ≡ End → (count ≡ length (a .fs)) × Starts table (a .fs) starts count
+  listed-end d same h =
+      let e = rw same at h in
+      (sym (ap length (l .between .split ∙ ap (λ r. l .between .before ++ r) (step-end a at (l .between) e) ∙ append-nil (l .between .before)) ∙ l .counted), l .starts-are)
 
-  pub listed-never : (rule : ℕ) → stepAt table (a .d) at ≡ Refused rule → ⊥
-  listed-never rule e = step-never a at (l .between) rule e
+  pub listed-never : (d : ℕ) → d ≡ a .d → (rule : ℕ) → stepAt table d at ≡ Refused rule → ⊥
+  listed-never d same rule h = step-never a at (l .between) rule (rw same at h)
 
   -- one more place
   pub record Listing (wk : Walk) : Type 0 where

@@ -30,15 +30,6 @@ shared-slice-read-d c = omega (arith, headed (now (c .before .before .before .ar
 loop-holds : tie.Need-loop-holds Inv-loop μ-loop Inv-loop2 μ-loop2
 loop-holds c = start (now (c .before .before .before .args .table)) (now (c .before .before .before .args .notes)) (c .before .before .before .pre)
 
-step-requires : tie.Need-step-requires Inv-loop μ-loop Inv-loop2 μ-loop2
-step-requires c κs = search needs
-
-enum-known-step : tie.Need-enum-known-step Inv-loop μ-loop Inv-loop2 μ-loop2
-enum-known-step c = search needs
-
-operands-requires : tie.Need-operands-requires Inv-loop μ-loop Inv-loop2 μ-loop2
-operands-requires c κs = search needs
-
 take-requires : tie.Need-take-requires Inv-loop μ-loop Inv-loop2 μ-loop2
 take-requires c κs =
     let w = c .before .before .before .before .before .before .before .loop .inv in
@@ -48,9 +39,6 @@ take-requires c κs =
     let o = c .before .operands .ensures in
     let u = bounded w in
     ((u .room, u .wires, u .used, u .frames, u .inputs), (shares-least w, shares-few w, frame-of w (found .0) (found .1 .0) (found .1 .1 .0) e ops o))
-
-enum-known-taken : tie.Need-enum-known-taken Inv-loop μ-loop Inv-loop2 μ-loop2
-enum-known-taken c = search needs
 
 loop-less : tie.Need-loop-less Inv-loop μ-loop Inv-loop2 μ-loop2
 loop-less c =
@@ -69,9 +57,6 @@ loop-again c =
     let ops = now (c .before .before .before .before .before .before .before .operands .result) in
     let o = c .before .before .before .before .before .before .before .operands .ensures in
     turn-taken w (found .0) (found .1 .0) (found .1 .1 .0) e ops o _ (c .before .before .before .before .before .take .result) (c .before .before .before .before .before .take .ensures) _ (c .before .taken .given .1)
-
-enum-told : tie.Need-enum-told Inv-loop μ-loop Inv-loop2 μ-loop2
-enum-told c = search needs
 
 loop-less-2 : tie.Need-loop-less-2 Inv-loop μ-loop Inv-loop2 μ-loop2
 loop-less-2 c = rw (c .before .before .before .before .before .before .before .before .before .before .before .loop-test .taken) (omega arith)
@@ -94,38 +79,17 @@ loop-again-3 c = c .before .before .before .loop .inv
 loop2-holds : tie.Need-loop2-holds Inv-loop μ-loop Inv-loop2 μ-loop2
 loop2-holds c n w = w
 
-step-requires-2 : tie.Need-step-requires-2 Inv-loop μ-loop Inv-loop2 μ-loop2
-step-requires-2 c κs = search needs
-
-enum-told-2 : tie.Need-enum-told-2 Inv-loop μ-loop Inv-loop2 μ-loop2
-enum-told-2 c = search needs
-
-accepted-requires : tie.Need-accepted-requires Inv-loop μ-loop Inv-loop2 μ-loop2
-accepted-requires c κs = search needs
-
 same-length : tie.Need-same-length Inv-loop μ-loop Inv-loop2 μ-loop2
 same-length c = kept (c .before .before .before .before .loop2 .inv (now (c .before .before .before .before .before .before .before .before .before .before .args .notes)) (c .before .before .before .before .before .before .loop .inv))
 
 returns : tie.Need-returns Inv-loop μ-loop Inv-loop2 μ-loop2
 returns c = rw (c .accepted .ensures) (way-end (c .before .before .before .before .loop2 .inv (now (c .before .before .before .before .before .before .before .before .before .before .args .notes)) (c .before .before .before .before .before .before .loop .inv)) (sym (c .before .enum-told2 .given .1) ∙ c .before .before .before .step3 .ensures))
 
-enum-known-step-2 : tie.Need-enum-known-step-2 Inv-loop μ-loop Inv-loop2 μ-loop2
-enum-known-step-2 c = search needs
-
-refused-requires : tie.Need-refused-requires Inv-loop μ-loop Inv-loop2 μ-loop2
-refused-requires c κs = search needs
-
 same-length-2 : tie.Need-same-length-2 Inv-loop μ-loop Inv-loop2 μ-loop2
 same-length-2 c = kept (c .before .before .before .before .before .loop2 .inv (now (c .before .before .before .before .before .before .before .before .before .before .before .args .notes)) (c .before .before .before .before .before .before .before .loop .inv))
 
 returns-2 : tie.Need-returns-2 Inv-loop μ-loop Inv-loop2 μ-loop2
 returns-2 c = rw (c .refused .ensures) (way-refused (c .before .before .before .before .before .loop2 .inv (now (c .before .before .before .before .before .before .before .before .before .before .before .args .notes)) (c .before .before .before .before .before .before .before .loop .inv)) _ (sym (c .before .before .step4 .given .1) ∙ c .before .before .before .before .step3 .ensures))
-
-enum-known-step-3 : tie.Need-enum-known-step-3 Inv-loop μ-loop Inv-loop2 μ-loop2
-enum-known-step-3 c = search needs
-
-operands-requires-2 : tie.Need-operands-requires-2 Inv-loop μ-loop Inv-loop2 μ-loop2
-operands-requires-2 c κs = search needs
 
 add-requires : tie.Need-add-requires Inv-loop μ-loop Inv-loop2 μ-loop2
 add-requires c κs =
@@ -136,12 +100,6 @@ add-requires c κs =
     let o = c .before .operands2 .ensures in
     let u = bounded w in
     ((u .room, u .wires, u .used, u .frames, u .inputs), (shares-few w, frame-of w (found .0) (found .1 .0) (found .1 .1 .0) e ops o))
-
-enum-known-added : tie.Need-enum-known-added Inv-loop μ-loop Inv-loop2 μ-loop2
-enum-known-added c = search needs
-
-refused-requires-2 : tie.Need-refused-requires-2 Inv-loop μ-loop Inv-loop2 μ-loop2
-refused-requires-2 c κs = search needs
 
 same-length-3 : tie.Need-same-length-3 Inv-loop μ-loop Inv-loop2 μ-loop2
 same-length-3 c =
@@ -160,9 +118,6 @@ returns-3 c =
     let ops = now (c .before .before .before .before .before .before .before .before .operands2 .result) in
     let o = c .before .before .before .before .before .before .before .before .operands2 .ensures in
     rw (c .refused2 .ensures) (way-broken w (found .0) (found .1 .0) (found .1 .1 .0) e ops o _ (c .before .before .before .before .before .before .add .result) (c .before .before .before .before .before .before .add .ensures) _ _ (c .before .before .added .given .1))
-
-enum-known-added-2 : tie.Need-enum-known-added-2 Inv-loop μ-loop Inv-loop2 μ-loop2
-enum-known-added-2 c = search needs
 
 loop2-less : tie.Need-loop2-less Inv-loop μ-loop Inv-loop2 μ-loop2
 loop2-less c =
@@ -192,35 +147,35 @@ check-frames-spec =
     μ-loop2
     shared-slice-read-d
     loop-holds
-    step-requires
-    enum-known-step
-    operands-requires
+    (λ c κs. search needs)
+    (λ c. search needs)
+    (λ c κs. search needs)
     take-requires
-    enum-known-taken
+    (λ c. search needs)
     loop-less
     loop-again
-    enum-told
+    (λ c. search needs)
     loop-less-2
     loop-again-2
     loop-less-3
     loop-again-3
     loop2-holds
-    step-requires-2
-    enum-told-2
-    accepted-requires
+    (λ c κs. search needs)
+    (λ c. search needs)
+    (λ c κs. search needs)
     same-length
     returns
-    enum-known-step-2
-    refused-requires
+    (λ c. search needs)
+    (λ c κs. search needs)
     same-length-2
     returns-2
-    enum-known-step-3
-    operands-requires-2
+    (λ c. search needs)
+    (λ c κs. search needs)
     add-requires
-    enum-known-added
-    refused-requires-2
+    (λ c. search needs)
+    (λ c κs. search needs)
     same-length-3
     returns-3
-    enum-known-added-2
+    (λ c. search needs)
     loop2-less
     loop2-again)

@@ -14,18 +14,6 @@ use Rattle.evaluation.proofs.judge.Tie as tie
 use Rattle.evaluation.specs.Refusing.{MissingFirst}
 use Rattle.evaluation.proofs.Answering.{answer-pass, refused-first, headed, order-is, shares-few, rule15, rule16, rule17, rule18-shares, rule18-tape, rule19, all-pass}
 
-check-requires : tie.Need-check-requires
-check-requires c κs = search needs
-
-enum-known-verdict : tie.Need-enum-known-verdict
-enum-known-verdict c = search needs
-
-enum-told : tie.Need-enum-told
-enum-told c = search needs
-
-same-length : tie.Need-same-length
-same-length c = search needs
-
 returns : tie.Need-returns
 returns c =
     let a = c .before .before .before .before .before .before .before .before .before .before .before .args in
@@ -61,12 +49,6 @@ mul-if1 c =
     let asked : v .0 .1 .1 .1 .0 * nth table 1 ≡ k .inputs * k .d = ap₂ (λ x y. x * y) inputs (order-is table N p) in
     record { fits = omega (arith, asked, shares-few table N p) }
 
-refusal-requires : tie.Need-refusal-requires
-refusal-requires c κs = search needs
-
-same-length-2 : tie.Need-same-length-2
-same-length-2 c = search needs
-
 returns-2 : tie.Need-returns-2
 returns-2 c =
     let a = c .before .before .before .before .before .before .before .before .before .before .before .before .before .before .before .args in
@@ -79,12 +61,6 @@ returns-2 c =
     let inputs : v .0 .1 .1 .1 .0 ≡ k .inputs = subst (λ (r : Verdict). inputsAre r (k .inputs)) (v .1) (c .before .before .before .before .before .before .before .before .check .ensures .1 .1) in
     let asked : v .0 .1 .1 .1 .0 * nth table 1 ≡ k .inputs * k .d = ap₂ (λ x y. x * y) inputs (order-is table N p) in
     record { answers = λ sheets h. c .refusal .ensures ∙ sym (ap (answer k) (rule15 table (a .notes .now) (a .shares .now) (a .tape .now) sheets (a .probes .now) p (λ e. c .before .if1 .taken (e ∙ sym asked)))); noted = c .before .before .before .before .before .before .before .before .check .ensures .1 .0 }
-
-refusal-requires-2 : tie.Need-refusal-requires-2
-refusal-requires-2 c κs = search needs
-
-same-length-3 : tie.Need-same-length-3
-same-length-3 c = search needs
 
 returns-3 : tie.Need-returns-3
 returns-3 c =
@@ -99,12 +75,6 @@ returns-3 c =
     let asked : v .0 .1 .1 .1 .0 * nth table 1 ≡ k .inputs * k .d = ap₂ (λ x y. x * y) inputs (order-is table N p) in
     let fifteen = c .before .before .if1 .left ∙ asked in
     record { answers = λ sheets h. c .refusal2 .ensures ∙ sym (ap (answer k) (rule16 table (a .notes .now) (a .shares .now) (a .tape .now) sheets (a .probes .now) p fifteen (λ e. c .before .if2 .taken (e ∙ sym randoms)))); noted = c .before .before .before .before .before .before .before .before .before .check .ensures .1 .0 }
-
-refusal-requires-3 : tie.Need-refusal-requires-3
-refusal-requires-3 c κs = search needs
-
-same-length-4 : tie.Need-same-length-4
-same-length-4 c = search needs
 
 returns-4 : tie.Need-returns-4
 returns-4 c =
@@ -121,15 +91,6 @@ returns-4 c =
     let sixteen = c .before .before .if2 .left ∙ randoms in
     record { answers = λ sheets h. c .refusal3 .ensures ∙ sym (ap (answer k) (rule17 table (a .notes .now) (a .shares .now) (a .tape .now) sheets (a .probes .now) p fifteen sixteen (a .room) h (c .before .if3 .taken))); noted = c .before .before .before .before .before .before .before .before .before .before .check .ensures .1 .0 }
 
-first-over-requires : tie.Need-first-over-requires
-first-over-requires c κs = search needs
-
-refusal-requires-4 : tie.Need-refusal-requires-4
-refusal-requires-4 c κs = search needs
-
-same-length-5 : tie.Need-same-length-5
-same-length-5 c = search needs
-
 returns-5 : tie.Need-returns-5
 returns-5 c =
     let a = c .before .before .before .before .before .before .before .before .before .before .before .before .before .before .before .before .before .before .before .args in
@@ -145,17 +106,8 @@ returns-5 c =
     let sixteen = c .before .before .before .before .if2 .left ∙ randoms in
     record { answers = λ sheets h. c .refusal4 .ensures ∙ sym (ap (answer k) (rule18-shares table (a .notes .now) (a .shares .now) (a .tape .now) sheets (a .probes .now) p fifteen sixteen (a .room) h (c .before .before .before .if3 .left) (c .before .before .first-over .result) (c .before .before .first-over .ensures) (c .before .if4 .taken))); noted = c .before .before .before .before .before .before .before .before .before .before .before .before .check .ensures .1 .0 }
 
-first-over-requires-2 : tie.Need-first-over-requires-2
-first-over-requires-2 c κs = search needs
-
 add-refusal : tie.Need-add-refusal
-add-refusal c = record { fits = omega (arith, c .before .before .before .before .before .before .before .before .before .before .before .before .before .before .before .before .before .before .before .before .good .1 .1 .0 .1, c .before .before .before .before .before .before .before .before .before .before .before .before .before .before .before .before .before .before .before .before .good .1 .1 .1 .0 .1) }
-
-refusal-requires-5 : tie.Need-refusal-requires-5
-refusal-requires-5 c κs = search needs
-
-same-length-6 : tie.Need-same-length-6
-same-length-6 c = search needs
+add-refusal c = record { fits = omega arith }
 
 returns-6 : tie.Need-returns-6
 returns-6 c =
@@ -172,15 +124,6 @@ returns-6 c =
     let sixteen = c .before .before .before .before .before .before .if2 .left ∙ randoms in
     record { answers = λ sheets h. c .refusal5 .ensures ∙ sym (ap (answer k) (rule18-tape table (a .notes .now) (a .shares .now) (a .tape .now) sheets (a .probes .now) p fifteen sixteen (a .room) h (c .before .before .before .before .before .if3 .left) (c .before .before .before .before .first-over .result) (c .before .before .before .before .first-over .ensures) (c .before .before .before .if4 .left) (c .before .before .first-over2 .result) (c .before .before .first-over2 .ensures) (c .before .if5 .taken))); noted = c .before .before .before .before .before .before .before .before .before .before .before .before .before .before .check .ensures .1 .0 }
 
-first-missing-requires : tie.Need-first-missing-requires
-first-missing-requires c κs = search needs
-
-refusal-requires-6 : tie.Need-refusal-requires-6
-refusal-requires-6 c κs = search needs
-
-same-length-7 : tie.Need-same-length-7
-same-length-7 c = search needs
-
 returns-7 : tie.Need-returns-7
 returns-7 c =
     let a = c .before .before .before .before .before .before .before .before .before .before .before .before .before .before .before .before .before .before .before .before .before .before .before .args in
@@ -195,9 +138,6 @@ returns-7 c =
     let fifteen = c .before .before .before .before .before .before .before .before .before .if1 .left ∙ asked in
     let sixteen = c .before .before .before .before .before .before .before .before .if2 .left ∙ randoms in
     record { answers = λ sheets h. c .refusal6 .ensures ∙ sym (ap (answer k) (rule19 table (a .notes .now) (a .shares .now) (a .tape .now) sheets (a .probes .now) p fifteen sixteen (a .room) h (c .before .before .before .before .before .before .before .if3 .left) (c .before .before .before .before .before .before .first-over .result) (c .before .before .before .before .before .before .first-over .ensures) (c .before .before .before .before .before .if4 .left) (c .before .before .before .before .first-over2 .result) (c .before .before .before .before .first-over2 .ensures) (c .before .before .before .if5 .left) (c .before .before .first-missing .result) (subst (λ (n : ℕ). MissingFirst (a .probes .now) n (c .before .before .first-missing .result)) wires (c .before .before .first-missing .ensures)) (c .before .if6 .taken))); noted = c .before .before .before .before .before .before .before .before .before .before .before .before .before .before .before .before .check .ensures .1 .0 }
-
-same-length-8 : tie.Need-same-length-8
-same-length-8 c = search needs
 
 returns-8 : tie.Need-returns-8
 returns-8 c =
@@ -218,35 +158,35 @@ pub judge-spec : {M : Type 1} → statement M
 judge-spec =
     tie.close
     (tie.spec
-    check-requires
-    enum-known-verdict
-    enum-told
-    same-length
+    (λ c κs. search needs)
+    (λ c. search needs)
+    (λ c. search needs)
+    (λ c. search needs)
     returns
     shared-slice-read-if1
     cast-if1
     mul-if1
-    refusal-requires
-    same-length-2
+    (λ c κs. search needs)
+    (λ c. search needs)
     returns-2
-    refusal-requires-2
-    same-length-3
+    (λ c κs. search needs)
+    (λ c. search needs)
     returns-3
-    refusal-requires-3
-    same-length-4
+    (λ c κs. search needs)
+    (λ c. search needs)
     returns-4
-    first-over-requires
-    refusal-requires-4
-    same-length-5
+    (λ c κs. search needs)
+    (λ c κs. search needs)
+    (λ c. search needs)
     returns-5
-    first-over-requires-2
+    (λ c κs. search needs)
     add-refusal
-    refusal-requires-5
-    same-length-6
+    (λ c κs. search needs)
+    (λ c. search needs)
     returns-6
-    first-missing-requires
-    refusal-requires-6
-    same-length-7
+    (λ c κs. search needs)
+    (λ c κs. search needs)
+    (λ c. search needs)
     returns-7
-    same-length-8
+    (λ c. search needs)
     returns-8)

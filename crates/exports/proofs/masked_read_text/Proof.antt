@@ -1,7 +1,6 @@
 use Rattle.exports.proofs.Telling.{text-moved, accepted-told, refused-told}
-use Rattle.exports.specs.Numbers.{TextTold}
 use Rattle.text.specs.Answer.{said}
-use mathlib.Core.Path.{refl, sym, ap, subst, _∙_}
+use mathlib.Core.Path.{sym, ap, _∙_}
 use borrow.Author.Needs.{needs}
 use Rattle.exports.proofs.masked_read_text.Statement.{statement}
 use Rattle.exports.proofs.masked_read_text.Tie as tie
@@ -10,29 +9,14 @@ use Rattle.exports.proofs.masked_read_text.Lts as lts
 use Rattle.text.proofs.read.Reads as read-reads
 
 -- src/lib.rt:69:9
-read-requires : tie.Need-read-requires
-read-requires c κs = search needs
-
 -- src/lib.rt:71:33
-enum-known-verdict : tie.Need-enum-known-verdict
-enum-known-verdict c = search needs
-
 -- src/lib.rt:76:32
-enum-known-verdict-2 : tie.Need-enum-known-verdict-2
-enum-known-verdict-2 c = search needs
-
 -- src/lib.rt:62:1
-same-length : tie.Need-same-length
-same-length c = search needs
-
 -- src/lib.rt:62:1
 returns : tie.Need-returns
 returns c = (text-moved (sym (ap said (c .before .verdict .given .1)) ∙ c .before .before .before .before .before .read .ensures .0) (accepted-told (c .before .verdict .given .0 .0)), c .before .before .before .before .before .read .ensures .1)
 
 -- src/lib.rt:62:1
-same-length-2 : tie.Need-same-length-2
-same-length-2 c = search needs
-
 -- src/lib.rt:62:1
 returns-2 : tie.Need-returns-2
 returns-2 c = (text-moved (sym (ap said (c .before .verdict2 .given .1)) ∙ c .before .before .before .before .before .read .ensures .0) (refused-told (c .before .verdict2 .given .0 .0) (c .before .verdict2 .given .0 .1 .0) (c .before .verdict2 .given .0 .1 .1 .0)), c .before .before .before .before .before .read .ensures .1)
@@ -41,10 +25,10 @@ pub masked-read-text-spec : {M : Type 1} → statement M
 masked-read-text-spec =
     tie.close
     (tie.spec
-    read-requires
-    enum-known-verdict
-    enum-known-verdict-2
-    same-length
+    (λ c κs. search needs)
+    (λ c. search needs)
+    (λ c. search needs)
+    (λ c. search needs)
     returns
-    same-length-2
+    (λ c. search needs)
     returns-2)

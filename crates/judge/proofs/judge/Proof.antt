@@ -20,35 +20,14 @@ found c =
     let e = rw (c .before .read2 .given .1) at (c .before .before .before .before .before .read .ensures .0) in
     counted (now (k .text)) (length (now (k .table))) (count c) (now (k .table)) _ e (c .before .before .before .before .before .read .ensures .1)
 
-read-requires : tie.Need-read-requires
-read-requires c κs = search needs
-
-enum-known-read : tie.Need-enum-known-read
-enum-known-read c = search needs
-
 slice-reshare-prefix-check : tie.Need-slice-reshare-prefix-check
 slice-reshare-prefix-check c = found c .inside
 
 slice-aggregate-check : tie.Need-slice-aggregate-check
 slice-aggregate-check c = sym (length-take-le (count (c .before)) _ (found (c .before) .inside))
 
-check-requires : tie.Need-check-requires
-check-requires c κs = search needs
-
-enum-known-read-2 : tie.Need-enum-known-read-2
-enum-known-read-2 c = search needs
-
-same-length : tie.Need-same-length
-same-length c = search needs
-
-same-length-2 : tie.Need-same-length-2
-same-length-2 c = search needs
-
 returns : tie.Need-returns
 returns c = c .before .before .check .ensures .0 ∙ found (c .before .before .before .before .before) .asked _
-
-same-length-3 : tie.Need-same-length-3
-same-length-3 c = search needs
 
 returns-2 : tie.Need-returns-2
 returns-2 c = stopped _ _ _ _ _ _ (rw (c .before .read3 .given .1) at (c .before .before .before .before .before .read .ensures .0))
@@ -57,14 +36,14 @@ pub judge-spec : {M : Type 1} → statement M
 judge-spec =
     tie.close
     (tie.spec
-    read-requires
-    enum-known-read
+    (λ c κs. search needs)
+    (λ c. search needs)
     slice-reshare-prefix-check
     slice-aggregate-check
-    check-requires
-    enum-known-read-2
-    same-length
-    same-length-2
+    (λ c κs. search needs)
+    (λ c. search needs)
+    (λ c. search needs)
+    (λ c. search needs)
     returns
-    same-length-3
+    (λ c. search needs)
     returns-2)

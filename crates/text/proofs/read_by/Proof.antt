@@ -113,24 +113,18 @@ kept c =
     let k = c .loop in
     let p = progress c in
     p .rest ∙ ap (drop (k .stored)) (begins (c .before))
-    ∙ rest-behind (text (first c)) (lent (first c)) (k .stored) (omega (arith, p .head, p .fits)) (p .head)
+    ∙ rest-behind (text (first c)) (lent (first c)) (k .stored) (omega arith) (p .head)
 
 stored-in : (c : tie.At-loop Inv-loop μ-loop) → c .loop .stored ≤ length (c .loop .table)
-stored-in c = let p = progress c in omega (arith, p .fits, p .size)
+stored-in c = let p = progress c in omega arith
 
 -- the promises where a reading ends
 closes : (c : tie.At-loop Inv-loop μ-loop) (j : Judgement) → let t = text (first c) in let room = length (lent (first c)) in
     readText t room ≡ stop (take (c .loop .stored) (c .loop .table)) j → c .loop .table ≡ tableAfter (readText t room) (lent (first c))
 closes c j e = table-after (text (first c)) (c .loop .table) (lent (first c)) (length (lent (first c))) (c .loop .stored) j e (stored-in c) (kept c)
 
-limit-requires : tie.Need-limit-requires Inv-loop μ-loop
-limit-requires c κs = search needs
-
 head-rule-requires : tie.Need-head-rule-requires Inv-loop μ-loop
 head-rule-requires c κs = (c .before .before .before .pre, rw (c .limit .ensures) (limit-most (length (now (c .before .before .before .args .table)))))
-
-head-word-requires : tie.Need-head-word-requires Inv-loop μ-loop
-head-word-requires c κs = search needs
 
 returns : tie.Need-returns Inv-loop μ-loop
 returns c =
@@ -164,7 +158,7 @@ loop-holds c =
     (subst (λ (t : List ℕ). Progress (text l) t room (order c) t 10 1 2) (sym (begins c)) p)
 
 end-requires : tie.Need-end-requires Inv-loop μ-loop
-end-requires c κs = (known (first (c .before)), omega (arith, progress (c .before) .within))
+end-requires c κs = (known (first (c .before)), omega arith)
 
 frame-rule-requires : tie.Need-frame-rule-requires Inv-loop μ-loop
 frame-rule-requires c κs =
@@ -190,19 +184,16 @@ returns-2 c =
     (rw e, closes l (refuse r (l .loop .line) 0) e)
 
 value-requires-3 : tie.Need-value-requires-3 Inv-loop μ-loop
-value-requires-3 c κs = let f = numbers c in (known (first (line-at c)), omega (arith, f .inside, f .some))
-
-mul-table : tie.Need-mul-table Inv-loop μ-loop
-mul-table c = search needs
+value-requires-3 c κs = let f = numbers c in (known (first (line-at c)), omega arith)
 
 slice-write-table-3 : tie.Need-slice-write-table-3 Inv-loop μ-loop
 slice-write-table-3 c = let p = c .before in let f = numbers p in omega (arith, f .room-left, f .some, progress (line-at p) .size)
 
 add-store : tie.Need-add-store Inv-loop μ-loop
-add-store c = let p = c .before in let f = numbers p in let g = first (line-at p) .before .before .before .before .good in record { fits = omega (arith, f .inside, f .some) }
+add-store c = let p = c .before in let f = numbers p in let g = first (line-at p) .before .before .before .before .good in record { fits = omega arith }
 
 add-store-2 : tie.Need-add-store-2 Inv-loop μ-loop
-add-store-2 c = record { fits = omega (arith, numbers (c .before .before) .limit) }
+add-store-2 c = record { fits = omega arith }
 
 store-requires : tie.Need-store-requires Inv-loop μ-loop
 store-requires c κs =
@@ -217,7 +208,7 @@ store-requires c κs =
 
 add-line : tie.Need-add-line Inv-loop μ-loop
 add-line c = let p = c .before .before .before .before .before in let f = numbers p in let i = progress (line-at p) in let g = first (line-at p) .before .before .before .before .good in
-    record { fits = omega (arith, i .lines, i .within, f .inside, f .some) }
+    record { fits = omega arith }
 
 loop-less : tie.Need-loop-less Inv-loop μ-loop
 loop-less c = let p = c .before .before .before .before .before in let f = numbers p in omega (arith, f .inside, f .some, measured p)
@@ -234,8 +225,8 @@ loop-again c =
     let stored = c .before .before .store in
     let f = numbers p in
     let z = measured p in
-    let m : (end - (k .at + 5)) / 5 ≡ n - 1 = omega (arith, f .some) in
-    let o : k .stored + n ≡ stored .result = omega (arith, f .some, stored .ensures .0, m) in
+    let m : (end - (k .at + 5)) / 5 ≡ n - 1 = omega arith in
+    let o : k .stored + n ≡ stored .result = omega arith in
     let w = stored .ensures .1
     ∙ ap (λ (x : ℕ). sets (set (k .table) (k .stored) (v .result)) (k .stored + 1) (wordsAt x (drop (k .at + 5) t))) m
     ∙ ap (λ (x : ℕ). sets (set (k .table) (k .stored) x) (k .stored + 1) (wordsAt (n - 1) (drop (k .at + 5) t))) (v .ensures)
@@ -264,9 +255,9 @@ read-by-spec =
     (tie.spec
     Inv-loop
     μ-loop
-    limit-requires
+    (λ c κs. search needs)
     head-rule-requires
-    head-word-requires
+    (λ c κs. search needs)
     returns
     value-requires
     value-requires-2
@@ -278,7 +269,7 @@ read-by-spec =
     same-length
     returns-2
     value-requires-3
-    mul-table
+    (λ c. search needs)
     slice-write-table-3
     add-store
     add-store-2

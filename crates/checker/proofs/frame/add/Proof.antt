@@ -8,23 +8,8 @@ use Rattle.checker.proofs.Adding.{frame-count, frame-uses, frame-brings
 use Rattle.checker.proofs.frame.add.Statement.{statement}
 use Rattle.checker.proofs.frame.add.Tie as tie
 
-first-broken-requires : tie.Need-first-broken-requires
-first-broken-requires c κs = search needs
-
-same-length : tie.Need-same-length
-same-length c = search needs
-
 returns : tie.Need-returns
 returns c = word-broken (c .before .before .first-broken .result) (c .before .before .first-broken .ensures) (c .if1 .taken)
-
-less-requires : tie.Need-less-requires
-less-requires c κs = search needs
-
-made-by-requires : tie.Need-made-by-requires
-made-by-requires c κs = search needs
-
-same-length-2 : tie.Need-same-length-2
-same-length-2 c = search needs
 
 returns-2 : tie.Need-returns-2
 returns-2 c =
@@ -32,12 +17,6 @@ returns-2 c =
     let m = c .before .made-by .result in
     let e = c .before .made-by .ensures .0 ∙ ap (λ n. madeFrame (c .before .before .before .before .before .before .before .before .before .before .args .frame) (c .before .before .before .before .before .before .before .before .before .before .args .d) n (noted (now (c .before .before .before .before .before .before .before .before .before .before .args .notes)) (c .before .before .before .before .before .before .before .before .before .before .args .tally .wires)) (now (c .before .before .before .before .before .before .before .before .before .before .args .ops))) (c .before .before .before .less .ensures) in
     stage-over (c .before .before .before .before .before .before .first-broken .result) (c .before .before .before .before .before .before .first-broken .ensures) none m e (c .if2 .taken)
-
-sub-if3 : tie.Need-sub-if3
-sub-if3 c = search needs
-
-same-length-3 : tie.Need-same-length-3
-same-length-3 c = search needs
 
 returns-3 : tie.Need-returns-3
 returns-3 c =
@@ -56,23 +35,11 @@ write-requires c κs =
       omega arith,
     )
 
-add-t17 : tie.Need-add-t17
-add-t17 c = search needs
-
-add-t23 : tie.Need-add-t23
-add-t23 c = search needs
-
 add-t24 : tie.Need-add-t24
 add-t24 c = record { fits = omega (arith, frame-uses (c .before .before .before .before .before .before .before .before .before .before .before .before .before .before .before .before .before .before .pre .1 .1), c .before .before .before .before .before .before .before .before .before .before .before .before .before .before .before .before .before .before .pre .0 .1, c .before .before .before .before .before .before .before .before .before .before .before .before .before .before .before .before .before .before .pre .0 .2, c .before .before .before .before .before .before .before .if3 .left) }
 
-latency-after-requires : tie.Need-latency-after-requires
-latency-after-requires c κs = search needs
-
 add-t26 : tie.Need-add-t26
 add-t26 c = record { fits = omega (arith, frame-brings (c .before .before .before .before .before .before .before .before .before .before .before .before .before .before .before .before .before .before .before .before .before .pre .1 .1), c .before .before .before .before .before .before .before .before .before .before .before .before .before .before .before .before .before .before .before .before .before .pre .0 .3, c .before .before .before .before .before .before .before .before .before .before .before .before .before .before .before .before .before .before .before .before .before .pre .0 .4) }
-
-same-length-4 : tie.Need-same-length-4
-same-length-4 c = search needs
 
 returns-4 : tie.Need-returns-4
 returns-4 c =
@@ -86,21 +53,21 @@ pub add-spec : {M : Type 1} → statement M
 add-spec =
     tie.close
     (tie.spec
-    first-broken-requires
-    same-length
+    (λ c κs. search needs)
+    (λ c. search needs)
     returns
-    less-requires
-    made-by-requires
-    same-length-2
+    (λ c κs. search needs)
+    (λ c κs. search needs)
+    (λ c. search needs)
     returns-2
-    sub-if3
-    same-length-3
+    (λ c. search needs)
+    (λ c. search needs)
     returns-3
     write-requires
-    add-t17
-    add-t23
+    (λ c. search needs)
+    (λ c. search needs)
     add-t24
-    latency-after-requires
+    (λ c κs. search needs)
     add-t26
-    same-length-4
+    (λ c. search needs)
     returns-4)

@@ -11,83 +11,41 @@ use Rattle.checker.proofs.Taking.{none-put, ops-length, grows, settled}
 use Rattle.checker.proofs.frame.take.Statement.{statement}
 use Rattle.checker.proofs.frame.take.Tie as tie
 
-enum-known-frame : tie.Need-enum-known-frame
-enum-known-frame c = search needs
-
-enum-known-gate : tie.Need-enum-known-gate
-enum-known-gate c = search needs
-
-input-requires : tie.Need-input-requires
-input-requires c κs = search needs
-
 grown-requires : tie.Need-grown-requires
 grown-requires c κs =
     let st = c .before .before .before .before .before .before .before .before .before .before .before .before in
     grows (st .pre .1 .2) (st .args .tally) (rw (c .before .before .before .before .before .before .before .before .frame .given .1, c .before .before .before .before .before .gate .given .1)) (c .before .before .input .ensures .put) (st .pre .0 .2) (st .pre .0 .3) (st .pre .0 .4)
-
-enum-known-gate-2 : tie.Need-enum-known-gate-2
-enum-known-gate-2 c = search needs
-
-constant-requires : tie.Need-constant-requires
-constant-requires c κs = search needs
 
 grown-requires-2 : tie.Need-grown-requires-2
 grown-requires-2 c κs =
     let st = c .before .before .before .before .before .before .before .before .before .before .before .before in
     grows (st .pre .1 .2) (st .args .tally) (rw (c .before .before .before .before .before .before .before .before .frame .given .1, c .before .before .before .before .before .gate2 .given .1)) (c .before .before .constant .ensures .put) (st .pre .0 .2) (st .pre .0 .3) (st .pre .0 .4)
 
-enum-known-gate-3 : tie.Need-enum-known-gate-3
-enum-known-gate-3 c = search needs
-
-xor-requires : tie.Need-xor-requires
-xor-requires c κs = search needs
-
 grown-requires-3 : tie.Need-grown-requires-3
 grown-requires-3 c κs =
     let st = c .before .before .before .before .before .before .before .before .before .before .before .before in
     grows (st .pre .1 .2) (st .args .tally) (rw (c .before .before .before .before .before .before .before .before .frame .given .1, c .before .before .before .before .before .gate3 .given .1)) (c .before .before .xor .ensures .put) (st .pre .0 .2) (st .pre .0 .3) (st .pre .0 .4)
-
-enum-known-gate-4 : tie.Need-enum-known-gate-4
-enum-known-gate-4 c = search needs
-
-copy-requires : tie.Need-copy-requires
-copy-requires c κs = search needs
 
 grown-requires-4 : tie.Need-grown-requires-4
 grown-requires-4 c κs =
     let st = c .before .before .before .before .before .before .before .before .before .before .before .before in
     grows (st .pre .1 .2) (st .args .tally) (rw (c .before .before .before .before .before .before .before .before .frame .given .1, c .before .before .before .before .before .gate4 .given .1)) (c .before .before .copy .ensures .put) (st .pre .0 .2) (st .pre .0 .3) (st .pre .0 .4)
 
-enum-known-gate-5 : tie.Need-enum-known-gate-5
-enum-known-gate-5 c = search needs
-
-copy-requires-2 : tie.Need-copy-requires-2
-copy-requires-2 c κs = search needs
-
 grown-requires-5 : tie.Need-grown-requires-5
 grown-requires-5 c κs =
     let st = c .before .before .before .before .before .before .before .before .before .before .before .before in
     grows (st .pre .1 .2) (st .args .tally) (rw (c .before .before .before .before .before .before .before .before .frame .given .1, c .before .before .before .before .before .gate5 .given .1)) (c .before .before .copy2 .ensures .put) (st .pre .0 .2) (st .pre .0 .3) (st .pre .0 .4)
-
-enum-told : tie.Need-enum-told
-enum-told c = search needs
 
 shared-slice-read-lead-stage : tie.Need-shared-slice-read-lead-stage
 shared-slice-read-lead-stage c =
     let st = c .before .before .before .before .before .before .before .before in
     omega (arith, ops-length (st .pre .1 .2) ∙ ap (λ f. wordsOf f (st .args .d)) (c .before .before .before .before .frame .given .1 ∙ ap Gate (c .before .enum-told .given .1)), st .pre .1 .0)
 
-lead-stage-requires : tie.Need-lead-stage-requires
-lead-stage-requires c κs = search needs
-
 out-requires : tie.Need-out-requires
 out-requires c κs =
     let st = c .before .before .before .before .before .before .before .before .before .before .before in
     let size = ops-length (st .pre .1 .2) ∙ ap (λ f. wordsOf f (st .args .d)) (c .before .before .before .before .before .before .before .frame .given .1 ∙ ap Gate (c .before .before .before .before .enum-told .given .1)) in
-    (search needs, omega (arith, size, st .pre .1 .1))
-
-larger-requires : tie.Need-larger-requires
-larger-requires c κs = search needs
+    (search needs, omega arith)
 
 grown-requires-6 : tie.Need-grown-requires-6
 grown-requires-6 c κs =
@@ -98,12 +56,6 @@ grown-requires-6 c κs =
     let kept = c .before .out .ensures in
     let p = none-put (c .before .before .before .lead-stage .result) (st .args .tally .wires) (now (st .args .notes)) (c .before .out .result) (λ y. kept y .0) (st .pre .0 .1) in
     grows (st .pre .1 .2) (st .args .tally) (rw (f, g, lead)) p (st .pre .0 .2) (st .pre .0 .3) (st .pre .0 .4)
-
-enum-told-2 : tie.Need-enum-told-2
-enum-told-2 c = search needs
-
-less-requires : tie.Need-less-requires
-less-requires c κs = search needs
 
 and-requires : tie.Need-and-requires
 and-requires c κs =
@@ -119,12 +71,6 @@ grown-requires-7 c κs =
     (rw (c .before .before .before .before .before .enum-told2 .given .1) (ap (λ n. rowAfter n (st .args .d) (look (nth (now (st .args .ops)) 1))) (c .before .before .before .before .less .ensures)))
     (c .before .before .and .ensures .put) (st .pre .0 .2) (st .pre .0 .3) (st .pre .0 .4)
 
-enum-told-3 : tie.Need-enum-told-3
-enum-told-3 c = search needs
-
-less-requires-2 : tie.Need-less-requires-2
-less-requires-2 c κs = search needs
-
 refresh-requires : tie.Need-refresh-requires
 refresh-requires c κs =
     let st = c .before .before .before .before .before .before in
@@ -139,18 +85,12 @@ grown-requires-8 c κs =
     (rw (c .before .before .before .before .before .enum-told3 .given .1) (ap (λ n. rowAfter n (st .args .d) (look (nth (now (st .args .ops)) 1))) (c .before .before .before .before .less2 .ensures)))
     (c .before .before .refresh .ensures .put) (st .pre .0 .2) (st .pre .0 .3) (st .pre .0 .4)
 
-same-length : tie.Need-same-length
-same-length c = search needs
-
 returns : tie.Need-returns
 returns c =
     let st = c .before .before .before .before .before .before .before .before .before .before .before .before .before in
     let f = c .before .before .before .before .before .before .before .before .before .frame .given .1 in
     let g = c .before .before .before .before .before .before .gate .given .1 in
     settled (st .pre .1 .2) (st .args .tally) (rw (f, g)) (c .before .before .before .input .ensures .put) (rw (f, g) (c .before .before .before .input .ensures .right)) (st .args .tally .latency) (rw (f, g)) (c .grown .ensures)
-
-same-length-2 : tie.Need-same-length-2
-same-length-2 c = search needs
 
 returns-2 : tie.Need-returns-2
 returns-2 c =
@@ -159,18 +99,12 @@ returns-2 c =
     let g = c .before .before .before .before .before .before .gate2 .given .1 in
     settled (st .pre .1 .2) (st .args .tally) (rw (f, g)) (c .before .before .before .constant .ensures .put) (rw (f, g) (c .before .before .before .constant .ensures .right)) (st .args .tally .latency) (rw (f, g)) (c .grown2 .ensures)
 
-same-length-3 : tie.Need-same-length-3
-same-length-3 c = search needs
-
 returns-3 : tie.Need-returns-3
 returns-3 c =
     let st = c .before .before .before .before .before .before .before .before .before .before .before .before .before in
     let f = c .before .before .before .before .before .before .before .before .before .frame .given .1 in
     let g = c .before .before .before .before .before .before .gate3 .given .1 in
     settled (st .pre .1 .2) (st .args .tally) (rw (f, g)) (c .before .before .before .xor .ensures .put) (rw (f, g) (c .before .before .before .xor .ensures .right)) (st .args .tally .latency) (rw (f, g)) (c .grown3 .ensures)
-
-same-length-4 : tie.Need-same-length-4
-same-length-4 c = search needs
 
 returns-4 : tie.Need-returns-4
 returns-4 c =
@@ -179,18 +113,12 @@ returns-4 c =
     let g = c .before .before .before .before .before .before .gate4 .given .1 in
     settled (st .pre .1 .2) (st .args .tally) (rw (f, g)) (c .before .before .before .copy .ensures .put) (rw (f, g) (c .before .before .before .copy .ensures .right)) (st .args .tally .latency) (rw (f, g)) (c .grown4 .ensures)
 
-same-length-5 : tie.Need-same-length-5
-same-length-5 c = search needs
-
 returns-5 : tie.Need-returns-5
 returns-5 c =
     let st = c .before .before .before .before .before .before .before .before .before .before .before .before .before in
     let f = c .before .before .before .before .before .before .before .before .before .frame .given .1 in
     let g = c .before .before .before .before .before .before .gate5 .given .1 in
     settled (st .pre .1 .2) (st .args .tally) (rw (f, g)) (c .before .before .before .copy2 .ensures .put) (rw (f, g) (c .before .before .before .copy2 .ensures .right)) (st .args .tally .latency) (rw (f, g)) (c .grown5 .ensures)
-
-same-length-6 : tie.Need-same-length-6
-same-length-6 c = search needs
 
 returns-6 : tie.Need-returns-6
 returns-6 c =
@@ -202,9 +130,6 @@ returns-6 c =
     let p = none-put (c .before .before .before .before .lead-stage .result) (st .args .tally .wires) (now (st .args .notes)) (c .before .before .out .result) (λ y. kept y .0) (st .pre .0 .1) in
     settled (st .pre .1 .2) (st .args .tally) (rw (f, g, lead)) p (rw (f, g, ← lead) (λ y. kept y .1)) (c .before .larger .result) (rw (f, g) (c .before .larger .ensures)) (c .grown6 .ensures)
 
-same-length-7 : tie.Need-same-length-7
-same-length-7 c = search needs
-
 returns-7 : tie.Need-returns-7
 returns-7 c =
     let st = c .before .before .before .before .before .before .before .before .before .before in
@@ -213,9 +138,6 @@ returns-7 c =
     settled (st .pre .1 .2) (st .args .tally)
     (rw f (ap (λ n. rowAfter n (st .args .d) (look (nth (now (st .args .ops)) 1))) (c .before .before .before .before .before .less .ensures)))
     (c .before .before .before .and .ensures .put) (rw f (c .before .before .before .and .ensures .right)) (st .args .tally .latency) (rw f) (c .grown7 .ensures)
-
-same-length-8 : tie.Need-same-length-8
-same-length-8 c = search needs
 
 returns-8 : tie.Need-returns-8
 returns-8 c =
@@ -230,49 +152,49 @@ pub take-spec : {M : Type 1} → statement M
 take-spec =
     tie.close
     (tie.spec
-    enum-known-frame
-    enum-known-gate
-    input-requires
+    (λ c. search needs)
+    (λ c. search needs)
+    (λ c κs. search needs)
     grown-requires
-    enum-known-gate-2
-    constant-requires
+    (λ c. search needs)
+    (λ c κs. search needs)
     grown-requires-2
-    enum-known-gate-3
-    xor-requires
+    (λ c. search needs)
+    (λ c κs. search needs)
     grown-requires-3
-    enum-known-gate-4
-    copy-requires
+    (λ c. search needs)
+    (λ c κs. search needs)
     grown-requires-4
-    enum-known-gate-5
-    copy-requires-2
+    (λ c. search needs)
+    (λ c κs. search needs)
     grown-requires-5
-    enum-told
+    (λ c. search needs)
     shared-slice-read-lead-stage
-    lead-stage-requires
+    (λ c κs. search needs)
     out-requires
-    larger-requires
+    (λ c κs. search needs)
     grown-requires-6
-    enum-told-2
-    less-requires
+    (λ c. search needs)
+    (λ c κs. search needs)
     and-requires
     grown-requires-7
-    enum-told-3
-    less-requires-2
+    (λ c. search needs)
+    (λ c κs. search needs)
     refresh-requires
     grown-requires-8
-    same-length
+    (λ c. search needs)
     returns
-    same-length-2
+    (λ c. search needs)
     returns-2
-    same-length-3
+    (λ c. search needs)
     returns-3
-    same-length-4
+    (λ c. search needs)
     returns-4
-    same-length-5
+    (λ c. search needs)
     returns-5
-    same-length-6
+    (λ c. search needs)
     returns-6
-    same-length-7
+    (λ c. search needs)
     returns-7
-    same-length-8
+    (λ c. search needs)
     returns-8)

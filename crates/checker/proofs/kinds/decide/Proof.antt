@@ -16,26 +16,11 @@ mul-ordered c = record { fits = omega (arith, square-most (c .args .d) (omega ar
 sub-ordered : tie.Need-sub-ordered
 sub-ordered c = square-least (c .args .d)
 
-add-t20 : tie.Need-add-t20
-add-t20 c = search needs
-
-add-t21 : tie.Need-add-t21
-add-t21 c = search needs
-
 mul-t22 : tie.Need-mul-t22
 mul-t22 c = record { fits = omega (arith, square-most (c .before .args .d) (omega arith)) }
 
-mul-t23 : tie.Need-mul-t23
-mul-t23 c = search needs
-
 add-t24 : tie.Need-add-t24
 add-t24 c = record { fits = omega (arith, square-most (c .before .args .d) (omega arith)) }
-
-add-t27 : tie.Need-add-t27
-add-t27 c = search needs
-
-mul-t28 : tie.Need-mul-t28
-mul-t28 c = search needs
 
 add-t29 : tie.Need-add-t29
 add-t29 c = record { fits = omega (arith, square-most (c .before .args .d) (omega arith)) }
@@ -89,13 +74,13 @@ decide-spec =
     (tie.spec
     mul-ordered
     sub-ordered
-    add-t20
-    add-t21
+    (λ c. search needs)
+    (λ c. search needs)
     mul-t22
-    mul-t23
+    (λ c. search needs)
     add-t24
-    add-t27
-    mul-t28
+    (λ c. search needs)
+    (λ c. search needs)
     add-t29
     returns
     returns-2

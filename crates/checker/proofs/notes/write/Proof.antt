@@ -9,18 +9,6 @@ use Rattle.checker.proofs.Stores.{stores-made}
 use Rattle.checker.proofs.notes.write.Statement.{statement}
 use Rattle.checker.proofs.notes.write.Tie as tie
 
-write-inner-requires : tie.Need-write-inner-requires
-write-inner-requires c κs = search needs
-
-add-write-named : tie.Need-add-write-named
-add-write-named c = search needs
-
-write-named-requires : tie.Need-write-named-requires
-write-named-requires c κs = search needs
-
-same-length : tie.Need-same-length
-same-length c = search needs
-
 returns : tie.Need-returns
 returns c =
     let from = c .before .before .before .before .before .before .before .before .before .before .args .from in
@@ -31,4 +19,4 @@ returns c =
 pub write-spec : {M : Type 1} → statement M
 write-spec =
     tie.close
-    (tie.spec write-inner-requires add-write-named write-named-requires same-length returns)
+    (tie.spec (λ c κs. search needs) (λ c. search needs) (λ c κs. search needs) (λ c. search needs) returns)

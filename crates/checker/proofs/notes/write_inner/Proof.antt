@@ -18,15 +18,6 @@ Inv-loop notes₀ from count i₀ end notes i =
 abbrev μ-loop : tie.MeasureT-loop
 μ-loop notes₀ from count i₀ end notes i = end - i
 
-mul-i : tie.Need-mul-i Inv-loop μ-loop
-mul-i c = search needs
-
-mul-end : tie.Need-mul-end Inv-loop μ-loop
-mul-end c = search needs
-
-add-end : tie.Need-add-end Inv-loop μ-loop
-add-end c = search needs
-
 loop-holds : tie.Need-loop-holds Inv-loop μ-loop
 loop-holds c =
     let n = c .args .notes .now in
@@ -34,18 +25,6 @@ loop-holds c =
     let count = c .args .count in
     let e : 2 * count ≡ 2 * from + 2 * count - 2 * from = omega arith in
     (search needs, search needs, search needs, search needs, ap (sets n (2 * from)) (inner-marks count ∙ ap marks e))
-
-mul-notes : tie.Need-mul-notes Inv-loop μ-loop
-mul-notes c = search needs
-
-slice-write-notes : tie.Need-slice-write-notes Inv-loop μ-loop
-slice-write-notes c = search needs
-
-add-i : tie.Need-add-i Inv-loop μ-loop
-add-i c = search needs
-
-loop-less : tie.Need-loop-less Inv-loop μ-loop
-loop-less c = search needs
 
 loop-again : tie.Need-loop-again Inv-loop μ-loop
 loop-again c = (
@@ -56,9 +35,6 @@ loop-again c = (
   c .before .loop .inv .4 ∙ marks-turn (c .before .loop .notes) _ (c .before .loop .i) (c .loop-test .taken),
 )
 
-same-length : tie.Need-same-length Inv-loop μ-loop
-same-length c = search needs
-
 returns : tie.Need-returns Inv-loop μ-loop
 returns c = sym (c .before .loop .inv .4 ∙ marks-end _ _ (c .before .loop .i) (c .loop-test .left))
 
@@ -68,14 +44,14 @@ write-inner-spec =
     (tie.spec
     Inv-loop
     μ-loop
-    mul-i
-    mul-end
-    add-end
+    (λ c. search needs)
+    (λ c. search needs)
+    (λ c. search needs)
     loop-holds
-    mul-notes
-    slice-write-notes
-    add-i
-    loop-less
+    (λ c. search needs)
+    (λ c. search needs)
+    (λ c. search needs)
+    (λ c. search needs)
     loop-again
-    same-length
+    (λ c. search needs)
     returns)

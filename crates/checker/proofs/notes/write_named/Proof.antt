@@ -18,44 +18,8 @@ Inv-loop notes₀ from count label stage start i₀ notes i =
 abbrev μ-loop : tie.MeasureT-loop
 μ-loop notes₀ from count label stage start i₀ notes i = count - i
 
-mul-start : tie.Need-mul-start Inv-loop μ-loop
-mul-start c = search needs
-
 loop-holds : tie.Need-loop-holds Inv-loop μ-loop
 loop-holds c = (search needs, search needs, search needs, store-start (c .args .notes .now) (c .args .from) (c .args .label) (c .args .count) (λ l k. namedWords l (c .args .stage) k))
-
-add-notes : tie.Need-add-notes Inv-loop μ-loop
-add-notes c = search needs
-
-cast-notes : tie.Need-cast-notes Inv-loop μ-loop
-cast-notes c = search needs
-
-mul-notes : tie.Need-mul-notes Inv-loop μ-loop
-mul-notes c = search needs
-
-add-notes-2 : tie.Need-add-notes-2 Inv-loop μ-loop
-add-notes-2 c = search needs
-
-mul-notes-2 : tie.Need-mul-notes-2 Inv-loop μ-loop
-mul-notes-2 c = search needs
-
-slice-write-notes : tie.Need-slice-write-notes Inv-loop μ-loop
-slice-write-notes c = search needs
-
-cast-notes-2 : tie.Need-cast-notes-2 Inv-loop μ-loop
-cast-notes-2 c = search needs
-
-mul-notes-3 : tie.Need-mul-notes-3 Inv-loop μ-loop
-mul-notes-3 c = search needs
-
-add-notes-3 : tie.Need-add-notes-3 Inv-loop μ-loop
-add-notes-3 c = search needs
-
-add-notes-4 : tie.Need-add-notes-4 Inv-loop μ-loop
-add-notes-4 c = search needs
-
-mul-notes-4 : tie.Need-mul-notes-4 Inv-loop μ-loop
-mul-notes-4 c = search needs
 
 slice-write-notes-2 : tie.Need-slice-write-notes-2 Inv-loop μ-loop
 slice-write-notes-2 c =
@@ -66,12 +30,6 @@ slice-write-notes-2 c =
     let label = c .before .before .args .label in
     let stage = c .before .before .args .stage in
     omega (arith, length-set n (2 * from + 2 * i) (label + i))
-
-add-i : tie.Need-add-i Inv-loop μ-loop
-add-i c = search needs
-
-loop-less : tie.Need-loop-less Inv-loop μ-loop
-loop-less c = search needs
 
 loop-again : tie.Need-loop-again Inv-loop μ-loop
 loop-again c =
@@ -87,9 +45,6 @@ loop-again c =
       c .before .loop .inv .3
           ∙ store-turn n from i (label + i) stage (namedWords (label + i) stage (count - i)) (namedWords (label + (i + 1)) stage (count - (i + 1))) (named-turn label stage count i (c .loop-test .taken)),
     )
-
-same-length : tie.Need-same-length Inv-loop μ-loop
-same-length c = search needs
 
 returns : tie.Need-returns Inv-loop μ-loop
 returns c =
@@ -107,22 +62,22 @@ write-named-spec =
     (tie.spec
     Inv-loop
     μ-loop
-    mul-start
+    (λ c. search needs)
     loop-holds
-    add-notes
-    cast-notes
-    mul-notes
-    add-notes-2
-    mul-notes-2
-    slice-write-notes
-    cast-notes-2
-    mul-notes-3
-    add-notes-3
-    add-notes-4
-    mul-notes-4
+    (λ c. search needs)
+    (λ c. search needs)
+    (λ c. search needs)
+    (λ c. search needs)
+    (λ c. search needs)
+    (λ c. search needs)
+    (λ c. search needs)
+    (λ c. search needs)
+    (λ c. search needs)
+    (λ c. search needs)
+    (λ c. search needs)
     slice-write-notes-2
-    add-i
-    loop-less
+    (λ c. search needs)
+    (λ c. search needs)
     loop-again
-    same-length
+    (λ c. search needs)
     returns)

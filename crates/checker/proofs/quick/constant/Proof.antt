@@ -10,14 +10,8 @@ returns c = not-taken
 returns-2 : tie.Need-returns-2
 returns-2 c = not-taken
 
-put-requires : tie.Need-put-requires
-put-requires c κs = search needs
-
-same-length : tie.Need-same-length
-same-length c = search needs
-
 returns-3 : tie.Need-returns-3
 returns-3 c = let p = c .before .before .put .ensures in record { right = λ e. (c .before .before .before .before .before .if1 .left, c .before .before .before .before .if2 .left, p .low e); put = p }
 
 pub constant-spec : {M : Type 1} → statement M
-constant-spec = tie.close (tie.spec returns returns-2 put-requires same-length returns-3)
+constant-spec = tie.close (tie.spec returns returns-2 (λ c κs. search needs) (λ c. search needs) returns-3)

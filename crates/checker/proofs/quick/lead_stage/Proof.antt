@@ -5,14 +5,8 @@ use Rattle.checker.specs.Sheet.{stageFound}
 use Rattle.checker.proofs.quick.lead_stage.Statement.{statement}
 use Rattle.checker.proofs.quick.lead_stage.Tie as tie
 
-look-up-requires : tie.Need-look-up-requires
-look-up-requires c κs = search needs
-
-stage-shown-requires : tie.Need-stage-shown-requires
-stage-shown-requires c κs = search needs
-
 returns : tie.Need-returns
 returns c = (c .stage-shown .ensures .0 ∙ ap stageFound (c .before .look-up .ensures), c .stage-shown .ensures .1)
 
 pub lead-stage-spec : {M : Type 1} → statement M
-lead-stage-spec = tie.close (tie.spec look-up-requires stage-shown-requires returns)
+lead-stage-spec = tie.close (tie.spec (λ c κs. search needs) (λ c κs. search needs) returns)

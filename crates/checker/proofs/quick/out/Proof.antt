@@ -7,11 +7,8 @@ use Rattle.checker.proofs.quick.out.Tie as tie
 returns : tie.Need-returns
 returns c = never
 
-row-right-requires : tie.Need-row-right-requires
-row-right-requires c κs = search needs
-
 returns-2 : tie.Need-returns-2
 returns-2 c e = (c .before .if1 .left, c .row-right .ensures e)
 
 pub out-spec : {M : Type 1} → statement M
-out-spec = tie.close (tie.spec returns row-right-requires returns-2)
+out-spec = tie.close (tie.spec returns (λ c κs. search needs) returns-2)

@@ -5,9 +5,6 @@ use Rattle.checker.proofs.Taking.{never′, not-put}
 use Rattle.checker.proofs.quick.put.Statement.{statement}
 use Rattle.checker.proofs.quick.put.Tie as tie
 
-sub-room : tie.Need-sub-room
-sub-room c = search needs
-
 returns : tie.Need-returns
 returns c = not-put
 
@@ -17,15 +14,9 @@ returns-2 c = not-put
 returns-3 : tie.Need-returns-3
 returns-3 c = not-put
 
-write-requires : tie.Need-write-requires
-write-requires c κs = search needs
-
-same-length : tie.Need-same-length
-same-length c = search needs
-
 returns-4 : tie.Need-returns-4
-returns-4 c = record { low = λ e. c .before .before .before .before .before .before .before .before .before .if1 .left; room = λ e. omega (arith, c .before .before .before .before .before .before .before .before .before .before .before .before .pre .0); written = λ e. c .before .before .write .ensures; untouched = never′ }
+returns-4 c = record { low = λ e. c .before .before .before .before .before .before .before .before .before .if1 .left; room = λ e. omega arith; written = λ e. c .before .before .write .ensures; untouched = never′ }
 
 pub put-spec : {M : Type 1} → statement M
 put-spec =
-    tie.close (tie.spec sub-room returns returns-2 returns-3 write-requires same-length returns-4)
+    tie.close (tie.spec (λ c. search needs) returns returns-2 returns-3 (λ c κs. search needs) (λ c. search needs) returns-4)

@@ -20,24 +20,6 @@ abbrev μ-loop : tie.MeasureT-loop
 loop-holds : tie.Need-loop-holds Inv-loop μ-loop
 loop-holds c = (search needs, λ j h. absurd (omega arith))
 
-mul-right : tie.Need-mul-right Inv-loop μ-loop
-mul-right c = search needs
-
-shared-slice-read-right : tie.Need-shared-slice-read-right Inv-loop μ-loop
-shared-slice-read-right c = search needs
-
-cast-right : tie.Need-cast-right Inv-loop μ-loop
-cast-right c = search needs
-
-right-requires : tie.Need-right-requires Inv-loop μ-loop
-right-requires c κs = search needs
-
-add-i : tie.Need-add-i Inv-loop μ-loop
-add-i c = search needs
-
-loop-less : tie.Need-loop-less Inv-loop μ-loop
-loop-less c = search needs
-
 loop-again : tie.Need-loop-again Inv-loop μ-loop
 loop-again c = (search needs, below-more _ _ (c .before .before .before .before .loop .inv .1) (c .before .right .ensures (c .if1 .taken)))
 
@@ -54,12 +36,12 @@ row-right-spec =
     Inv-loop
     μ-loop
     loop-holds
-    mul-right
-    shared-slice-read-right
-    cast-right
-    right-requires
-    add-i
-    loop-less
+    (λ c. search needs)
+    (λ c. search needs)
+    (λ c. search needs)
+    (λ c κs. search needs)
+    (λ c. search needs)
+    (λ c. search needs)
     loop-again
     returns
     returns-2)

@@ -9,38 +9,14 @@ use Rattle.checker.proofs.Taking.{not-taken, nameable, not-inner, put-t
 use Rattle.checker.proofs.quick.xor.Statement.{statement}
 use Rattle.checker.proofs.quick.xor.Tie as tie
 
-look-up-requires : tie.Need-look-up-requires
-look-up-requires c κs = search needs
-
-enum-known-found : tie.Need-enum-known-found
-enum-known-found c = search needs
-
-same-length : tie.Need-same-length
-same-length c = search needs
-
 returns : tie.Need-returns
 returns c = not-taken
-
-cast-right : tie.Need-cast-right
-cast-right c = search needs
 
 right-requires : tie.Need-right-requires
 right-requires c κs =
     let a = c .before .before .before .before .before .before .before .args in
     let e = sym (c .before .before .before .before .look-up .ensures) ∙ c .before .before .found .given .1 in
     (search needs, omega (arith, not-inner (now (a .notes)) (a .wires) (a .first) e), search needs)
-
-cast-t15 : tie.Need-cast-t15
-cast-t15 c = search needs
-
-cast-t16 : tie.Need-cast-t16
-cast-t16 c = search needs
-
-put-requires : tie.Need-put-requires
-put-requires c κs = search needs
-
-same-length-2 : tie.Need-same-length-2
-same-length-2 c = search needs
 
 returns-2 : tie.Need-returns-2
 returns-2 c =
@@ -50,9 +26,6 @@ returns-2 c =
     subst (λ f. Took (Nameable f × Right other (labelFound f) (stageFound f) 0) (likeWire f 0) (a .wires) (now (a .notes)) (c .before .before .put .last .1 .1 .0) (c .before .before .put .result)) (sym e)
     (record { right = λ y. (nameable (c .before .before .before .before .before .before .before .before .found .given .0 .0) (c .before .before .before .before .before .before .before .before .found .given .0 .1 .0), c .before .before .before .before .before .right .ensures (c .before .before .before .before .if1 .taken)); put = put-there _ _ (c .before .before .put .ensures) })
 
-same-length-3 : tie.Need-same-length-3
-same-length-3 c = search needs
-
 returns-3 : tie.Need-returns-3
 returns-3 c = not-taken
 
@@ -60,16 +33,16 @@ pub xor-spec : {M : Type 1} → statement M
 xor-spec =
     tie.close
     (tie.spec
-    look-up-requires
-    enum-known-found
-    same-length
+    (λ c κs. search needs)
+    (λ c. search needs)
+    (λ c. search needs)
     returns
-    cast-right
+    (λ c. search needs)
     right-requires
-    cast-t15
-    cast-t16
-    put-requires
-    same-length-2
+    (λ c. search needs)
+    (λ c. search needs)
+    (λ c κs. search needs)
+    (λ c. search needs)
     returns-2
-    same-length-3
+    (λ c. search needs)
     returns-3)

@@ -22,33 +22,6 @@ abbrev μ-loop : tie.MeasureT-loop
 loop-holds : tie.Need-loop-holds Inv-loop μ-loop
 loop-holds c = (search needs, reached-start (c .before .before .args .form) (c .before .before .args .d) (c .before .before .args .used) (c .before .before .args .wires) (now (c .before .before .args .ops)) (now (c .before .before .args .notes)))
 
-rule-at-requires : tie.Need-rule-at-requires Inv-loop μ-loop
-rule-at-requires c κs = search needs
-
-lead-place-requires : tie.Need-lead-place-requires Inv-loop μ-loop
-lead-place-requires c κs = search needs
-
-mul-x : tie.Need-mul-x Inv-loop μ-loop
-mul-x c = search needs
-
-shared-slice-read-x : tie.Need-shared-slice-read-x Inv-loop μ-loop
-shared-slice-read-x c = search needs
-
-look-up-requires : tie.Need-look-up-requires Inv-loop μ-loop
-look-up-requires c κs = search needs
-
-word-at-requires : tie.Need-word-at-requires Inv-loop μ-loop
-word-at-requires c κs = search needs
-
-look-up-requires-2 : tie.Need-look-up-requires-2 Inv-loop μ-loop
-look-up-requires-2 c κs = search needs
-
-word-broken-requires : tie.Need-word-broken-requires Inv-loop μ-loop
-word-broken-requires c κs = search needs
-
-add-t18 : tie.Need-add-t18 Inv-loop μ-loop
-add-t18 c = search needs
-
 returns : tie.Need-returns Inv-loop μ-loop
 returns c =
     let form = c .before .before .before .before .before .before .before .before .before .before .before .before .args .form in
@@ -69,12 +42,6 @@ returns c =
           ∙ ap (λ n. judged n f (i + 1) then wordsRule k f ops (i + 1 + 1) (drop (i + 1) (shape d kind .rules)) (drop (i + 1) ops)) (sym number)
           ∙ broken-ends (c .before .word-broken .result) f (i + 1) (wordsRule k f ops (i + 1 + 1) (drop (i + 1) (shape d kind .rules)) (drop (i + 1) ops)) (c .if1 .taken));
     }
-
-add-i : tie.Need-add-i Inv-loop μ-loop
-add-i c = search needs
-
-loop-less : tie.Need-loop-less Inv-loop μ-loop
-loop-less c = search needs
 
 loop-again : tie.Need-loop-again Inv-loop μ-loop
 loop-again c =
@@ -114,17 +81,17 @@ first-broken-spec =
     Inv-loop
     μ-loop
     loop-holds
-    rule-at-requires
-    lead-place-requires
-    mul-x
-    shared-slice-read-x
-    look-up-requires
-    word-at-requires
-    look-up-requires-2
-    word-broken-requires
-    add-t18
+    (λ c κs. search needs)
+    (λ c κs. search needs)
+    (λ c. search needs)
+    (λ c. search needs)
+    (λ c κs. search needs)
+    (λ c κs. search needs)
+    (λ c κs. search needs)
+    (λ c κs. search needs)
+    (λ c. search needs)
     returns
-    add-i
-    loop-less
+    (λ c. search needs)
+    (λ c. search needs)
     loop-again
     returns-2)

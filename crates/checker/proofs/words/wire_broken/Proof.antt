@@ -4,30 +4,6 @@ use borrow.Author.Tests.{eq-eqb, ne-eqb}
 use Rattle.checker.proofs.words.wire_broken.Statement.{statement}
 use Rattle.checker.proofs.words.wire_broken.Tie as tie
 
-enum-told : tie.Need-enum-told
-enum-told c = search needs
-
-enum-told-2 : tie.Need-enum-told-2
-enum-told-2 c = search needs
-
-enum-known-own : tie.Need-enum-known-own
-enum-known-own c = search needs
-
-cast-if1 : tie.Need-cast-if1
-cast-if1 c = search needs
-
-cast-if2 : tie.Need-cast-if2
-cast-if2 c = search needs
-
-add-if2 : tie.Need-add-if2
-add-if2 c = search needs
-
-returns : tie.Need-returns
-returns c = search needs
-
-returns-2 : tie.Need-returns-2
-returns-2 c = search needs
-
 returns-3 : tie.Need-returns-3
 returns-3 c = rw (c .before .before .own .given .1, ne-eqb _ _ (c .if1 .taken))
 
@@ -41,14 +17,14 @@ pub wire-broken-spec : {M : Type 1} → statement M
 wire-broken-spec =
     tie.close
     (tie.spec
-    enum-told
-    enum-told-2
-    enum-known-own
-    cast-if1
-    cast-if2
-    add-if2
-    returns
-    returns-2
+    (λ c. search needs)
+    (λ c. search needs)
+    (λ c. search needs)
+    (λ c. search needs)
+    (λ c. search needs)
+    (λ c. search needs)
+    (λ c. search needs)
+    (λ c. search needs)
     returns-3
     returns-4
     returns-5)

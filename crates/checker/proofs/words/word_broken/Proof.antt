@@ -4,51 +4,6 @@ use borrow.Author.Tests.{eq-eqb, ne-eqb, le-leb, lt-leb, lt-ltb, le-ltb}
 use Rattle.checker.proofs.words.word_broken.Statement.{statement}
 use Rattle.checker.proofs.words.word_broken.Tie as tie
 
-enum-told : tie.Need-enum-told
-enum-told c = search needs
-
-enum-told-2 : tie.Need-enum-told-2
-enum-told-2 c = search needs
-
-enum-told-3 : tie.Need-enum-told-3
-enum-told-3 c = search needs
-
-enum-told-4 : tie.Need-enum-told-4
-enum-told-4 c = search needs
-
-enum-told-5 : tie.Need-enum-told-5
-enum-told-5 c = search needs
-
-enum-told-6 : tie.Need-enum-told-6
-enum-told-6 c = search needs
-
-label-shown-requires : tie.Need-label-shown-requires
-label-shown-requires c κs = search needs
-
-stage-shown-requires : tie.Need-stage-shown-requires
-stage-shown-requires c κs = search needs
-
-wire-broken-requires : tie.Need-wire-broken-requires
-wire-broken-requires c κs = search needs
-
-enum-known-rule : tie.Need-enum-known-rule
-enum-known-rule c = search needs
-
-stage-shown-requires-2 : tie.Need-stage-shown-requires-2
-stage-shown-requires-2 c κs = search needs
-
-wire-broken-requires-2 : tie.Need-wire-broken-requires-2
-wire-broken-requires-2 c κs = search needs
-
-enum-known-rule-2 : tie.Need-enum-known-rule-2
-enum-known-rule-2 c = search needs
-
-stage-shown-requires-3 : tie.Need-stage-shown-requires-3
-stage-shown-requires-3 c κs = search needs
-
-wire-broken-requires-3 : tie.Need-wire-broken-requires-3
-wire-broken-requires-3 c κs = search needs
-
 returns : tie.Need-returns
 returns c = rw (c .before .enum-told .given .1, lt-leb _ _ (c .if1 .taken))
 
@@ -95,21 +50,21 @@ pub word-broken-spec : {M : Type 1} → statement M
 word-broken-spec =
     tie.close
     (tie.spec
-    enum-told
-    enum-told-2
-    enum-told-3
-    enum-told-4
-    enum-told-5
-    enum-told-6
-    label-shown-requires
-    stage-shown-requires
-    wire-broken-requires
-    enum-known-rule
-    stage-shown-requires-2
-    wire-broken-requires-2
-    enum-known-rule-2
-    stage-shown-requires-3
-    wire-broken-requires-3
+    (λ c. search needs)
+    (λ c. search needs)
+    (λ c. search needs)
+    (λ c. search needs)
+    (λ c. search needs)
+    (λ c. search needs)
+    (λ c κs. search needs)
+    (λ c κs. search needs)
+    (λ c κs. search needs)
+    (λ c. search needs)
+    (λ c κs. search needs)
+    (λ c κs. search needs)
+    (λ c. search needs)
+    (λ c κs. search needs)
+    (λ c κs. search needs)
     returns
     returns-2
     returns-3

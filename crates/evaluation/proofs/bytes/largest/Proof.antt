@@ -17,28 +17,25 @@ loop-holds : tie.Need-loop-holds Inv-loop μ-loop
 loop-holds c = (omega arith, λ x l u. absurd (omega arith))
 
 add-larger : tie.Need-add-larger Inv-loop μ-loop
-add-larger c = record { fits = omega (arith, c .before .loop .inv .0, c .loop-test .taken, c .before .before .before .pre, c .before .before .before .good .0 .0) }
+add-larger c = record { fits = omega arith }
 
 shared-slice-read-larger : tie.Need-shared-slice-read-larger Inv-loop μ-loop
-shared-slice-read-larger c = omega (arith, c .before .before .loop .inv .0, c .before .loop-test .taken, c .before .before .before .before .pre, c .before .before .before .before .good .0 .0)
-
-larger-requires : tie.Need-larger-requires Inv-loop μ-loop
-larger-requires c κs = search needs
+shared-slice-read-larger c = omega arith
 
 add-i : tie.Need-add-i Inv-loop μ-loop
-add-i c = record { fits = omega (arith, c .before .before .before .loop .inv .0, c .before .before .loop-test .taken, c .before .before .before .before .before .pre, c .before .before .before .before .before .good .0 .0) }
+add-i c = record { fits = omega arith }
 
 loop-less : tie.Need-loop-less Inv-loop μ-loop
-loop-less c = omega (arith, c .before .before .before .loop .inv .0, c .before .before .loop-test .taken, c .before .before .before .before .before .pre, c .before .before .before .before .before .good .0 .0)
+loop-less c = omega arith
 
 loop-again : tie.Need-loop-again Inv-loop μ-loop
 loop-again c =
     let a = c .before .before .before .before .before .args in
     let l = c .before .before .before .loop in
-    (omega (arith, c .before .before .before .loop .inv .0, c .before .before .loop-test .taken, c .before .before .before .before .before .pre, c .before .before .before .before .before .good .0 .0), highest-turn (a .bytes .now) (a .from) (l .i) (l .most) (c .larger .result) (l .inv .1) (c .larger .ensures .0) (c .larger .ensures .1))
+    (omega arith, highest-turn (a .bytes .now) (a .from) (l .i) (l .most) (c .larger .result) (l .inv .1) (c .larger .ensures .0) (c .larger .ensures .1))
 
 returns : tie.Need-returns Inv-loop μ-loop
-returns c = record { is = λ x l u. c .before .loop .inv .1 x l (omega (arith, c .before .loop .inv .0, c .loop-test .left, c .before .before .before .pre, c .before .before .before .good .0 .0)) }
+returns c = record { is = λ x l u. c .before .loop .inv .1 x l (omega arith) }
 
 pub largest-spec : {M : Type 1} → statement M
 largest-spec =
@@ -49,7 +46,7 @@ largest-spec =
     loop-holds
     add-larger
     shared-slice-read-larger
-    larger-requires
+    (λ c κs. search needs)
     add-i
     loop-less
     loop-again

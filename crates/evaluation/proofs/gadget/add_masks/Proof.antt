@@ -23,33 +23,33 @@ loop-holds : tie.Need-loop-holds Inv-loop μ-loop
 loop-holds c = (omega arith, c .before .pre .5, λ x p v k. adds-start x (total (range (c .before .args .from) (c .before .args .to - c .before .args .from)) (λ j. v (maskAt (c .before .args .d) (c .before .args .first) (c .before .args .i) j))) p)
 
 pair-site-requires : tie.Need-pair-site-requires Inv-loop μ-loop
-pair-site-requires c κs = (omega (arith, c .before .loop .inv .0, c .before .loop .inv .1, c .loop-test .taken, c .before .before .before .pre .0 .0, c .before .before .before .pre .0 .1, c .before .before .before .pre .0 .2, c .before .before .before .pre .1, c .before .before .before .pre .2, c .before .before .before .pre .3), omega (arith, c .before .loop .inv .0, c .before .loop .inv .1, c .loop-test .taken, c .before .before .before .pre .0 .0, c .before .before .before .pre .0 .1, c .before .before .before .pre .0 .2, c .before .before .before .pre .1, c .before .before .before .pre .2, c .before .before .before .pre .3), omega (arith, c .before .loop .inv .0, c .before .loop .inv .1, c .loop-test .taken, c .before .before .before .pre .0 .0, c .before .before .before .pre .0 .1, c .before .before .before .pre .0 .2, c .before .before .before .pre .1, c .before .before .before .pre .2, c .before .before .before .pre .3))
+pair-site-requires c κs = (omega arith, omega arith, omega arith)
 
 add-sum : tie.Need-add-sum Inv-loop μ-loop
-add-sum c = record { fits = omega (arith, c .before .before .loop .inv .0, c .before .before .loop .inv .1, c .before .loop-test .taken, c .before .before .before .before .pre .0 .0, c .before .before .before .before .pre .0 .1, c .before .before .before .before .pre .0 .2, c .before .before .before .before .pre .1, c .before .before .before .before .pre .2, c .before .before .before .before .pre .3, c .pair-site .ensures .0, c .pair-site .ensures .1) }
+add-sum c = record { fits = omega arith }
 
 shared-slice-read-sum : tie.Need-shared-slice-read-sum Inv-loop μ-loop
-shared-slice-read-sum c = omega (arith, c .before .before .before .loop .inv .0, c .before .before .before .loop .inv .1, c .before .before .loop-test .taken, c .before .before .before .before .before .pre .0 .0, c .before .before .before .before .before .pre .0 .1, c .before .before .before .before .before .pre .0 .2, c .before .before .before .before .before .pre .1, c .before .before .before .before .before .pre .2, c .before .before .before .before .before .pre .3, c .before .pair-site .ensures .0, c .before .pair-site .ensures .1, pair-lt (c .before .before .before .before .before .args .d) (c .before .before .before .before .before .args .i) (c .before .before .before .loop .j) (c .before .before .before .before .before .pre .1) (omega (arith, c .before .before .loop-test .taken, c .before .before .before .before .before .pre .2)) (c .before .before .before .before .before .pre .4 (c .before .before .before .loop .j) (c .before .before .before .loop .inv .0) (c .before .before .loop-test .taken)))
+shared-slice-read-sum c = omega (arith, pair-lt (c .before .before .before .before .before .args .d) (c .before .before .before .before .before .args .i) (c .before .before .before .loop .j) (c .before .before .before .before .before .pre .1) (omega arith) (c .before .before .before .before .before .pre .4 (c .before .before .before .loop .j) (c .before .before .before .loop .inv .0) (c .before .before .loop-test .taken)))
 
 add-j : tie.Need-add-j Inv-loop μ-loop
-add-j c = record { fits = omega (arith, c .before .before .before .loop .inv .0, c .before .before .before .loop .inv .1, c .before .before .loop-test .taken, c .before .before .before .before .before .pre .0 .0, c .before .before .before .before .before .pre .0 .1, c .before .before .before .before .before .pre .0 .2, c .before .before .before .before .before .pre .1, c .before .before .before .before .before .pre .2, c .before .before .before .before .before .pre .3, c .before .pair-site .ensures .0, c .before .pair-site .ensures .1) }
+add-j c = record { fits = omega arith }
 
 loop-less : tie.Need-loop-less Inv-loop μ-loop
-loop-less c = omega (arith, c .before .before .before .loop .inv .0, c .before .before .before .loop .inv .1, c .before .before .loop-test .taken, c .before .before .before .before .before .pre .0 .0, c .before .before .before .before .before .pre .0 .1, c .before .before .before .before .before .pre .0 .2, c .before .before .before .before .before .pre .1, c .before .before .before .before .before .pre .2, c .before .before .before .before .before .pre .3, c .before .pair-site .ensures .0, c .before .pair-site .ensures .1)
+loop-less c = omega arith
 
 loop-again : tie.Need-loop-again Inv-loop μ-loop
 loop-again c =
     let a = c .before .before .before .before .before .args in
     let j = c .before .before .before .loop .j in
     let p = a .first + c .before .pair-site .result in
-    let ep : p ≡ maskAt (a .d) (a .first) (a .i) j = omega (arith, c .before .pair-site .ensures .0) in
-    let lt = pair-lt (c .before .before .before .before .before .args .d) (c .before .before .before .before .before .args .i) (c .before .before .before .loop .j) (c .before .before .before .before .before .pre .1) (omega (arith, c .before .before .loop-test .taken, c .before .before .before .before .before .pre .2)) (c .before .before .before .before .before .pre .4 (c .before .before .before .loop .j) (c .before .before .before .loop .inv .0) (c .before .before .loop-test .taken)) in (
-      omega (arith, c .before .before .before .loop .inv .0, c .before .before .before .loop .inv .1, c .before .before .loop-test .taken, c .before .before .before .before .before .pre .0 .0, c .before .before .before .before .before .pre .0 .1, c .before .before .before .before .before .pre .0 .2, c .before .before .before .before .before .pre .1, c .before .before .before .before .before .pre .2, c .before .before .before .before .before .pre .3, c .before .pair-site .ensures .0, c .before .pair-site .ensures .1),
-      omega (arith, c .before .before .before .loop .inv .0, c .before .before .before .loop .inv .1, c .before .before .loop-test .taken, c .before .before .before .before .before .pre .0 .0, c .before .before .before .before .before .pre .0 .1, c .before .before .before .before .before .pre .0 .2, c .before .before .before .before .before .pre .1, c .before .before .before .before .before .pre .2, c .before .before .before .before .before .pre .3, c .before .pair-site .ensures .0, c .before .pair-site .ensures .1),
+    let ep : p ≡ maskAt (a .d) (a .first) (a .i) j = omega arith in
+    let lt = pair-lt (c .before .before .before .before .before .args .d) (c .before .before .before .before .before .args .i) (c .before .before .before .loop .j) (c .before .before .before .before .before .pre .1) (omega arith) (c .before .before .before .before .before .pre .4 (c .before .before .before .loop .j) (c .before .before .before .loop .inv .0) (c .before .before .loop-test .taken)) in (
+      omega arith,
+      omega arith,
       λ x q v k.
           let f : ℕ → Bool = λ m. v (maskAt (a .d) (a .first) (a .i) m) in
           adds-turn (nth (a .values .now) p) (f j) (total (range (j + 1) (a .to - (j + 1))) f) (c .before .before .before .loop .inv .2 x q v k) (total-turn f (a .to) j (c .before .before .loop-test .taken))
-          (k p (omega arith) (omega (arith, ep, lt)) ∙ ap (λ n. byte (v n)) ep),
+          (k p (omega arith) (omega arith) ∙ ap (λ n. byte (v n)) ep),
     )
 
 returns : tie.Need-returns Inv-loop μ-loop

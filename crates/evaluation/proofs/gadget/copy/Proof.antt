@@ -20,29 +20,29 @@ loop-holds : tie.Need-loop-holds Inv-loop μ-loop
 loop-holds c = (omega arith, fills-at refl (omega arith) (fills-none (c .args .at) (c .args .values .now)))
 
 add-values : tie.Need-add-values Inv-loop μ-loop
-add-values c = record { fits = omega (arith, c .before .loop .inv .0, c .loop-test .taken, c .before .before .pre .0, c .before .before .pre .1, c .before .loop .inv .1 .size, c .before .before .good .0 .0, c .before .before .good .1 .1 .0 .0) }
+add-values c = record { fits = omega arith }
 
 shared-slice-read-values : tie.Need-shared-slice-read-values Inv-loop μ-loop
-shared-slice-read-values c = omega (arith, c .before .before .loop .inv .0, c .before .loop-test .taken, c .before .before .before .pre .0, c .before .before .before .pre .1, c .before .before .loop .inv .1 .size, c .before .before .before .good .0 .0, c .before .before .before .good .1 .1 .0 .0)
+shared-slice-read-values c = omega arith
 
 add-values-2 : tie.Need-add-values-2 Inv-loop μ-loop
-add-values-2 c = record { fits = omega (arith, c .before .before .loop .inv .0, c .before .loop-test .taken, c .before .before .before .pre .0, c .before .before .before .pre .1, c .before .before .loop .inv .1 .size, c .before .before .before .good .0 .0, c .before .before .before .good .1 .1 .0 .0) }
+add-values-2 c = record { fits = omega arith }
 
 slice-write-values : tie.Need-slice-write-values Inv-loop μ-loop
-slice-write-values c = omega (arith, c .before .before .loop .inv .0, c .before .loop-test .taken, c .before .before .before .pre .0, c .before .before .before .pre .1, c .before .before .loop .inv .1 .size, c .before .before .before .good .0 .0, c .before .before .before .good .1 .1 .0 .0)
+slice-write-values c = omega arith
 
 add-q : tie.Need-add-q Inv-loop μ-loop
-add-q c = record { fits = omega (arith, c .before .before .loop .inv .0, c .before .loop-test .taken, c .before .before .before .pre .0, c .before .before .before .pre .1, c .before .before .loop .inv .1 .size, c .before .before .before .good .0 .0, c .before .before .before .good .1 .1 .0 .0) }
+add-q c = record { fits = omega arith }
 
 loop-less : tie.Need-loop-less Inv-loop μ-loop
-loop-less c = omega (arith, c .before .before .loop .inv .0, c .before .loop-test .taken, c .before .before .before .pre .0, c .before .before .before .pre .1, c .before .before .loop .inv .1 .size, c .before .before .before .good .0 .0, c .before .before .before .good .1 .1 .0 .0)
+loop-less c = omega arith
 
 loop-again : tie.Need-loop-again Inv-loop μ-loop
 loop-again c =
     let a = c .before .before .before .args in
     let q = c .before .before .loop .q in (
-      omega (arith, c .before .before .loop .inv .0, c .before .loop-test .taken, c .before .before .before .pre .0, c .before .before .before .pre .1, c .before .before .loop .inv .1 .size, c .before .before .before .good .0 .0, c .before .before .before .good .1 .1 .0 .0),
-      fills-at refl (omega arith) (fills-set (nth (a .sheet .now) (a .from + q)) (c .before .before .loop .inv .1) (omega arith) (omega (arith, c .before .before .loop .inv .0, c .before .loop-test .taken, c .before .before .before .pre .0, c .before .before .before .pre .1, c .before .before .loop .inv .1 .size, c .before .before .before .good .0 .0, c .before .before .before .good .1 .1 .0 .0))
+      omega arith,
+      fills-at refl (omega arith) (fills-set (nth (a .sheet .now) (a .from + q)) (c .before .before .loop .inv .1) (omega arith) (omega arith)
           (λ v e k. set-byte (nth (a .sheet .now) (a .from + q)) (c .before .before .before .pre .2 (a .from + q)) ∙ ap byte (sym (e q (c .before .loop-test .taken))))),
     )
 
@@ -50,7 +50,7 @@ same-length : tie.Need-same-length Inv-loop μ-loop
 same-length c = c .before .loop .inv .1 .size
 
 returns : tie.Need-returns Inv-loop μ-loop
-returns c = fills-at refl (omega (arith, c .before .loop .inv .0, c .loop-test .left, c .before .before .pre .0, c .before .before .pre .1, c .before .loop .inv .1 .size, c .before .before .good .0 .0, c .before .before .good .1 .1 .0 .0)) (c .before .loop .inv .1)
+returns c = fills-at refl (omega arith) (c .before .loop .inv .1)
 
 pub copy-spec : {M : Type 1} → statement M
 copy-spec =

@@ -14,67 +14,64 @@ abbrev μ-loop : tie.MeasureT-loop
 μ-loop values₀ first d i a bit from to own start sum₀ j₀ values sum j = to - j
 
 sub-own : tie.Need-sub-own Inv-loop μ-loop
-sub-own c = omega (arith, c .before .pre .0 .0, c .before .pre .0 .1, c .before .pre .0 .2, c .before .pre .1, c .before .pre .2, c .before .pre .3, eights (c .before .args .d) (c .before .args .d - 1) (omega (arith, c .before .pre .0 .2)) (omega (arith, c .before .pre .0 .2)))
+sub-own c = omega arith
 
 mul-own : tie.Need-mul-own Inv-loop μ-loop
-mul-own c = record { fits = omega (arith, c .before .pre .0 .0, c .before .pre .0 .1, c .before .pre .0 .2, c .before .pre .1, c .before .pre .2, c .before .pre .3, eights (c .before .args .d) (c .before .args .d - 1) (omega (arith, c .before .pre .0 .2)) (omega (arith, c .before .pre .0 .2))) }
+mul-own c = record { fits = omega arith }
 
 add-own : tie.Need-add-own Inv-loop μ-loop
-add-own c = record { fits = omega (arith, c .before .pre .0 .0, c .before .pre .0 .1, c .before .pre .0 .2, c .before .pre .1, c .before .pre .2, c .before .pre .3, eights (c .before .args .d) (c .before .args .d - 1) (omega (arith, c .before .pre .0 .2)) (omega (arith, c .before .pre .0 .2))) }
+add-own c = record { fits = omega arith }
 
 cell-row-requires : tie.Need-cell-row-requires Inv-loop μ-loop
-cell-row-requires c κs = (omega (arith, c .before .pre .0 .0, c .before .pre .0 .1, c .before .pre .0 .2, c .before .pre .1, c .before .pre .2, c .before .pre .3, eights (c .before .args .d) (c .before .args .d - 1) (omega (arith, c .before .pre .0 .2)) (omega (arith, c .before .pre .0 .2))), omega (arith, c .before .pre .0 .0, c .before .pre .0 .1, c .before .pre .0 .2, c .before .pre .1, c .before .pre .2, c .before .pre .3, eights (c .before .args .d) (c .before .args .d - 1) (omega (arith, c .before .pre .0 .2)) (omega (arith, c .before .pre .0 .2))), omega (arith, c .before .pre .0 .0, c .before .pre .0 .1, c .before .pre .0 .2, c .before .pre .1, c .before .pre .2, c .before .pre .3, eights (c .before .args .d) (c .before .args .d - 1) (omega (arith, c .before .pre .0 .2)) (omega (arith, c .before .pre .0 .2))))
+cell-row-requires c κs = (omega arith, omega arith, omega arith)
 
 add-start : tie.Need-add-start Inv-loop μ-loop
-add-start c = record { fits = omega (arith, c .before .before .pre .0 .0, c .before .before .pre .0 .1, c .before .before .pre .0 .2, c .before .before .pre .1, c .before .before .pre .2, c .before .before .pre .3, eights (c .before .before .args .d) (c .before .before .args .d - 1) (omega (arith, c .before .before .pre .0 .2)) (omega (arith, c .before .before .pre .0 .2)), c .cell-row .ensures .1, c .cell-row .ensures .0) }
+add-start c = record { fits = omega arith }
 
 loop-holds : tie.Need-loop-holds Inv-loop μ-loop
 loop-holds c = row-start (c .before .before .args .d) (c .before .before .args .first) (c .before .before .args .i) (c .before .before .args .a) (c .before .before .args .bit) (c .before .before .args .from) (c .before .before .args .to) (c .before .before .args .values .now) (c .before .before .pre .5)
 
 pair-site-requires : tie.Need-pair-site-requires Inv-loop μ-loop
-pair-site-requires c κs = (omega (arith, c .before .loop .inv .low, c .before .loop .inv .high, c .loop-test .taken, c .before .before .before .before .pre .0 .0, c .before .before .before .before .pre .0 .1, c .before .before .before .before .pre .0 .2, c .before .before .before .before .pre .1, c .before .before .before .before .pre .2, c .before .before .before .before .pre .3, c .before .loop .inv .fills .size, eights (c .before .before .before .before .args .d) (c .before .before .before .before .args .d - 1) (omega (arith, c .before .before .before .before .pre .0 .2)) (omega (arith, c .before .before .before .before .pre .0 .2)), c .before .before .cell-row .ensures .1, c .before .before .cell-row .ensures .0), omega (arith, c .before .loop .inv .low, c .before .loop .inv .high, c .loop-test .taken, c .before .before .before .before .pre .0 .0, c .before .before .before .before .pre .0 .1, c .before .before .before .before .pre .0 .2, c .before .before .before .before .pre .1, c .before .before .before .before .pre .2, c .before .before .before .before .pre .3, c .before .loop .inv .fills .size, eights (c .before .before .before .before .args .d) (c .before .before .before .before .args .d - 1) (omega (arith, c .before .before .before .before .pre .0 .2)) (omega (arith, c .before .before .before .before .pre .0 .2)), c .before .before .cell-row .ensures .1, c .before .before .cell-row .ensures .0), omega (arith, c .before .loop .inv .low, c .before .loop .inv .high, c .loop-test .taken, c .before .before .before .before .pre .0 .0, c .before .before .before .before .pre .0 .1, c .before .before .before .before .pre .0 .2, c .before .before .before .before .pre .1, c .before .before .before .before .pre .2, c .before .before .before .before .pre .3, c .before .loop .inv .fills .size, eights (c .before .before .before .before .args .d) (c .before .before .before .before .args .d - 1) (omega (arith, c .before .before .before .before .pre .0 .2)) (omega (arith, c .before .before .before .before .pre .0 .2)), c .before .before .cell-row .ensures .1, c .before .before .cell-row .ensures .0))
+pair-site-requires c κs = (omega arith, omega arith, omega arith)
 
 mul-r : tie.Need-mul-r Inv-loop μ-loop
-mul-r c = record { fits = omega (arith, c .before .before .loop .inv .low, c .before .before .loop .inv .high, c .before .loop-test .taken, c .before .before .before .before .before .pre .0 .0, c .before .before .before .before .before .pre .0 .1, c .before .before .before .before .before .pre .0 .2, c .before .before .before .before .before .pre .1, c .before .before .before .before .before .pre .2, c .before .before .before .before .before .pre .3, c .before .before .loop .inv .fills .size, eights (c .before .before .before .before .before .args .d) (c .before .before .before .before .before .args .d - 1) (omega (arith, c .before .before .before .before .before .pre .0 .2)) (omega (arith, c .before .before .before .before .before .pre .0 .2)), c .before .before .before .cell-row .ensures .1, c .before .before .before .cell-row .ensures .0, c .pair-site .ensures .1) }
+mul-r c = record { fits = omega arith }
 
 add-r : tie.Need-add-r Inv-loop μ-loop
-add-r c = record { fits = omega (arith, c .before .before .loop .inv .low, c .before .before .loop .inv .high, c .before .loop-test .taken, c .before .before .before .before .before .pre .0 .0, c .before .before .before .before .before .pre .0 .1, c .before .before .before .before .before .pre .0 .2, c .before .before .before .before .before .pre .1, c .before .before .before .before .before .pre .2, c .before .before .before .before .before .pre .3, c .before .before .loop .inv .fills .size, eights (c .before .before .before .before .before .args .d) (c .before .before .before .before .before .args .d - 1) (omega (arith, c .before .before .before .before .before .pre .0 .2)) (omega (arith, c .before .before .before .before .before .pre .0 .2)), c .before .before .before .cell-row .ensures .1, c .before .before .before .cell-row .ensures .0, c .pair-site .ensures .1) }
+add-r c = record { fits = omega arith }
 
 slice-read-r : tie.Need-slice-read-r Inv-loop μ-loop
-slice-read-r c = omega (arith, c .before .before .before .loop .inv .low, c .before .before .before .loop .inv .high, c .before .before .loop-test .taken, c .before .before .before .before .before .before .pre .0 .0, c .before .before .before .before .before .before .pre .0 .1, c .before .before .before .before .before .before .pre .0 .2, c .before .before .before .before .before .before .pre .1, c .before .before .before .before .before .before .pre .2, c .before .before .before .before .before .before .pre .3, c .before .before .before .loop .inv .fills .size, eights (c .before .before .before .before .before .before .args .d) (c .before .before .before .before .before .before .args .d - 1) (omega (arith, c .before .before .before .before .before .before .pre .0 .2)) (omega (arith, c .before .before .before .before .before .before .pre .0 .2)), c .before .before .before .before .cell-row .ensures .1, c .before .before .before .before .cell-row .ensures .0, c .before .pair-site .ensures .1, pair-early (c .before .before .before .before .before .before .args .d) (c .before .before .before .before .before .before .args .first) (c .before .before .before .before .before .before .args .i) (c .before .before .before .loop .j) (c .before .before .before .before .before .before .pre .1) (omega (arith, c .before .before .loop-test .taken, c .before .before .before .before .before .before .pre .2)) (c .before .before .before .before .before .before .pre .4 (c .before .before .before .loop .j) (c .before .before .before .loop .inv .low) (c .before .before .loop-test .taken)), own-early (c .before .before .before .before .before .before .args .d) (c .before .before .before .before .before .before .args .first) (c .before .before .before .before .before .before .args .d) 0 (omega (arith, c .before .before .before .before .before .before .pre .0 .1)), c .before .pair-site .ensures .0)
+slice-read-r c = omega (arith, eights (c .before .before .before .before .before .before .args .d) (c .before .before .before .before .before .before .args .d - 1) (omega arith) (omega arith), pair-early (c .before .before .before .before .before .before .args .d) (c .before .before .before .before .before .before .args .first) (c .before .before .before .before .before .before .args .i) (c .before .before .before .loop .j) (c .before .before .before .before .before .before .pre .1) (omega arith) (c .before .before .before .before .before .before .pre .4 (c .before .before .before .loop .j) (c .before .before .before .loop .inv .low) (c .before .before .loop-test .taken)), own-early (c .before .before .before .before .before .before .args .d) (c .before .before .before .before .before .before .args .first) (c .before .before .before .before .before .before .args .d) 0 (omega arith))
 
 mul-b : tie.Need-mul-b Inv-loop μ-loop
-mul-b c = record { fits = omega (arith, c .before .before .before .loop .inv .low, c .before .before .before .loop .inv .high, c .before .before .loop-test .taken, c .before .before .before .before .before .before .pre .0 .0, c .before .before .before .before .before .before .pre .0 .1, c .before .before .before .before .before .before .pre .0 .2, c .before .before .before .before .before .before .pre .1, c .before .before .before .before .before .before .pre .2, c .before .before .before .before .before .before .pre .3, c .before .before .before .loop .inv .fills .size, eights (c .before .before .before .before .before .before .args .d) (c .before .before .before .before .before .before .args .d - 1) (omega (arith, c .before .before .before .before .before .before .pre .0 .2)) (omega (arith, c .before .before .before .before .before .before .pre .0 .2)), c .before .before .before .before .cell-row .ensures .1, c .before .before .before .before .cell-row .ensures .0, c .before .pair-site .ensures .1) }
+mul-b c = record { fits = omega arith }
 
 add-b : tie.Need-add-b Inv-loop μ-loop
-add-b c = record { fits = omega (arith, c .before .before .before .loop .inv .low, c .before .before .before .loop .inv .high, c .before .before .loop-test .taken, c .before .before .before .before .before .before .pre .0 .0, c .before .before .before .before .before .before .pre .0 .1, c .before .before .before .before .before .before .pre .0 .2, c .before .before .before .before .before .before .pre .1, c .before .before .before .before .before .before .pre .2, c .before .before .before .before .before .before .pre .3, c .before .before .before .loop .inv .fills .size, eights (c .before .before .before .before .before .before .args .d) (c .before .before .before .before .before .before .args .d - 1) (omega (arith, c .before .before .before .before .before .before .pre .0 .2)) (omega (arith, c .before .before .before .before .before .before .pre .0 .2)), c .before .before .before .before .cell-row .ensures .1, c .before .before .before .before .cell-row .ensures .0, c .before .pair-site .ensures .1) }
+add-b c = record { fits = omega arith }
 
 slice-read-b : tie.Need-slice-read-b Inv-loop μ-loop
-slice-read-b c = omega (arith, c .before .before .before .before .loop .inv .low, c .before .before .before .before .loop .inv .high, c .before .before .before .loop-test .taken, c .before .before .before .before .before .before .before .pre .0 .0, c .before .before .before .before .before .before .before .pre .0 .1, c .before .before .before .before .before .before .before .pre .0 .2, c .before .before .before .before .before .before .before .pre .1, c .before .before .before .before .before .before .before .pre .2, c .before .before .before .before .before .before .before .pre .3, c .before .before .before .before .loop .inv .fills .size, eights (c .before .before .before .before .before .before .before .args .d) (c .before .before .before .before .before .before .before .args .d - 1) (omega (arith, c .before .before .before .before .before .before .before .pre .0 .2)) (omega (arith, c .before .before .before .before .before .before .before .pre .0 .2)), c .before .before .before .before .before .cell-row .ensures .1, c .before .before .before .before .before .cell-row .ensures .0, c .before .before .pair-site .ensures .1, own-early (c .before .before .before .before .before .before .before .args .d) (c .before .before .before .before .before .before .before .args .first) (c .before .before .before .before .before .before .before .args .d) (c .before .before .before .before .loop .j) (omega (arith, c .before .before .before .loop-test .taken, c .before .before .before .before .before .before .before .pre .2)))
-
-slot-requires : tie.Need-slot-requires Inv-loop μ-loop
-slot-requires c κs = search needs
+slice-read-b c = omega arith
 
 mul-cross : tie.Need-mul-cross Inv-loop μ-loop
-mul-cross c = record { fits = omega (arith, c .before .before .before .before .before .before .loop .inv .low, c .before .before .before .before .before .before .loop .inv .high, c .before .before .before .before .before .loop-test .taken, c .before .before .before .before .before .before .before .before .before .pre .0 .0, c .before .before .before .before .before .before .before .before .before .pre .0 .1, c .before .before .before .before .before .before .before .before .before .pre .0 .2, c .before .before .before .before .before .before .before .before .before .pre .1, c .before .before .before .before .before .before .before .before .before .pre .2, c .before .before .before .before .before .before .before .before .before .pre .3, c .before .before .before .before .before .before .loop .inv .fills .size, eights (c .before .before .before .before .before .before .before .before .before .args .d) (c .before .before .before .before .before .before .before .before .before .args .d - 1) (omega (arith, c .before .before .before .before .before .before .before .before .before .pre .0 .2)) (omega (arith, c .before .before .before .before .before .before .before .before .before .pre .0 .2)), c .before .before .before .before .before .before .before .cell-row .ensures .1, c .before .before .before .before .before .before .before .cell-row .ensures .0, c .before .before .before .before .pair-site .ensures .1, c .slot .ensures .1) }
+mul-cross c = record { fits = omega arith }
 
 add-cross : tie.Need-add-cross Inv-loop μ-loop
-add-cross c = record { fits = omega (arith, c .before .before .before .before .before .before .loop .inv .low, c .before .before .before .before .before .before .loop .inv .high, c .before .before .before .before .before .loop-test .taken, c .before .before .before .before .before .before .before .before .before .pre .0 .0, c .before .before .before .before .before .before .before .before .before .pre .0 .1, c .before .before .before .before .before .before .before .before .before .pre .0 .2, c .before .before .before .before .before .before .before .before .before .pre .1, c .before .before .before .before .before .before .before .before .before .pre .2, c .before .before .before .before .before .before .before .before .before .pre .3, c .before .before .before .before .before .before .loop .inv .fills .size, eights (c .before .before .before .before .before .before .before .before .before .args .d) (c .before .before .before .before .before .before .before .before .before .args .d - 1) (omega (arith, c .before .before .before .before .before .before .before .before .before .pre .0 .2)) (omega (arith, c .before .before .before .before .before .before .before .before .before .pre .0 .2)), c .before .before .before .before .before .before .before .cell-row .ensures .1, c .before .before .before .before .before .before .before .cell-row .ensures .0, c .before .before .before .before .pair-site .ensures .1, c .slot .ensures .1) }
+add-cross c = record { fits = omega arith }
 
 cross-requires : tie.Need-cross-requires Inv-loop μ-loop
-cross-requires c κs = omega (arith, c .before .before .before .before .before .before .loop .inv .low, c .before .before .before .before .before .before .loop .inv .high, c .before .before .before .before .before .loop-test .taken, c .before .before .before .before .before .before .before .before .before .pre .0 .0, c .before .before .before .before .before .before .before .before .before .pre .0 .1, c .before .before .before .before .before .before .before .before .before .pre .0 .2, c .before .before .before .before .before .before .before .before .before .pre .1, c .before .before .before .before .before .before .before .before .before .pre .2, c .before .before .before .before .before .before .before .before .before .pre .3, c .before .before .before .before .before .before .loop .inv .fills .size, eights (c .before .before .before .before .before .before .before .before .before .args .d) (c .before .before .before .before .before .before .before .before .before .args .d - 1) (omega (arith, c .before .before .before .before .before .before .before .before .before .pre .0 .2)) (omega (arith, c .before .before .before .before .before .before .before .before .before .pre .0 .2)), c .before .before .before .before .before .before .before .cell-row .ensures .1, c .before .before .before .before .before .before .before .cell-row .ensures .0, c .before .before .before .before .pair-site .ensures .1, c .slot .ensures .1, cell-room (c .before .before .before .before .before .before .before .before .before .args .d) (c .before .before .before .before .before .before .before .before .before .args .first) (c .before .before .before .before .before .before .before .before .before .args .i) (c .before .before .before .before .before .before .loop .j) (c .before .before .before .before .before .before .before .before .before .pre .1) (omega (arith, c .before .before .before .before .before .loop-test .taken, c .before .before .before .before .before .before .before .before .before .pre .2)) (c .before .before .before .before .before .before .before .before .before .pre .4 (c .before .before .before .before .before .before .loop .j) (c .before .before .before .before .before .before .loop .inv .low) (c .before .before .before .before .before .loop-test .taken)), c .slot .ensures .0)
+cross-requires c κs = omega (arith, eights (c .before .before .before .before .before .before .before .before .before .args .d) (c .before .before .before .before .before .before .before .before .before .args .d - 1) (omega arith) (omega arith), cell-room (c .before .before .before .before .before .before .before .before .before .args .d) (c .before .before .before .before .before .before .before .before .before .args .first) (c .before .before .before .before .before .before .before .before .before .args .i) (c .before .before .before .before .before .before .loop .j) (c .before .before .before .before .before .before .before .before .before .pre .1) (omega arith) (c .before .before .before .before .before .before .before .before .before .pre .4 (c .before .before .before .before .before .before .loop .j) (c .before .before .before .before .before .before .loop .inv .low) (c .before .before .before .before .before .loop-test .taken)))
 
 add-j : tie.Need-add-j Inv-loop μ-loop
-add-j c = record { fits = omega (arith, c .before .before .before .before .before .before .before .before .before .loop .inv .low, c .before .before .before .before .before .before .before .before .before .loop .inv .high, c .before .before .before .before .before .before .before .before .loop-test .taken, c .before .before .before .before .before .before .before .before .before .before .before .before .pre .0 .0, c .before .before .before .before .before .before .before .before .before .before .before .before .pre .0 .1, c .before .before .before .before .before .before .before .before .before .before .before .before .pre .0 .2, c .before .before .before .before .before .before .before .before .before .before .before .before .pre .1, c .before .before .before .before .before .before .before .before .before .before .before .before .pre .2, c .before .before .before .before .before .before .before .before .before .before .before .before .pre .3, c .before .before .before .before .before .before .before .before .before .loop .inv .fills .size, eights (c .before .before .before .before .before .before .before .before .before .before .before .before .args .d) (c .before .before .before .before .before .before .before .before .before .before .before .before .args .d - 1) (omega (arith, c .before .before .before .before .before .before .before .before .before .before .before .before .pre .0 .2)) (omega (arith, c .before .before .before .before .before .before .before .before .before .before .before .before .pre .0 .2)), c .before .before .before .before .before .before .before .before .before .before .cell-row .ensures .1, c .before .before .before .before .before .before .before .before .before .before .cell-row .ensures .0, c .before .before .before .before .before .before .before .pair-site .ensures .1, c .before .before .before .slot .ensures .1) }
+add-j c = record { fits = omega arith }
 
 loop-less : tie.Need-loop-less Inv-loop μ-loop
-loop-less c = omega (arith, c .before .before .before .before .before .before .before .before .before .loop .inv .low, c .before .before .before .before .before .before .before .before .before .loop .inv .high, c .before .before .before .before .before .before .before .before .loop-test .taken, c .before .before .before .before .before .before .before .before .before .before .before .before .pre .0 .0, c .before .before .before .before .before .before .before .before .before .before .before .before .pre .0 .1, c .before .before .before .before .before .before .before .before .before .before .before .before .pre .0 .2, c .before .before .before .before .before .before .before .before .before .before .before .before .pre .1, c .before .before .before .before .before .before .before .before .before .before .before .before .pre .2, c .before .before .before .before .before .before .before .before .before .before .before .before .pre .3, c .before .before .before .before .before .before .before .before .before .loop .inv .fills .size, eights (c .before .before .before .before .before .before .before .before .before .before .before .before .args .d) (c .before .before .before .before .before .before .before .before .before .before .before .before .args .d - 1) (omega (arith, c .before .before .before .before .before .before .before .before .before .before .before .before .pre .0 .2)) (omega (arith, c .before .before .before .before .before .before .before .before .before .before .before .before .pre .0 .2)), c .before .before .before .before .before .before .before .before .before .before .cell-row .ensures .1, c .before .before .before .before .before .before .before .before .before .before .cell-row .ensures .0, c .before .before .before .before .before .before .before .pair-site .ensures .1, c .before .before .before .slot .ensures .1)
+loop-less c = omega arith
 
 loop-again : tie.Need-loop-again Inv-loop μ-loop
 loop-again c =
     let a = c .before .before .before .before .before .before .before .before .before .before .before .before .args in
     row-turn-at (a .d) (a .first) (a .i) (a .a) (a .bit) (a .from) (a .to) (c .before .before .before .before .before .before .before .before .before .before .before .before .pre .1) (c .before .before .before .before .before .before .before .before .before .before .before .before .pre .2) (c .before .before .before .before .before .before .before .before .before .before .before .before .pre .4) (a .values .now) (c .before .before .before .before .before .before .before .before .before .loop .values) (c .before .before .before .before .before .before .before .before .before .loop .sum) (c .before .before .before .before .before .before .before .before .before .loop .j) (c .before .before .before .before .before .before .before .before .before .loop .inv) (c .before .before .before .before .before .before .before .before .loop-test .taken)
-    (a .first + 2 * c .before .before .before .before .before .before .before .pair-site .result) (a .first + c .before .before .before .before .before .before .before .before .before .before .cell-row .result + 6 * c .before .before .before .slot .result) (omega (arith, c .before .before .before .before .before .before .before .before .before .before .cell-row .ensures .0, c .before .before .before .slot .ensures .0)) (omega (arith, c .before .before .before .before .before .before .before .pair-site .ensures .0)) _ _ (c .before .before .cross .ensures)
+    (a .first + 2 * c .before .before .before .before .before .before .before .pair-site .result) (a .first + c .before .before .before .before .before .before .before .before .before .before .cell-row .result + 6 * c .before .before .before .slot .result) (omega arith) (omega arith) _ _ (c .before .before .cross .ensures)
 
 same-length : tie.Need-same-length Inv-loop μ-loop
 same-length c = c .before .loop .inv .fills .size
@@ -103,7 +100,7 @@ cross-row-spec =
     mul-b
     add-b
     slice-read-b
-    slot-requires
+    (λ c κs. search needs)
     mul-cross
     add-cross
     cross-requires

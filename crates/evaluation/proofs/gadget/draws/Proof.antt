@@ -22,37 +22,37 @@ loop-holds : tie.Need-loop-holds Inv-loop μ-loop
 loop-holds c = (omega arith, fills-at refl (omega arith) (fills-none (c .args .at) (c .args .values .now)))
 
 add-bit : tie.Need-add-bit Inv-loop μ-loop
-add-bit c = record { fits = omega (arith, c .before .loop .inv .0, c .loop-test .taken, c .before .before .pre .0, c .before .before .pre .1, c .before .loop .inv .1 .size, c .before .before .good .0 .0, c .before .before .good .1 .1 .0 .0) }
+add-bit c = record { fits = omega arith }
 
 shared-slice-read-bit : tie.Need-shared-slice-read-bit Inv-loop μ-loop
-shared-slice-read-bit c = omega (arith, c .before .before .loop .inv .0, c .before .loop-test .taken, c .before .before .before .pre .0, c .before .before .before .pre .1, c .before .before .loop .inv .1 .size, c .before .before .before .good .0 .0, c .before .before .before .good .1 .1 .0 .0)
+shared-slice-read-bit c = omega arith
 
 mul-values : tie.Need-mul-values Inv-loop μ-loop
-mul-values c = record { fits = omega (arith, c .before .before .loop .inv .0, c .before .loop-test .taken, c .before .before .before .pre .0, c .before .before .before .pre .1, c .before .before .loop .inv .1 .size, c .before .before .before .good .0 .0, c .before .before .before .good .1 .1 .0 .0) }
+mul-values c = record { fits = omega arith }
 
 add-values : tie.Need-add-values Inv-loop μ-loop
-add-values c = record { fits = omega (arith, c .before .before .loop .inv .0, c .before .loop-test .taken, c .before .before .before .pre .0, c .before .before .before .pre .1, c .before .before .loop .inv .1 .size, c .before .before .before .good .0 .0, c .before .before .before .good .1 .1 .0 .0) }
+add-values c = record { fits = omega arith }
 
 slice-write-values : tie.Need-slice-write-values Inv-loop μ-loop
-slice-write-values c = omega (arith, c .before .before .loop .inv .0, c .before .loop-test .taken, c .before .before .before .pre .0, c .before .before .before .pre .1, c .before .before .loop .inv .1 .size, c .before .before .before .good .0 .0, c .before .before .before .good .1 .1 .0 .0)
+slice-write-values c = omega arith
 
 mul-values-2 : tie.Need-mul-values-2 Inv-loop μ-loop
-mul-values-2 c = record { fits = omega (arith, c .before .before .loop .inv .0, c .before .loop-test .taken, c .before .before .before .pre .0, c .before .before .before .pre .1, c .before .before .loop .inv .1 .size, c .before .before .before .good .0 .0, c .before .before .before .good .1 .1 .0 .0) }
+mul-values-2 c = record { fits = omega arith }
 
 add-values-2 : tie.Need-add-values-2 Inv-loop μ-loop
-add-values-2 c = record { fits = omega (arith, c .before .before .loop .inv .0, c .before .loop-test .taken, c .before .before .before .pre .0, c .before .before .before .pre .1, c .before .before .loop .inv .1 .size, c .before .before .before .good .0 .0, c .before .before .before .good .1 .1 .0 .0) }
+add-values-2 c = record { fits = omega arith }
 
 add-values-3 : tie.Need-add-values-3 Inv-loop μ-loop
-add-values-3 c = record { fits = omega (arith, c .before .before .loop .inv .0, c .before .loop-test .taken, c .before .before .before .pre .0, c .before .before .before .pre .1, c .before .before .loop .inv .1 .size, c .before .before .before .good .0 .0, c .before .before .before .good .1 .1 .0 .0) }
+add-values-3 c = record { fits = omega arith }
 
 slice-write-values-2 : tie.Need-slice-write-values-2 Inv-loop μ-loop
-slice-write-values-2 c = rw (length-set) (omega (arith, c .before .before .loop .inv .0, c .before .loop-test .taken, c .before .before .before .pre .0, c .before .before .before .pre .1, c .before .before .loop .inv .1 .size, c .before .before .before .good .0 .0, c .before .before .before .good .1 .1 .0 .0))
+slice-write-values-2 c = rw (length-set) (omega arith)
 
 add-q : tie.Need-add-q Inv-loop μ-loop
-add-q c = record { fits = omega (arith, c .before .before .loop .inv .0, c .before .loop-test .taken, c .before .before .before .pre .0, c .before .before .before .pre .1, c .before .before .loop .inv .1 .size, c .before .before .before .good .0 .0, c .before .before .before .good .1 .1 .0 .0) }
+add-q c = record { fits = omega arith }
 
 loop-less : tie.Need-loop-less Inv-loop μ-loop
-loop-less c = omega (arith, c .before .before .loop .inv .0, c .before .loop-test .taken, c .before .before .before .pre .0, c .before .before .before .pre .1, c .before .before .loop .inv .1 .size, c .before .before .before .good .0 .0, c .before .before .before .good .1 .1 .0 .0)
+loop-less c = omega arith
 
 loop-again : tie.Need-loop-again Inv-loop μ-loop
 loop-again c =
@@ -60,16 +60,16 @@ loop-again c =
     let q = c .before .before .loop .q in
     let bit = nth (a .tape .now) (a .used + q) in
     let is : bit ≡ byte (isSet bit) = set-byte bit (c .before .before .before .pre .2 (a .used + q)) in (
-      omega (arith, c .before .before .loop .inv .0, c .before .loop-test .taken, c .before .before .before .pre .0, c .before .before .before .pre .1, c .before .before .loop .inv .1 .size, c .before .before .before .good .0 .0, c .before .before .before .good .1 .1 .0 .0),
-      fills-at refl (omega arith) (fills-set bit (fills-set bit (c .before .before .loop .inv .1) (omega arith) (omega (arith, c .before .before .loop .inv .0, c .before .loop-test .taken, c .before .before .before .pre .0, c .before .before .before .pre .1, c .before .before .loop .inv .1 .size, c .before .before .before .good .0 .0, c .before .before .before .good .1 .1 .0 .0)) (λ v e k. is ∙ ap byte (sym (e q (c .before .loop-test .taken) .0))))
-          (omega arith) (omega (arith, c .before .before .loop .inv .0, c .before .loop-test .taken, c .before .before .before .pre .0, c .before .before .before .pre .1, c .before .before .loop .inv .1 .size, c .before .before .before .good .0 .0, c .before .before .before .good .1 .1 .0 .0)) (λ v e k. is ∙ ap byte (sym (e q (c .before .loop-test .taken) .1)))),
+      omega arith,
+      fills-at refl (omega arith) (fills-set bit (fills-set bit (c .before .before .loop .inv .1) (omega arith) (omega arith) (λ v e k. is ∙ ap byte (sym (e q (c .before .loop-test .taken) .0))))
+          (omega arith) (omega arith) (λ v e k. is ∙ ap byte (sym (e q (c .before .loop-test .taken) .1)))),
     )
 
 same-length : tie.Need-same-length Inv-loop μ-loop
 same-length c = c .before .loop .inv .1 .size
 
 returns : tie.Need-returns Inv-loop μ-loop
-returns c = fills-at refl (omega (arith, c .before .loop .inv .0, c .loop-test .left, c .before .before .pre .0, c .before .before .pre .1, c .before .loop .inv .1 .size, c .before .before .good .0 .0, c .before .before .good .1 .1 .0 .0)) (c .before .loop .inv .1)
+returns c = fills-at refl (omega arith) (c .before .loop .inv .1)
 
 pub draws-spec : {M : Type 1} → statement M
 draws-spec =

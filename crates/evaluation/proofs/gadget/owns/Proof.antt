@@ -20,88 +20,73 @@ abbrev μ-loop : tie.MeasureT-loop
 μ-loop values₀ first d ops start i₀ values i = d - i
 
 sub-start : tie.Need-sub-start Inv-loop μ-loop
-sub-start c = omega (arith, c .pre .0 .0, c .pre .0 .1, c .pre .0 .2, c .pre .1, c .pre .4, c .good .0 .0, eights (c .args .d) (c .args .d - 1) (omega (arith, c .pre .0 .2)) (omega (arith, c .pre .0 .2)))
+sub-start c = omega arith
 
 mul-start : tie.Need-mul-start Inv-loop μ-loop
-mul-start c = record { fits = omega (arith, c .pre .0 .0, c .pre .0 .1, c .pre .0 .2, c .pre .1, c .pre .4, c .good .0 .0, eights (c .args .d) (c .args .d - 1) (omega (arith, c .pre .0 .2)) (omega (arith, c .pre .0 .2))) }
+mul-start c = record { fits = omega arith }
 
 add-start : tie.Need-add-start Inv-loop μ-loop
-add-start c = record { fits = omega (arith, c .pre .0 .0, c .pre .0 .1, c .pre .0 .2, c .pre .1, c .pre .4, c .good .0 .0, eights (c .args .d) (c .args .d - 1) (omega (arith, c .pre .0 .2)) (omega (arith, c .pre .0 .2))) }
+add-start c = record { fits = omega arith }
 
 loop-holds : tie.Need-loop-holds Inv-loop μ-loop
 loop-holds c = (omega arith, fills-none (ownAt (c .args .d) (c .args .first) 0) (c .args .values .now))
 
-add-x : tie.Need-add-x Inv-loop μ-loop
-add-x c = search needs
-
-mul-x : tie.Need-mul-x Inv-loop μ-loop
-mul-x c = search needs
-
 shared-slice-read-x : tie.Need-shared-slice-read-x Inv-loop μ-loop
-shared-slice-read-x c = omega (arith, c .before .before .loop .inv .0, c .before .loop-test .taken, c .before .before .before .pre .0 .0, c .before .before .before .pre .0 .1, c .before .before .before .pre .0 .2, c .before .before .before .pre .1, c .before .before .before .pre .4, c .before .before .loop .inv .1 .size, c .before .before .before .good .0 .0, eights (c .before .before .before .args .d) (c .before .before .before .args .d - 1) (omega (arith, c .before .before .before .pre .0 .2)) (omega (arith, c .before .before .before .pre .0 .2)), c .before .before .before .pre .2 (c .before .before .loop .i) (c .before .loop-test .taken), c .before .before .before .pre .3 (c .before .before .loop .i) (c .before .loop-test .taken))
+shared-slice-read-x c = omega arith
 
 cast-x : tie.Need-cast-x Inv-loop μ-loop
-cast-x c = record { fits = omega (arith, c .before .before .loop .inv .0, c .before .loop-test .taken, c .before .before .before .pre .0 .0, c .before .before .before .pre .0 .1, c .before .before .before .pre .0 .2, c .before .before .before .pre .1, c .before .before .before .pre .4, c .before .before .loop .inv .1 .size, c .before .before .before .good .0 .0, eights (c .before .before .before .args .d) (c .before .before .before .args .d - 1) (omega (arith, c .before .before .before .pre .0 .2)) (omega (arith, c .before .before .before .pre .0 .2)), c .before .before .before .pre .2 (c .before .before .loop .i) (c .before .loop-test .taken), c .before .before .before .pre .3 (c .before .before .loop .i) (c .before .loop-test .taken)) }
-
-add-y : tie.Need-add-y Inv-loop μ-loop
-add-y c = search needs
-
-add-y-2 : tie.Need-add-y-2 Inv-loop μ-loop
-add-y-2 c = search needs
-
-mul-y : tie.Need-mul-y Inv-loop μ-loop
-mul-y c = search needs
+cast-x c = record { fits = omega (arith, eights (c .before .before .before .args .d) (c .before .before .before .args .d - 1) (omega arith) (omega arith), c .before .before .before .pre .2 (c .before .before .loop .i) (c .before .loop-test .taken), c .before .before .before .pre .3 (c .before .before .loop .i) (c .before .loop-test .taken)) }
 
 shared-slice-read-y : tie.Need-shared-slice-read-y Inv-loop μ-loop
-shared-slice-read-y c = omega (arith, c .before .before .before .loop .inv .0, c .before .before .loop-test .taken, c .before .before .before .before .pre .0 .0, c .before .before .before .before .pre .0 .1, c .before .before .before .before .pre .0 .2, c .before .before .before .before .pre .1, c .before .before .before .before .pre .4, c .before .before .before .loop .inv .1 .size, c .before .before .before .before .good .0 .0, eights (c .before .before .before .before .args .d) (c .before .before .before .before .args .d - 1) (omega (arith, c .before .before .before .before .pre .0 .2)) (omega (arith, c .before .before .before .before .pre .0 .2)), c .before .before .before .before .pre .2 (c .before .before .before .loop .i) (c .before .before .loop-test .taken), c .before .before .before .before .pre .3 (c .before .before .before .loop .i) (c .before .before .loop-test .taken))
+shared-slice-read-y c = omega arith
 
 cast-y : tie.Need-cast-y Inv-loop μ-loop
-cast-y c = record { fits = omega (arith, c .before .before .before .loop .inv .0, c .before .before .loop-test .taken, c .before .before .before .before .pre .0 .0, c .before .before .before .before .pre .0 .1, c .before .before .before .before .pre .0 .2, c .before .before .before .before .pre .1, c .before .before .before .before .pre .4, c .before .before .before .loop .inv .1 .size, c .before .before .before .before .good .0 .0, eights (c .before .before .before .before .args .d) (c .before .before .before .before .args .d - 1) (omega (arith, c .before .before .before .before .pre .0 .2)) (omega (arith, c .before .before .before .before .pre .0 .2)), c .before .before .before .before .pre .2 (c .before .before .before .loop .i) (c .before .before .loop-test .taken), c .before .before .before .before .pre .3 (c .before .before .before .loop .i) (c .before .before .loop-test .taken)) }
+cast-y c = record { fits = omega (arith, eights (c .before .before .before .before .args .d) (c .before .before .before .before .args .d - 1) (omega arith) (omega arith), c .before .before .before .before .pre .2 (c .before .before .before .loop .i) (c .before .before .loop-test .taken), c .before .before .before .before .pre .3 (c .before .before .before .loop .i) (c .before .before .loop-test .taken)) }
 
 slice-read-b : tie.Need-slice-read-b Inv-loop μ-loop
-slice-read-b c = omega (arith, c .before .before .before .before .loop .inv .0, c .before .before .before .loop-test .taken, c .before .before .before .before .before .pre .0 .0, c .before .before .before .before .before .pre .0 .1, c .before .before .before .before .before .pre .0 .2, c .before .before .before .before .before .pre .1, c .before .before .before .before .before .pre .4, c .before .before .before .before .loop .inv .1 .size, c .before .before .before .before .before .good .0 .0, eights (c .before .before .before .before .before .args .d) (c .before .before .before .before .before .args .d - 1) (omega (arith, c .before .before .before .before .before .pre .0 .2)) (omega (arith, c .before .before .before .before .before .pre .0 .2)), c .before .before .before .before .before .pre .2 (c .before .before .before .before .loop .i) (c .before .before .before .loop-test .taken), c .before .before .before .before .before .pre .3 (c .before .before .before .before .loop .i) (c .before .before .before .loop-test .taken))
+slice-read-b c = omega (arith, eights (c .before .before .before .before .before .args .d) (c .before .before .before .before .before .args .d - 1) (omega arith) (omega arith), c .before .before .before .before .before .pre .2 (c .before .before .before .before .loop .i) (c .before .before .before .loop-test .taken), c .before .before .before .before .before .pre .3 (c .before .before .before .before .loop .i) (c .before .before .before .loop-test .taken))
 
 slice-read-m : tie.Need-slice-read-m Inv-loop μ-loop
-slice-read-m c = omega (arith, c .before .before .before .before .before .loop .inv .0, c .before .before .before .before .loop-test .taken, c .before .before .before .before .before .before .pre .0 .0, c .before .before .before .before .before .before .pre .0 .1, c .before .before .before .before .before .before .pre .0 .2, c .before .before .before .before .before .before .pre .1, c .before .before .before .before .before .before .pre .4, c .before .before .before .before .before .loop .inv .1 .size, c .before .before .before .before .before .before .good .0 .0, eights (c .before .before .before .before .before .before .args .d) (c .before .before .before .before .before .before .args .d - 1) (omega (arith, c .before .before .before .before .before .before .pre .0 .2)) (omega (arith, c .before .before .before .before .before .before .pre .0 .2)), c .before .before .before .before .before .before .pre .2 (c .before .before .before .before .before .loop .i) (c .before .before .before .before .loop-test .taken), c .before .before .before .before .before .before .pre .3 (c .before .before .before .before .before .loop .i) (c .before .before .before .before .loop-test .taken))
+slice-read-m c = omega (arith, eights (c .before .before .before .before .before .before .args .d) (c .before .before .before .before .before .before .args .d - 1) (omega arith) (omega arith), c .before .before .before .before .before .before .pre .2 (c .before .before .before .before .before .loop .i) (c .before .before .before .before .loop-test .taken), c .before .before .before .before .before .before .pre .3 (c .before .before .before .before .before .loop .i) (c .before .before .before .before .loop-test .taken))
 
 mul-values : tie.Need-mul-values Inv-loop μ-loop
-mul-values c = record { fits = omega (arith, c .before .before .before .before .before .loop .inv .0, c .before .before .before .before .loop-test .taken, c .before .before .before .before .before .before .pre .0 .0, c .before .before .before .before .before .before .pre .0 .1, c .before .before .before .before .before .before .pre .0 .2, c .before .before .before .before .before .before .pre .1, c .before .before .before .before .before .before .pre .4, c .before .before .before .before .before .loop .inv .1 .size, c .before .before .before .before .before .before .good .0 .0, eights (c .before .before .before .before .before .before .args .d) (c .before .before .before .before .before .before .args .d - 1) (omega (arith, c .before .before .before .before .before .before .pre .0 .2)) (omega (arith, c .before .before .before .before .before .before .pre .0 .2)), c .before .before .before .before .before .before .pre .2 (c .before .before .before .before .before .loop .i) (c .before .before .before .before .loop-test .taken), c .before .before .before .before .before .before .pre .3 (c .before .before .before .before .before .loop .i) (c .before .before .before .before .loop-test .taken)) }
+mul-values c = record { fits = omega arith }
 
 add-values : tie.Need-add-values Inv-loop μ-loop
-add-values c = record { fits = omega (arith, c .before .before .before .before .before .loop .inv .0, c .before .before .before .before .loop-test .taken, c .before .before .before .before .before .before .pre .0 .0, c .before .before .before .before .before .before .pre .0 .1, c .before .before .before .before .before .before .pre .0 .2, c .before .before .before .before .before .before .pre .1, c .before .before .before .before .before .before .pre .4, c .before .before .before .before .before .loop .inv .1 .size, c .before .before .before .before .before .before .good .0 .0, eights (c .before .before .before .before .before .before .args .d) (c .before .before .before .before .before .before .args .d - 1) (omega (arith, c .before .before .before .before .before .before .pre .0 .2)) (omega (arith, c .before .before .before .before .before .before .pre .0 .2)), c .before .before .before .before .before .before .pre .2 (c .before .before .before .before .before .loop .i) (c .before .before .before .before .loop-test .taken), c .before .before .before .before .before .before .pre .3 (c .before .before .before .before .before .loop .i) (c .before .before .before .before .loop-test .taken)) }
+add-values c = record { fits = omega arith }
 
 slice-write-values : tie.Need-slice-write-values Inv-loop μ-loop
-slice-write-values c = omega (arith, c .before .before .before .before .before .loop .inv .0, c .before .before .before .before .loop-test .taken, c .before .before .before .before .before .before .pre .0 .0, c .before .before .before .before .before .before .pre .0 .1, c .before .before .before .before .before .before .pre .0 .2, c .before .before .before .before .before .before .pre .1, c .before .before .before .before .before .before .pre .4, c .before .before .before .before .before .loop .inv .1 .size, c .before .before .before .before .before .before .good .0 .0, eights (c .before .before .before .before .before .before .args .d) (c .before .before .before .before .before .before .args .d - 1) (omega (arith, c .before .before .before .before .before .before .pre .0 .2)) (omega (arith, c .before .before .before .before .before .before .pre .0 .2)), c .before .before .before .before .before .before .pre .2 (c .before .before .before .before .before .loop .i) (c .before .before .before .before .loop-test .taken), c .before .before .before .before .before .before .pre .3 (c .before .before .before .before .before .loop .i) (c .before .before .before .before .loop-test .taken))
+slice-write-values c = omega arith
 
 mul-values-2 : tie.Need-mul-values-2 Inv-loop μ-loop
-mul-values-2 c = record { fits = omega (arith, c .before .before .before .before .before .loop .inv .0, c .before .before .before .before .loop-test .taken, c .before .before .before .before .before .before .pre .0 .0, c .before .before .before .before .before .before .pre .0 .1, c .before .before .before .before .before .before .pre .0 .2, c .before .before .before .before .before .before .pre .1, c .before .before .before .before .before .before .pre .4, c .before .before .before .before .before .loop .inv .1 .size, c .before .before .before .before .before .before .good .0 .0, eights (c .before .before .before .before .before .before .args .d) (c .before .before .before .before .before .before .args .d - 1) (omega (arith, c .before .before .before .before .before .before .pre .0 .2)) (omega (arith, c .before .before .before .before .before .before .pre .0 .2)), c .before .before .before .before .before .before .pre .2 (c .before .before .before .before .before .loop .i) (c .before .before .before .before .loop-test .taken), c .before .before .before .before .before .before .pre .3 (c .before .before .before .before .before .loop .i) (c .before .before .before .before .loop-test .taken)) }
+mul-values-2 c = record { fits = omega arith }
 
 add-values-2 : tie.Need-add-values-2 Inv-loop μ-loop
-add-values-2 c = record { fits = omega (arith, c .before .before .before .before .before .loop .inv .0, c .before .before .before .before .loop-test .taken, c .before .before .before .before .before .before .pre .0 .0, c .before .before .before .before .before .before .pre .0 .1, c .before .before .before .before .before .before .pre .0 .2, c .before .before .before .before .before .before .pre .1, c .before .before .before .before .before .before .pre .4, c .before .before .before .before .before .loop .inv .1 .size, c .before .before .before .before .before .before .good .0 .0, eights (c .before .before .before .before .before .before .args .d) (c .before .before .before .before .before .before .args .d - 1) (omega (arith, c .before .before .before .before .before .before .pre .0 .2)) (omega (arith, c .before .before .before .before .before .before .pre .0 .2)), c .before .before .before .before .before .before .pre .2 (c .before .before .before .before .before .loop .i) (c .before .before .before .before .loop-test .taken), c .before .before .before .before .before .before .pre .3 (c .before .before .before .before .before .loop .i) (c .before .before .before .before .loop-test .taken)) }
+add-values-2 c = record { fits = omega arith }
 
 add-values-3 : tie.Need-add-values-3 Inv-loop μ-loop
-add-values-3 c = record { fits = omega (arith, c .before .before .before .before .before .loop .inv .0, c .before .before .before .before .loop-test .taken, c .before .before .before .before .before .before .pre .0 .0, c .before .before .before .before .before .before .pre .0 .1, c .before .before .before .before .before .before .pre .0 .2, c .before .before .before .before .before .before .pre .1, c .before .before .before .before .before .before .pre .4, c .before .before .before .before .before .loop .inv .1 .size, c .before .before .before .before .before .before .good .0 .0, eights (c .before .before .before .before .before .before .args .d) (c .before .before .before .before .before .before .args .d - 1) (omega (arith, c .before .before .before .before .before .before .pre .0 .2)) (omega (arith, c .before .before .before .before .before .before .pre .0 .2)), c .before .before .before .before .before .before .pre .2 (c .before .before .before .before .before .loop .i) (c .before .before .before .before .loop-test .taken), c .before .before .before .before .before .before .pre .3 (c .before .before .before .before .before .loop .i) (c .before .before .before .before .loop-test .taken)) }
+add-values-3 c = record { fits = omega arith }
 
 slice-write-values-2 : tie.Need-slice-write-values-2 Inv-loop μ-loop
-slice-write-values-2 c = rw (length-set) (omega (arith, c .before .before .before .before .before .loop .inv .0, c .before .before .before .before .loop-test .taken, c .before .before .before .before .before .before .pre .0 .0, c .before .before .before .before .before .before .pre .0 .1, c .before .before .before .before .before .before .pre .0 .2, c .before .before .before .before .before .before .pre .1, c .before .before .before .before .before .before .pre .4, c .before .before .before .before .before .loop .inv .1 .size, c .before .before .before .before .before .before .good .0 .0, eights (c .before .before .before .before .before .before .args .d) (c .before .before .before .before .before .before .args .d - 1) (omega (arith, c .before .before .before .before .before .before .pre .0 .2)) (omega (arith, c .before .before .before .before .before .before .pre .0 .2)), c .before .before .before .before .before .before .pre .2 (c .before .before .before .before .before .loop .i) (c .before .before .before .before .loop-test .taken), c .before .before .before .before .before .before .pre .3 (c .before .before .before .before .before .loop .i) (c .before .before .before .before .loop-test .taken)))
+slice-write-values-2 c = rw (length-set) (omega arith)
 
 mul-values-3 : tie.Need-mul-values-3 Inv-loop μ-loop
-mul-values-3 c = record { fits = omega (arith, c .before .before .before .before .before .loop .inv .0, c .before .before .before .before .loop-test .taken, c .before .before .before .before .before .before .pre .0 .0, c .before .before .before .before .before .before .pre .0 .1, c .before .before .before .before .before .before .pre .0 .2, c .before .before .before .before .before .before .pre .1, c .before .before .before .before .before .before .pre .4, c .before .before .before .before .before .loop .inv .1 .size, c .before .before .before .before .before .before .good .0 .0, eights (c .before .before .before .before .before .before .args .d) (c .before .before .before .before .before .before .args .d - 1) (omega (arith, c .before .before .before .before .before .before .pre .0 .2)) (omega (arith, c .before .before .before .before .before .before .pre .0 .2)), c .before .before .before .before .before .before .pre .2 (c .before .before .before .before .before .loop .i) (c .before .before .before .before .loop-test .taken), c .before .before .before .before .before .before .pre .3 (c .before .before .before .before .before .loop .i) (c .before .before .before .before .loop-test .taken)) }
+mul-values-3 c = record { fits = omega arith }
 
 add-values-4 : tie.Need-add-values-4 Inv-loop μ-loop
-add-values-4 c = record { fits = omega (arith, c .before .before .before .before .before .loop .inv .0, c .before .before .before .before .loop-test .taken, c .before .before .before .before .before .before .pre .0 .0, c .before .before .before .before .before .before .pre .0 .1, c .before .before .before .before .before .before .pre .0 .2, c .before .before .before .before .before .before .pre .1, c .before .before .before .before .before .before .pre .4, c .before .before .before .before .before .loop .inv .1 .size, c .before .before .before .before .before .before .good .0 .0, eights (c .before .before .before .before .before .before .args .d) (c .before .before .before .before .before .before .args .d - 1) (omega (arith, c .before .before .before .before .before .before .pre .0 .2)) (omega (arith, c .before .before .before .before .before .before .pre .0 .2)), c .before .before .before .before .before .before .pre .2 (c .before .before .before .before .before .loop .i) (c .before .before .before .before .loop-test .taken), c .before .before .before .before .before .before .pre .3 (c .before .before .before .before .before .loop .i) (c .before .before .before .before .loop-test .taken)) }
+add-values-4 c = record { fits = omega arith }
 
 add-values-5 : tie.Need-add-values-5 Inv-loop μ-loop
-add-values-5 c = record { fits = omega (arith, c .before .before .before .before .before .loop .inv .0, c .before .before .before .before .loop-test .taken, c .before .before .before .before .before .before .pre .0 .0, c .before .before .before .before .before .before .pre .0 .1, c .before .before .before .before .before .before .pre .0 .2, c .before .before .before .before .before .before .pre .1, c .before .before .before .before .before .before .pre .4, c .before .before .before .before .before .loop .inv .1 .size, c .before .before .before .before .before .before .good .0 .0, eights (c .before .before .before .before .before .before .args .d) (c .before .before .before .before .before .before .args .d - 1) (omega (arith, c .before .before .before .before .before .before .pre .0 .2)) (omega (arith, c .before .before .before .before .before .before .pre .0 .2)), c .before .before .before .before .before .before .pre .2 (c .before .before .before .before .before .loop .i) (c .before .before .before .before .loop-test .taken), c .before .before .before .before .before .before .pre .3 (c .before .before .before .before .before .loop .i) (c .before .before .before .before .loop-test .taken)) }
+add-values-5 c = record { fits = omega arith }
 
 slice-write-values-3 : tie.Need-slice-write-values-3 Inv-loop μ-loop
-slice-write-values-3 c = rw (length-set, length-set) (omega (arith, c .before .before .before .before .before .loop .inv .0, c .before .before .before .before .loop-test .taken, c .before .before .before .before .before .before .pre .0 .0, c .before .before .before .before .before .before .pre .0 .1, c .before .before .before .before .before .before .pre .0 .2, c .before .before .before .before .before .before .pre .1, c .before .before .before .before .before .before .pre .4, c .before .before .before .before .before .loop .inv .1 .size, c .before .before .before .before .before .before .good .0 .0, eights (c .before .before .before .before .before .before .args .d) (c .before .before .before .before .before .before .args .d - 1) (omega (arith, c .before .before .before .before .before .before .pre .0 .2)) (omega (arith, c .before .before .before .before .before .before .pre .0 .2)), c .before .before .before .before .before .before .pre .2 (c .before .before .before .before .before .loop .i) (c .before .before .before .before .loop-test .taken), c .before .before .before .before .before .before .pre .3 (c .before .before .before .before .before .loop .i) (c .before .before .before .before .loop-test .taken)))
+slice-write-values-3 c = rw (length-set, length-set) (omega arith)
 
 add-i : tie.Need-add-i Inv-loop μ-loop
-add-i c = record { fits = omega (arith, c .before .before .before .before .before .loop .inv .0, c .before .before .before .before .loop-test .taken, c .before .before .before .before .before .before .pre .0 .0, c .before .before .before .before .before .before .pre .0 .1, c .before .before .before .before .before .before .pre .0 .2, c .before .before .before .before .before .before .pre .1, c .before .before .before .before .before .before .pre .4, c .before .before .before .before .before .loop .inv .1 .size, c .before .before .before .before .before .before .good .0 .0, eights (c .before .before .before .before .before .before .args .d) (c .before .before .before .before .before .before .args .d - 1) (omega (arith, c .before .before .before .before .before .before .pre .0 .2)) (omega (arith, c .before .before .before .before .before .before .pre .0 .2)), c .before .before .before .before .before .before .pre .2 (c .before .before .before .before .before .loop .i) (c .before .before .before .before .loop-test .taken), c .before .before .before .before .before .before .pre .3 (c .before .before .before .before .before .loop .i) (c .before .before .before .before .loop-test .taken)) }
+add-i c = record { fits = omega arith }
 
 loop-less : tie.Need-loop-less Inv-loop μ-loop
-loop-less c = omega (arith, c .before .before .before .before .before .loop .inv .0, c .before .before .before .before .loop-test .taken, c .before .before .before .before .before .before .pre .0 .0, c .before .before .before .before .before .before .pre .0 .1, c .before .before .before .before .before .before .pre .0 .2, c .before .before .before .before .before .before .pre .1, c .before .before .before .before .before .before .pre .4, c .before .before .before .before .before .loop .inv .1 .size, c .before .before .before .before .before .before .good .0 .0, eights (c .before .before .before .before .before .before .args .d) (c .before .before .before .before .before .before .args .d - 1) (omega (arith, c .before .before .before .before .before .before .pre .0 .2)) (omega (arith, c .before .before .before .before .before .before .pre .0 .2)), c .before .before .before .before .before .before .pre .2 (c .before .before .before .before .before .loop .i) (c .before .before .before .before .loop-test .taken), c .before .before .before .before .before .before .pre .3 (c .before .before .before .before .before .loop .i) (c .before .before .before .before .loop-test .taken))
+loop-less c = omega arith
 
 loop-again : tie.Need-loop-again Inv-loop μ-loop
 loop-again c =
@@ -115,13 +100,13 @@ loop-again c =
     let l = c .before .before .before .before .loop-test .taken in
     let early = c .before .before .before .before .before .before .pre .2 i l in
     let late = c .before .before .before .before .before .before .pre .3 i l in
-    (omega (arith, c .before .before .before .before .before .loop .inv .0, c .before .before .before .before .loop-test .taken, c .before .before .before .before .before .before .pre .0 .0, c .before .before .before .before .before .before .pre .0 .1, c .before .before .before .before .before .before .pre .0 .2, c .before .before .before .before .before .before .pre .1, c .before .before .before .before .before .before .pre .4, c .before .before .before .before .before .loop .inv .1 .size, c .before .before .before .before .before .before .good .0 .0, eights (c .before .before .before .before .before .before .args .d) (c .before .before .before .before .before .before .args .d - 1) (omega (arith, c .before .before .before .before .before .before .pre .0 .2)) (omega (arith, c .before .before .before .before .before .before .pre .0 .2)), c .before .before .before .before .before .before .pre .2 (c .before .before .before .before .before .loop .i) (c .before .before .before .before .loop-test .taken), c .before .before .before .before .before .before .pre .3 (c .before .before .before .before .before .loop .i) (c .before .before .before .before .loop-test .taken)), owned-turn d first (wordA (a .ops .now)) (wordB d (a .ops .now)) (a .values .now) (c .before .before .before .before .before .loop .values) i l (omega (arith, c .before .before .before .before .before .loop .inv .0, c .before .before .before .before .loop-test .taken, c .before .before .before .before .before .before .pre .0 .0, c .before .before .before .before .before .before .pre .0 .1, c .before .before .before .before .before .before .pre .0 .2, c .before .before .before .before .before .before .pre .1, c .before .before .before .before .before .before .pre .4, c .before .before .before .before .before .loop .inv .1 .size, c .before .before .before .before .before .before .good .0 .0, eights (c .before .before .before .before .before .before .args .d) (c .before .before .before .before .before .before .args .d - 1) (omega (arith, c .before .before .before .before .before .before .pre .0 .2)) (omega (arith, c .before .before .before .before .before .before .pre .0 .2)), c .before .before .before .before .before .before .pre .2 (c .before .before .before .before .before .loop .i) (c .before .before .before .before .loop-test .taken), c .before .before .before .before .before .before .pre .3 (c .before .before .before .before .before .loop .i) (c .before .before .before .before .loop-test .taken))) early late (c .before .before .before .before .before .loop .inv .1))
+    (omega arith, owned-turn d first (wordA (a .ops .now)) (wordB d (a .ops .now)) (a .values .now) (c .before .before .before .before .before .loop .values) i l (omega arith) early late (c .before .before .before .before .before .loop .inv .1))
 
 same-length : tie.Need-same-length Inv-loop μ-loop
 same-length c = c .before .loop .inv .1 .size
 
 returns : tie.Need-returns Inv-loop μ-loop
-returns c = fills-at refl (omega (arith, c .before .loop .inv .0, c .loop-test .left, c .before .before .pre .0 .0, c .before .before .pre .0 .1, c .before .before .pre .0 .2, c .before .before .pre .1, c .before .before .pre .4, c .before .loop .inv .1 .size, c .before .before .good .0 .0, eights (c .before .before .args .d) (c .before .before .args .d - 1) (omega (arith, c .before .before .pre .0 .2)) (omega (arith, c .before .before .pre .0 .2)))) (c .before .loop .inv .1)
+returns c = fills-at refl (omega arith) (c .before .loop .inv .1)
 
 pub owns-spec : {M : Type 1} → statement M
 owns-spec =
@@ -133,13 +118,13 @@ owns-spec =
     mul-start
     add-start
     loop-holds
-    add-x
-    mul-x
+    (λ c. search needs)
+    (λ c. search needs)
     shared-slice-read-x
     cast-x
-    add-y
-    add-y-2
-    mul-y
+    (λ c. search needs)
+    (λ c. search needs)
+    (λ c. search needs)
     shared-slice-read-y
     cast-y
     slice-read-b

@@ -1,5 +1,4 @@
 -- `evaluation::gadget::refresh` meets its contract.
-use Prim.Native.Nat.{_-_}
 use native.Mathlib.Omega.{arith}
 use borrow.Author.Needs.{needs}
 use Rattle.circuit.specs.Kinds.{pairs}
@@ -9,19 +8,16 @@ use Rattle.evaluation.specs.Places.{wordA}
 use Rattle.evaluation.proofs.Gadgets.{ref-filled}
 
 pairs-requires : tie.Need-pairs-requires
-pairs-requires c κs = (omega (arith, c .before .before .before .before .pre .0 .0, c .before .before .before .before .pre .0 .1, c .before .before .before .before .pre .0 .2, c .before .before .before .before .pre .1, c .before .before .before .before .pre .3, c .before .before .before .before .pre .4), omega (arith, c .before .before .before .before .pre .0 .0, c .before .before .before .before .pre .0 .1, c .before .before .before .before .pre .0 .2, c .before .before .before .before .pre .1, c .before .before .before .before .pre .3, c .before .before .before .before .pre .4))
+pairs-requires c κs = (omega arith, omega arith)
 
 copy-requires : tie.Need-copy-requires
-copy-requires c κs = (omega (arith, c .before .before .before .before .before .pre .0 .0, c .before .before .before .before .before .pre .0 .1, c .before .before .before .before .before .pre .0 .2, c .before .before .before .before .before .pre .1, c .before .before .before .before .before .pre .3, c .before .before .before .before .before .pre .4, c .pairs .ensures .0, c .pairs .ensures .1), omega (arith, c .before .before .before .before .before .pre .0 .0, c .before .before .before .before .before .pre .0 .1, c .before .before .before .before .before .pre .0 .2, c .before .before .before .before .before .pre .1, c .before .before .before .before .before .pre .3, c .before .before .before .before .before .pre .4, c .pairs .ensures .0, c .pairs .ensures .1), c .before .before .before .before .before .pre .5)
+copy-requires c κs = (omega arith, omega arith, c .before .before .before .before .before .pre .5)
 
 sums-requires : tie.Need-sums-requires
-sums-requires c κs = (c .before .before .before .before .before .before .before .before .before .pre .0, c .before .before .before .before .before .before .before .before .before .pre .1, c .before .before .before .before .before .before .before .before .before .pre .2, omega (arith, c .before .before .before .before .before .before .before .before .before .pre .0 .0, c .before .before .before .before .before .before .before .before .before .pre .0 .1, c .before .before .before .before .before .before .before .before .before .pre .0 .2, c .before .before .before .before .before .before .before .before .before .pre .1, c .before .before .before .before .before .before .before .before .before .pre .3, c .before .before .before .before .before .before .before .before .before .pre .4, c .before .before .before .before .pairs .ensures .0, c .before .before .before .before .pairs .ensures .1, c .before .before .before .copy .ensures .size))
+sums-requires c κs = (c .before .before .before .before .before .before .before .before .before .pre .0, c .before .before .before .before .before .before .before .before .before .pre .1, c .before .before .before .before .before .before .before .before .before .pre .2, omega arith)
 
 holds-requires : tie.Need-holds-requires
-holds-requires c κs = (c .before .before .before .before .before .before .before .before .before .before .before .before .before .pre .0, omega (arith, c .before .before .before .before .before .before .before .before .before .before .before .before .before .pre .0 .0, c .before .before .before .before .before .before .before .before .before .before .before .before .before .pre .0 .1, c .before .before .before .before .before .before .before .before .before .before .before .before .before .pre .0 .2, c .before .before .before .before .before .before .before .before .before .before .before .before .before .pre .1, c .before .before .before .before .before .before .before .before .before .before .before .before .before .pre .3, c .before .before .before .before .before .before .before .before .before .before .before .before .before .pre .4, c .before .before .before .before .before .before .before .before .pairs .ensures .0, c .before .before .before .before .before .before .before .before .pairs .ensures .1, c .before .before .before .before .before .before .before .copy .ensures .size, c .before .before .before .sums .ensures .size))
-
-same-length : tie.Need-same-length
-same-length c = search needs
+holds-requires c κs = (c .before .before .before .before .before .before .before .before .before .before .before .before .before .pre .0, omega arith)
 
 returns : tie.Need-returns
 returns c =
@@ -32,4 +28,4 @@ returns c =
 pub refresh-spec : {M : Type 1} → statement M
 refresh-spec =
     tie.close
-    (tie.spec pairs-requires copy-requires sums-requires holds-requires same-length returns)
+    (tie.spec pairs-requires copy-requires sums-requires holds-requires (λ c. search needs) returns)

@@ -7,20 +7,11 @@ use Rattle.evaluation.proofs.Bounds.{eights}
 use Rattle.evaluation.proofs.places.cell_row.Statement.{statement}
 use Rattle.evaluation.proofs.places.cell_row.Tie as tie
 
-sub-result : tie.Need-sub-result
-sub-result c = search needs
-
 mul-result : tie.Need-mul-result
 mul-result c = record { fits = omega (arith, eights (c .args .d) (c .args .d - 1) (omega arith) (omega arith), eights (c .args .i) (c .args .d - 1) (omega arith) (omega arith)) }
 
-mul-result-2 : tie.Need-mul-result-2
-mul-result-2 c = search needs
-
 add-result : tie.Need-add-result
 add-result c = record { fits = omega (arith, eights (c .args .d) (c .args .d - 1) (omega arith) (omega arith), eights (c .args .i) (c .args .d - 1) (omega arith) (omega arith)) }
-
-sub-result-2 : tie.Need-sub-result-2
-sub-result-2 c = search needs
 
 mul-result-3 : tie.Need-mul-result-3
 mul-result-3 c = record { fits = omega (arith, eights (c .args .d) (c .args .d - 1) (omega arith) (omega arith), eights (c .args .i) (c .args .d - 1) (omega arith) (omega arith)) }
@@ -38,11 +29,11 @@ pub cell-row-spec : {M : Type 1} → statement M
 cell-row-spec =
     tie.close
     (tie.spec
-    sub-result
+    (λ c. search needs)
     mul-result
-    mul-result-2
+    (λ c. search needs)
     add-result
-    sub-result-2
+    (λ c. search needs)
     mul-result-3
     mul-result-4
     add-result-2

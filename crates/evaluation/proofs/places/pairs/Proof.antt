@@ -7,9 +7,6 @@ use Rattle.evaluation.proofs.places.pairs.Statement.{statement}
 use Rattle.evaluation.proofs.places.pairs.Tie as tie
 use Rattle.evaluation.proofs.Bounds.{eights}
 
-sub-result : tie.Need-sub-result
-sub-result c = search needs
-
 mul-result : tie.Need-mul-result
 mul-result c = record { fits = omega (arith, eights (c .args .d) (c .args .d - 1) (omega arith) (omega arith)) }
 
@@ -17,4 +14,4 @@ returns : tie.Need-returns
 returns c = (refl, omega (arith, eights (c .args .d) (c .args .d - 1) (omega arith) (omega arith)))
 
 pub pairs-spec : {M : Type 1} → statement M
-pairs-spec = tie.close (tie.spec sub-result mul-result returns)
+pairs-spec = tie.close (tie.spec (λ c. search needs) mul-result returns)

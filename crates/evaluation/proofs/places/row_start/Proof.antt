@@ -7,15 +7,6 @@ use Rattle.evaluation.proofs.Bounds.{sixteens}
 use Rattle.evaluation.proofs.places.row_start.Statement.{statement}
 use Rattle.evaluation.proofs.places.row_start.Tie as tie
 
-mul-result : tie.Need-mul-result
-mul-result c = search needs
-
-sub-result : tie.Need-sub-result
-sub-result c = search needs
-
-sub-result-2 : tie.Need-sub-result-2
-sub-result-2 c = search needs
-
 mul-result-2 : tie.Need-mul-result-2
 mul-result-2 c = record { fits = omega (arith, sixteens (c .args .i) (2 * c .args .d - c .args .i - 1) (omega arith) (omega arith)) }
 
@@ -23,4 +14,4 @@ returns : tie.Need-returns
 returns c = (refl, omega (arith, sixteens (c .args .i) (2 * c .args .d - c .args .i - 1) (omega arith) (omega arith)))
 
 pub row-start-spec : {M : Type 1} → statement M
-row-start-spec = tie.close (tie.spec mul-result sub-result sub-result-2 mul-result-2 returns)
+row-start-spec = tie.close (tie.spec (λ c. search needs) (λ c. search needs) (λ c. search needs) mul-result-2 returns)

@@ -5,9 +5,6 @@ use borrow.Author.Needs.{needs}
 use Rattle.evaluation.proofs.places.slot.Statement.{statement}
 use Rattle.evaluation.proofs.places.slot.Tie as tie
 
-sub-result : tie.Need-sub-result
-sub-result c = search needs
-
 returns : tie.Need-returns
 returns c = (rw (lt-ltb _ _ (c .if1 .taken)), omega arith)
 
@@ -15,4 +12,4 @@ returns-2 : tie.Need-returns-2
 returns-2 c = (rw (le-ltb _ _ (c .if1 .left)), omega arith)
 
 pub slot-spec : {M : Type 1} → statement M
-slot-spec = tie.close (tie.spec sub-result returns returns-2)
+slot-spec = tie.close (tie.spec (λ c. search needs) returns returns-2)

@@ -22,27 +22,27 @@ loop-holds : tie.Need-loop-holds Inv-loop μ-loop
 loop-holds c = (omega arith, c .before .pre .5, refl, refl)
 
 pair-site-requires : tie.Need-pair-site-requires Inv-loop μ-loop
-pair-site-requires c κs = (omega (arith, c .before .loop .inv .0, c .before .loop .inv .1, c .before .loop .inv .3, c .loop-test .taken, c .before .before .before .pre .0 .0, c .before .before .before .pre .0 .1, c .before .before .before .pre .0 .2, c .before .before .before .pre .1, c .before .before .before .pre .2, c .before .before .before .pre .3), omega (arith, c .before .loop .inv .0, c .before .loop .inv .1, c .before .loop .inv .3, c .loop-test .taken, c .before .before .before .pre .0 .0, c .before .before .before .pre .0 .1, c .before .before .before .pre .0 .2, c .before .before .before .pre .1, c .before .before .before .pre .2, c .before .before .before .pre .3), omega (arith, c .before .loop .inv .0, c .before .loop .inv .1, c .before .loop .inv .3, c .loop-test .taken, c .before .before .before .pre .0 .0, c .before .before .before .pre .0 .1, c .before .before .before .pre .0 .2, c .before .before .before .pre .1, c .before .before .before .pre .2, c .before .before .before .pre .3))
+pair-site-requires c κs = (omega arith, omega arith, omega arith)
 
 add-marks : tie.Need-add-marks Inv-loop μ-loop
-add-marks c = record { fits = omega (arith, c .before .before .loop .inv .0, c .before .before .loop .inv .1, c .before .before .loop .inv .3, c .before .loop-test .taken, c .before .before .before .before .pre .0 .0, c .before .before .before .before .pre .0 .1, c .before .before .before .before .pre .0 .2, c .before .before .before .before .pre .1, c .before .before .before .before .pre .2, c .before .before .before .before .pre .3, c .pair-site .ensures .0, c .pair-site .ensures .1) }
+add-marks c = record { fits = omega arith }
 
 slice-write-marks : tie.Need-slice-write-marks Inv-loop μ-loop
-slice-write-marks c = omega (arith, c .before .before .loop .inv .0, c .before .before .loop .inv .1, c .before .before .loop .inv .3, c .before .loop-test .taken, c .before .before .before .before .pre .0 .0, c .before .before .before .before .pre .0 .1, c .before .before .before .before .pre .0 .2, c .before .before .before .before .pre .1, c .before .before .before .before .pre .2, c .before .before .before .before .pre .3, c .pair-site .ensures .0, c .pair-site .ensures .1, pair-lt (c .before .before .before .before .args .d) (c .before .before .before .before .args .i) (c .before .before .loop .j) (c .before .before .before .before .pre .1) (omega (arith, c .before .loop-test .taken, c .before .before .before .before .pre .2)) (c .before .before .before .before .pre .4 (c .before .before .loop .j) (c .before .before .loop .inv .0) (c .before .loop-test .taken)))
+slice-write-marks c = omega (arith, pair-lt (c .before .before .before .before .args .d) (c .before .before .before .before .args .i) (c .before .before .loop .j) (c .before .before .before .before .pre .1) (omega arith) (c .before .before .before .before .pre .4 (c .before .before .loop .j) (c .before .before .loop .inv .0) (c .before .loop-test .taken)))
 
 add-j : tie.Need-add-j Inv-loop μ-loop
-add-j c = record { fits = omega (arith, c .before .before .loop .inv .0, c .before .before .loop .inv .1, c .before .before .loop .inv .3, c .before .loop-test .taken, c .before .before .before .before .pre .0 .0, c .before .before .before .before .pre .0 .1, c .before .before .before .before .pre .0 .2, c .before .before .before .before .pre .1, c .before .before .before .before .pre .2, c .before .before .before .before .pre .3, c .pair-site .ensures .0, c .pair-site .ensures .1) }
+add-j c = record { fits = omega arith }
 
 loop-less : tie.Need-loop-less Inv-loop μ-loop
-loop-less c = omega (arith, c .before .before .loop .inv .0, c .before .before .loop .inv .1, c .before .before .loop .inv .3, c .before .loop-test .taken, c .before .before .before .before .pre .0 .0, c .before .before .before .before .pre .0 .1, c .before .before .before .before .pre .0 .2, c .before .before .before .before .pre .1, c .before .before .before .before .pre .2, c .before .before .before .before .pre .3, c .pair-site .ensures .0, c .pair-site .ensures .1)
+loop-less c = omega arith
 
 loop-again : tie.Need-loop-again Inv-loop μ-loop
 loop-again c =
     let a = c .before .before .before .before .args in
     let l = c .before .before .loop in
-    let p : a .first + c .pair-site .result ≡ maskAt (a .d) (a .first) (a .i) (l .j) = omega (arith, c .pair-site .ensures .0) in (
-      omega (arith, c .before .before .loop .inv .0, c .before .before .loop .inv .1, c .before .before .loop .inv .3, c .before .loop-test .taken, c .before .before .before .before .pre .0 .0, c .before .before .before .before .pre .0 .1, c .before .before .before .before .pre .0 .2, c .before .before .before .before .pre .1, c .before .before .before .before .pre .2, c .before .before .before .before .pre .3, c .pair-site .ensures .0, c .pair-site .ensures .1),
-      omega (arith, c .before .before .loop .inv .0, c .before .before .loop .inv .1, c .before .before .loop .inv .3, c .before .loop-test .taken, c .before .before .before .before .pre .0 .0, c .before .before .before .before .pre .0 .1, c .before .before .before .before .pre .0 .2, c .before .before .before .before .pre .1, c .before .before .before .before .pre .2, c .before .before .before .before .pre .3, c .pair-site .ensures .0, c .pair-site .ensures .1),
+    let p : a .first + c .pair-site .result ≡ maskAt (a .d) (a .first) (a .i) (l .j) = omega arith in (
+      omega arith,
+      omega arith,
       ap (λ n. markAll (set (l .marks) n 1) (map (maskAt (a .d) (a .first) (a .i)) (range (l .j + 1) (a .to - (l .j + 1))))) p
           ∙ sym (ap (markAll (l .marks)) (masks-turn (maskAt (a .d) (a .first) (a .i)) (a .to) (l .j) (c .before .loop-test .taken))) ∙ l .inv .2,
       length-set (l .marks) (a .first + c .pair-site .result) 1 ∙ l .inv .3,

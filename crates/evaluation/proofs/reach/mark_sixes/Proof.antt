@@ -20,21 +20,21 @@ loop-holds c =
     (omega arith, omega arith, ap (λ n. markAll (c .args .marks .now) (sixes (c .args .from) n)) e, refl)
 
 slice-write-marks : tie.Need-slice-write-marks Inv-loop μ-loop
-slice-write-marks c = omega (arith, c .before .before .pre .0, c .before .before .pre .1, c .before .before .pre .2, c .before .loop .inv .0, c .before .loop .inv .1, c .before .loop .inv .3, c .loop-test .taken)
+slice-write-marks c = omega arith
 
 add-x : tie.Need-add-x Inv-loop μ-loop
-add-x c = record { fits = omega (arith, c .before .before .pre .0, c .before .before .pre .1, c .before .before .pre .2, c .before .loop .inv .0, c .before .loop .inv .1, c .before .loop .inv .3, c .loop-test .taken) }
+add-x c = record { fits = omega arith }
 
 add-k : tie.Need-add-k Inv-loop μ-loop
-add-k c = record { fits = omega (arith, c .before .before .pre .0, c .before .before .pre .1, c .before .before .pre .2, c .before .loop .inv .0, c .before .loop .inv .1, c .before .loop .inv .3, c .loop-test .taken) }
+add-k c = record { fits = omega arith }
 
 loop-less : tie.Need-loop-less Inv-loop μ-loop
-loop-less c = omega (arith, c .before .before .pre .0, c .before .before .pre .1, c .before .before .pre .2, c .before .loop .inv .0, c .before .loop .inv .1, c .before .loop .inv .3, c .loop-test .taken)
+loop-less c = omega arith
 
 loop-again : tie.Need-loop-again Inv-loop μ-loop
 loop-again c =
     let l = c .before .loop in
-    (omega (arith, c .before .before .pre .0, c .before .before .pre .1, c .before .before .pre .2, c .before .loop .inv .0, c .before .loop .inv .1, c .before .loop .inv .3, c .loop-test .taken), omega (arith, c .before .before .pre .0, c .before .before .pre .1, c .before .before .pre .2, c .before .loop .inv .0, c .before .loop .inv .1, c .before .loop .inv .3, c .loop-test .taken), sym (ap (markAll (l .marks)) (sixes-turn (l .x) (c .before .before .args .count) (l .k) (c .loop-test .taken))) ∙ l .inv .2, length-set (l .marks) (l .x) 1 ∙ l .inv .3)
+    (omega arith, omega arith, sym (ap (markAll (l .marks)) (sixes-turn (l .x) (c .before .before .args .count) (l .k) (c .loop-test .taken))) ∙ l .inv .2, length-set (l .marks) (l .x) 1 ∙ l .inv .3)
 
 same-length : tie.Need-same-length Inv-loop μ-loop
 same-length c = c .before .loop .inv .3

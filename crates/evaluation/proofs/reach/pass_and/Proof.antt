@@ -1,6 +1,5 @@
 -- `evaluation::reach::pass_and` meets its contract.
 use mathlib.Core.Path.{_∙_}
-use Prim.Native.Nat.{_-_}
 use native.Mathlib.Omega.{arith}
 use Rattle.evaluation.proofs.reach.pass_and.Statement.{statement}
 use Rattle.evaluation.proofs.reach.pass_and.Tie as tie
@@ -11,10 +10,10 @@ pass-outs-requires : tie.Need-pass-outs-requires
 pass-outs-requires c κs = (c .before .before .before .pre .0, c .before .before .before .pre .1)
 
 pass-rows-requires : tie.Need-pass-rows-requires
-pass-rows-requires c κs = (c .before .before .before .before .before .before .before .pre .0, omega (arith, c .before .before .before .before .before .before .before .pre .0 .0, c .before .before .before .before .before .before .before .pre .0 .1, c .before .before .before .before .before .before .before .pre .0 .2, c .before .before .before .before .before .before .before .pre .1, c .before .before .before .before .before .before .before .pre .2, c .before .before .before .pass-outs .ensures .size), c .before .before .before .before .before .before .before .pre .2, c .before .before .before .before .before .before .before .pre .3, c .before .before .before .before .before .before .before .pre .4)
+pass-rows-requires c κs = (c .before .before .before .before .before .before .before .pre .0, omega arith, c .before .before .before .before .before .before .before .pre .2, c .before .before .before .before .before .before .before .pre .3, c .before .before .before .before .before .before .before .pre .4)
 
 pass-owns-requires : tie.Need-pass-owns-requires
-pass-owns-requires c κs = (c .before .before .before .before .before .before .before .before .before .before .before .pre .0, omega (arith, c .before .before .before .before .before .before .before .before .before .before .before .pre .0 .0, c .before .before .before .before .before .before .before .before .before .before .before .pre .0 .1, c .before .before .before .before .before .before .before .before .before .before .before .pre .0 .2, c .before .before .before .before .before .before .before .before .before .before .before .pre .1, c .before .before .before .before .before .before .before .before .before .before .before .pre .2, c .before .before .before .before .before .before .before .pass-outs .ensures .size, c .before .before .before .pass-rows .ensures .size), c .before .before .before .before .before .before .before .before .before .before .before .pre .2, c .before .before .before .before .before .before .before .before .before .before .before .pre .3)
+pass-owns-requires c κs = (c .before .before .before .before .before .before .before .before .before .before .before .pre .0, omega arith, c .before .before .before .before .before .before .before .before .before .before .before .pre .2, c .before .before .before .before .before .before .before .before .before .before .before .pre .3)
 
 same-length : tie.Need-same-length
 same-length c = c .before .before .pass-owns .ensures .size ∙ c .before .before .before .before .before .before .pass-rows .ensures .size ∙ c .before .before .before .before .before .before .before .before .before .before .pass-outs .ensures .size

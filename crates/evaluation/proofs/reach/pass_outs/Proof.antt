@@ -20,29 +20,29 @@ loop-holds : tie.Need-loop-holds Inv-loop μ-loop
 loop-holds c = (omega arith, moves-none (outAt (c .before .args .d) (c .before .args .first) (c .before .args .d)) (c .before .args .marks .now))
 
 sub-i : tie.Need-sub-i Inv-loop μ-loop
-sub-i c = omega (arith, c .before .before .before .pre .0 .0, c .before .before .before .pre .0 .1, c .before .before .before .pre .0 .2, c .before .before .before .pre .1, c .before .loop .inv .0, c .before .loop .inv .1 .size, c .loop-test .taken)
+sub-i c = omega arith
 
 pass-out-requires : tie.Need-pass-out-requires Inv-loop μ-loop
-pass-out-requires c κs = (c .before .before .before .before .pre .0, omega (arith, c .before .before .before .before .pre .0 .0, c .before .before .before .before .pre .0 .1, c .before .before .before .before .pre .0 .2, c .before .before .before .before .pre .1, c .before .before .loop .inv .0, c .before .before .loop .inv .1 .size, c .before .loop-test .taken), omega (arith, c .before .before .before .before .pre .0 .0, c .before .before .before .before .pre .0 .1, c .before .before .before .before .pre .0 .2, c .before .before .before .before .pre .1, c .before .before .loop .inv .0, c .before .before .loop .inv .1 .size, c .before .loop-test .taken))
+pass-out-requires c κs = (c .before .before .before .before .pre .0, omega arith, omega arith)
 
 loop-less : tie.Need-loop-less Inv-loop μ-loop
-loop-less c = omega (arith, c .before .before .before .before .before .before .before .pre .0 .0, c .before .before .before .before .before .before .before .pre .0 .1, c .before .before .before .before .before .before .before .pre .0 .2, c .before .before .before .before .before .before .before .pre .1, c .before .before .before .before .before .loop .inv .0, c .before .before .before .before .before .loop .inv .1 .size, c .before .before .before .before .loop-test .taken)
+loop-less c = omega arith
 
 loop-again : tie.Need-loop-again Inv-loop μ-loop
 loop-again c =
     let a = c .before .before .before .before .before .before .before .args in
     let l = c .before .before .before .before .before .loop in
     let i = l .i - 1 in (
-      omega (arith, c .before .before .before .before .before .before .before .pre .0 .0, c .before .before .before .before .before .before .before .pre .0 .1, c .before .before .before .before .before .before .before .pre .0 .2, c .before .before .before .before .before .before .before .pre .1, c .before .before .before .before .before .loop .inv .0, c .before .before .before .before .before .loop .inv .1 .size, c .before .before .before .before .loop-test .taken),
-      moves-then (omega (arith, c .before .before .before .before .before .before .before .pre .0 .0, c .before .before .before .before .before .before .before .pre .0 .1, c .before .before .before .before .before .before .before .pre .0 .2, c .before .before .before .before .before .before .before .pre .1, c .before .before .before .before .before .loop .inv .0, c .before .before .before .before .before .loop .inv .1 .size, c .before .before .before .before .loop-test .taken)) (l .inv .1) (moves-at refl (omega (arith, c .before .before .before .before .before .before .before .pre .0 .0, c .before .before .before .before .before .before .before .pre .0 .1, c .before .before .before .before .before .before .before .pre .0 .2, c .before .before .before .before .before .before .before .pre .1, c .before .before .before .before .before .loop .inv .0, c .before .before .before .before .before .loop .inv .1 .size, c .before .before .before .before .loop-test .taken))
-          (subst (λ (n : List ℕ). Moves (OutGates (a .d) (a .first)) (outAt (a .d) (a .first) i) (outAt (a .d) (a .first) (i + 1)) (l .marks) n) (sym (c .before .before .pass-out .ensures)) (out-moved (a .d) (a .first) i (l .marks) (omega (arith, c .before .before .before .before .before .before .before .pre .0 .0, c .before .before .before .before .before .before .before .pre .0 .1, c .before .before .before .before .before .before .before .pre .0 .2, c .before .before .before .before .before .before .before .pre .1, c .before .before .before .before .before .loop .inv .0, c .before .before .before .before .before .loop .inv .1 .size, c .before .before .before .before .loop-test .taken))))),
+      omega arith,
+      moves-then (omega arith) (l .inv .1) (moves-at refl (omega arith)
+          (subst (λ (n : List ℕ). Moves (OutGates (a .d) (a .first)) (outAt (a .d) (a .first) i) (outAt (a .d) (a .first) (i + 1)) (l .marks) n) (sym (c .before .before .pass-out .ensures)) (out-moved (a .d) (a .first) i (l .marks) (omega arith)))),
     )
 
 same-length : tie.Need-same-length Inv-loop μ-loop
 same-length c = c .before .loop .inv .1 .size
 
 returns : tie.Need-returns Inv-loop μ-loop
-returns c = moves-at (omega (arith, c .before .before .before .pre .0 .0, c .before .before .before .pre .0 .1, c .before .before .before .pre .0 .2, c .before .before .before .pre .1, c .before .loop .inv .0, c .before .loop .inv .1 .size, c .loop-test .left)) refl (c .before .loop .inv .1)
+returns c = moves-at (omega arith) refl (c .before .loop .inv .1)
 
 pub pass-outs-spec : {M : Type 1} → statement M
 pass-outs-spec =

@@ -20,46 +20,43 @@ abbrev μ-loop : tie.MeasureT-loop
 μ-loop marks₀ first d ops start i₀ marks i = i
 
 sub-start : tie.Need-sub-start Inv-loop μ-loop
-sub-start c = omega (arith, c .before .before .pre .0 .0, c .before .before .pre .0 .1, c .before .before .pre .0 .2, c .before .before .pre .1, c .before .before .pre .2, eights (c .before .before .args .d) (c .before .before .args .d - 1) (omega (arith, c .before .before .pre .0 .2)) (omega (arith, c .before .before .pre .0 .2)))
+sub-start c = omega arith
 
 mul-start : tie.Need-mul-start Inv-loop μ-loop
-mul-start c = record { fits = omega (arith, c .before .before .pre .0 .0, c .before .before .pre .0 .1, c .before .before .pre .0 .2, c .before .before .pre .1, c .before .before .pre .2, eights (c .before .before .args .d) (c .before .before .args .d - 1) (omega (arith, c .before .before .pre .0 .2)) (omega (arith, c .before .before .pre .0 .2))) }
+mul-start c = record { fits = omega arith }
 
 add-start : tie.Need-add-start Inv-loop μ-loop
-add-start c = record { fits = omega (arith, c .before .before .pre .0 .0, c .before .before .pre .0 .1, c .before .before .pre .0 .2, c .before .before .pre .1, c .before .before .pre .2, eights (c .before .before .args .d) (c .before .before .args .d - 1) (omega (arith, c .before .before .pre .0 .2)) (omega (arith, c .before .before .pre .0 .2))) }
+add-start c = record { fits = omega arith }
 
 loop-holds : tie.Need-loop-holds Inv-loop μ-loop
 loop-holds c = (omega arith, moves-none (ownAt (c .before .before .args .d) (c .before .before .args .first) (c .before .before .args .d)) (c .before .before .args .marks .now))
 
 sub-i : tie.Need-sub-i Inv-loop μ-loop
-sub-i c = omega (arith, c .before .before .before .before .pre .0 .0, c .before .before .before .before .pre .0 .1, c .before .before .before .before .pre .0 .2, c .before .before .before .before .pre .1, c .before .before .before .before .pre .2, c .before .loop .inv .0, c .before .loop .inv .1 .size, c .loop-test .taken, eights (c .before .before .before .before .args .d) (c .before .before .before .before .args .d - 1) (omega (arith, c .before .before .before .before .pre .0 .2)) (omega (arith, c .before .before .before .before .pre .0 .2)))
+sub-i c = omega arith
 
 add-a : tie.Need-add-a Inv-loop μ-loop
-add-a c = record { fits = omega (arith, c .before .before .before .before .pre .0 .0, c .before .before .before .before .pre .0 .1, c .before .before .before .before .pre .0 .2, c .before .before .before .before .pre .1, c .before .before .before .before .pre .2, c .before .loop .inv .0, c .before .loop .inv .1 .size, c .loop-test .taken, eights (c .before .before .before .before .args .d) (c .before .before .before .before .args .d - 1) (omega (arith, c .before .before .before .before .pre .0 .2)) (omega (arith, c .before .before .before .before .pre .0 .2))) }
-
-mul-a : tie.Need-mul-a Inv-loop μ-loop
-mul-a c = search needs
+add-a c = record { fits = omega arith }
 
 shared-slice-read-a : tie.Need-shared-slice-read-a Inv-loop μ-loop
-shared-slice-read-a c = omega (arith, c .before .before .before .before .before .pre .0 .0, c .before .before .before .before .before .pre .0 .1, c .before .before .before .before .before .pre .0 .2, c .before .before .before .before .before .pre .1, c .before .before .before .before .before .pre .2, c .before .before .loop .inv .0, c .before .before .loop .inv .1 .size, c .before .loop-test .taken, eights (c .before .before .before .before .before .args .d) (c .before .before .before .before .before .args .d - 1) (omega (arith, c .before .before .before .before .before .pre .0 .2)) (omega (arith, c .before .before .before .before .before .pre .0 .2)))
+shared-slice-read-a c = omega arith
 
 cast-a : tie.Need-cast-a Inv-loop μ-loop
-cast-a c = record { fits = omega (arith, c .before .before .before .before .before .pre .0 .0, c .before .before .before .before .before .pre .0 .1, c .before .before .before .before .before .pre .0 .2, c .before .before .before .before .before .pre .1, c .before .before .before .before .before .pre .2, c .before .before .loop .inv .0, c .before .before .loop .inv .1 .size, c .before .loop-test .taken, eights (c .before .before .before .before .before .args .d) (c .before .before .before .before .before .args .d - 1) (omega (arith, c .before .before .before .before .before .pre .0 .2)) (omega (arith, c .before .before .before .before .before .pre .0 .2)), c .before .before .before .before .before .pre .3 (c .before .before .loop .i - 1) (omega (arith, c .before .before .loop .inv .0, c .before .loop-test .taken)), own-early (c .before .before .before .before .before .args .d) (c .before .before .before .before .before .args .first) (c .before .before .before .before .before .args .d) (c .before .before .loop .i - 1) (omega (arith, c .before .before .loop .inv .0, c .before .loop-test .taken))) }
+cast-a c = record { fits = omega (arith, eights (c .before .before .before .before .before .args .d) (c .before .before .before .before .before .args .d - 1) (omega arith) (omega arith), c .before .before .before .before .before .pre .3 (c .before .before .loop .i - 1) (omega arith), own-early (c .before .before .before .before .before .args .d) (c .before .before .before .before .before .args .first) (c .before .before .before .before .before .args .d) (c .before .before .loop .i - 1) (omega arith)) }
 
 mul-own : tie.Need-mul-own Inv-loop μ-loop
-mul-own c = record { fits = omega (arith, c .before .before .before .before .before .pre .0 .0, c .before .before .before .before .before .pre .0 .1, c .before .before .before .before .before .pre .0 .2, c .before .before .before .before .before .pre .1, c .before .before .before .before .before .pre .2, c .before .before .loop .inv .0, c .before .before .loop .inv .1 .size, c .before .loop-test .taken, eights (c .before .before .before .before .before .args .d) (c .before .before .before .before .before .args .d - 1) (omega (arith, c .before .before .before .before .before .pre .0 .2)) (omega (arith, c .before .before .before .before .before .pre .0 .2))) }
+mul-own c = record { fits = omega arith }
 
 add-own : tie.Need-add-own Inv-loop μ-loop
-add-own c = record { fits = omega (arith, c .before .before .before .before .before .pre .0 .0, c .before .before .before .before .before .pre .0 .1, c .before .before .before .before .before .pre .0 .2, c .before .before .before .before .before .pre .1, c .before .before .before .before .before .pre .2, c .before .before .loop .inv .0, c .before .before .loop .inv .1 .size, c .before .loop-test .taken, eights (c .before .before .before .before .before .args .d) (c .before .before .before .before .before .args .d - 1) (omega (arith, c .before .before .before .before .before .pre .0 .2)) (omega (arith, c .before .before .before .before .before .pre .0 .2))) }
+add-own c = record { fits = omega arith }
 
 add-hand-on : tie.Need-add-hand-on Inv-loop μ-loop
-add-hand-on c = record { fits = omega (arith, c .before .before .before .before .before .before .pre .0 .0, c .before .before .before .before .before .before .pre .0 .1, c .before .before .before .before .before .before .pre .0 .2, c .before .before .before .before .before .before .pre .1, c .before .before .before .before .before .before .pre .2, c .before .before .before .loop .inv .0, c .before .before .before .loop .inv .1 .size, c .before .before .loop-test .taken, eights (c .before .before .before .before .before .before .args .d) (c .before .before .before .before .before .before .args .d - 1) (omega (arith, c .before .before .before .before .before .before .pre .0 .2)) (omega (arith, c .before .before .before .before .before .before .pre .0 .2))) }
+add-hand-on c = record { fits = omega arith }
 
 hand-on-requires : tie.Need-hand-on-requires Inv-loop μ-loop
-hand-on-requires c κs = (omega (arith, c .before .before .before .before .before .before .pre .0 .0, c .before .before .before .before .before .before .pre .0 .1, c .before .before .before .before .before .before .pre .0 .2, c .before .before .before .before .before .before .pre .1, c .before .before .before .before .before .before .pre .2, c .before .before .before .loop .inv .0, c .before .before .before .loop .inv .1 .size, c .before .before .loop-test .taken, eights (c .before .before .before .before .before .before .args .d) (c .before .before .before .before .before .before .args .d - 1) (omega (arith, c .before .before .before .before .before .before .pre .0 .2)) (omega (arith, c .before .before .before .before .before .before .pre .0 .2)), c .before .before .before .before .before .before .pre .3 (c .before .before .before .loop .i - 1) (omega (arith, c .before .before .before .loop .inv .0, c .before .before .loop-test .taken)), own-early (c .before .before .before .before .before .before .args .d) (c .before .before .before .before .before .before .args .first) (c .before .before .before .before .before .before .args .d) (c .before .before .before .loop .i - 1) (omega (arith, c .before .before .before .loop .inv .0, c .before .before .loop-test .taken))), omega (arith, c .before .before .before .before .before .before .pre .0 .0, c .before .before .before .before .before .before .pre .0 .1, c .before .before .before .before .before .before .pre .0 .2, c .before .before .before .before .before .before .pre .1, c .before .before .before .before .before .before .pre .2, c .before .before .before .loop .inv .0, c .before .before .before .loop .inv .1 .size, c .before .before .loop-test .taken, eights (c .before .before .before .before .before .before .args .d) (c .before .before .before .before .before .before .args .d - 1) (omega (arith, c .before .before .before .before .before .before .pre .0 .2)) (omega (arith, c .before .before .before .before .before .before .pre .0 .2)), c .before .before .before .before .before .before .pre .3 (c .before .before .before .loop .i - 1) (omega (arith, c .before .before .before .loop .inv .0, c .before .before .loop-test .taken)), own-early (c .before .before .before .before .before .before .args .d) (c .before .before .before .before .before .before .args .first) (c .before .before .before .before .before .before .args .d) (c .before .before .before .loop .i - 1) (omega (arith, c .before .before .before .loop .inv .0, c .before .before .loop-test .taken))), omega (arith, c .before .before .before .before .before .before .pre .0 .0, c .before .before .before .before .before .before .pre .0 .1, c .before .before .before .before .before .before .pre .0 .2, c .before .before .before .before .before .before .pre .1, c .before .before .before .before .before .before .pre .2, c .before .before .before .loop .inv .0, c .before .before .before .loop .inv .1 .size, c .before .before .loop-test .taken, eights (c .before .before .before .before .before .before .args .d) (c .before .before .before .before .before .before .args .d - 1) (omega (arith, c .before .before .before .before .before .before .pre .0 .2)) (omega (arith, c .before .before .before .before .before .before .pre .0 .2)), c .before .before .before .before .before .before .pre .3 (c .before .before .before .loop .i - 1) (omega (arith, c .before .before .before .loop .inv .0, c .before .before .loop-test .taken)), own-early (c .before .before .before .before .before .before .args .d) (c .before .before .before .before .before .before .args .first) (c .before .before .before .before .before .before .args .d) (c .before .before .before .loop .i - 1) (omega (arith, c .before .before .before .loop .inv .0, c .before .before .loop-test .taken))))
+hand-on-requires c κs = (omega (arith, eights (c .before .before .before .before .before .before .args .d) (c .before .before .before .before .before .before .args .d - 1) (omega arith) (omega arith), c .before .before .before .before .before .before .pre .3 (c .before .before .before .loop .i - 1) (omega arith), own-early (c .before .before .before .before .before .before .args .d) (c .before .before .before .before .before .before .args .first) (c .before .before .before .before .before .before .args .d) (c .before .before .before .loop .i - 1) (omega arith)), omega (arith, eights (c .before .before .before .before .before .before .args .d) (c .before .before .before .before .before .before .args .d - 1) (omega arith) (omega arith), c .before .before .before .before .before .before .pre .3 (c .before .before .before .loop .i - 1) (omega arith), own-early (c .before .before .before .before .before .before .args .d) (c .before .before .before .before .before .before .args .first) (c .before .before .before .before .before .before .args .d) (c .before .before .before .loop .i - 1) (omega arith)), omega (arith, eights (c .before .before .before .before .before .before .args .d) (c .before .before .before .before .before .before .args .d - 1) (omega arith) (omega arith), c .before .before .before .before .before .before .pre .3 (c .before .before .before .loop .i - 1) (omega arith), own-early (c .before .before .before .before .before .before .args .d) (c .before .before .before .before .before .before .args .first) (c .before .before .before .before .before .before .args .d) (c .before .before .before .loop .i - 1) (omega arith)))
 
 loop-less : tie.Need-loop-less Inv-loop μ-loop
-loop-less c = omega (arith, c .before .before .before .before .before .before .before .before .before .pre .0 .0, c .before .before .before .before .before .before .before .before .before .pre .0 .1, c .before .before .before .before .before .before .before .before .before .pre .0 .2, c .before .before .before .before .before .before .before .before .before .pre .1, c .before .before .before .before .before .before .before .before .before .pre .2, c .before .before .before .before .before .before .loop .inv .0, c .before .before .before .before .before .before .loop .inv .1 .size, c .before .before .before .before .before .loop-test .taken, eights (c .before .before .before .before .before .before .before .before .before .args .d) (c .before .before .before .before .before .before .before .before .before .args .d - 1) (omega (arith, c .before .before .before .before .before .before .before .before .before .pre .0 .2)) (omega (arith, c .before .before .before .before .before .before .before .before .before .pre .0 .2)))
+loop-less c = omega arith
 
 loop-again : tie.Need-loop-again Inv-loop μ-loop
 loop-again c =
@@ -67,9 +64,9 @@ loop-again c =
     let l = c .before .before .before .before .before .before .loop in
     let i = l .i - 1 in
     let x = ownAt (a .d) (a .first) i in
-    let lt : i < a .d = omega (arith, c .before .before .before .before .before .before .before .before .before .pre .0 .0, c .before .before .before .before .before .before .before .before .before .pre .0 .1, c .before .before .before .before .before .before .before .before .before .pre .0 .2, c .before .before .before .before .before .before .before .before .before .pre .1, c .before .before .before .before .before .before .before .before .before .pre .2, c .before .before .before .before .before .before .loop .inv .0, c .before .before .before .before .before .before .loop .inv .1 .size, c .before .before .before .before .before .loop-test .taken, eights (c .before .before .before .before .before .before .before .before .before .args .d) (c .before .before .before .before .before .before .before .before .before .args .d - 1) (omega (arith, c .before .before .before .before .before .before .before .before .before .pre .0 .2)) (omega (arith, c .before .before .before .before .before .before .before .before .before .pre .0 .2))) in (
-      omega (arith, c .before .before .before .before .before .before .before .before .before .pre .0 .0, c .before .before .before .before .before .before .before .before .before .pre .0 .1, c .before .before .before .before .before .before .before .before .before .pre .0 .2, c .before .before .before .before .before .before .before .before .before .pre .1, c .before .before .before .before .before .before .before .before .before .pre .2, c .before .before .before .before .before .before .loop .inv .0, c .before .before .before .before .before .before .loop .inv .1 .size, c .before .before .before .before .before .loop-test .taken, eights (c .before .before .before .before .before .before .before .before .before .args .d) (c .before .before .before .before .before .before .before .before .before .args .d - 1) (omega (arith, c .before .before .before .before .before .before .before .before .before .pre .0 .2)) (omega (arith, c .before .before .before .before .before .before .before .before .before .pre .0 .2))),
-      moves-then (omega (arith, c .before .before .before .before .before .before .before .before .before .pre .0 .0, c .before .before .before .before .before .before .before .before .before .pre .0 .1, c .before .before .before .before .before .before .before .before .before .pre .0 .2, c .before .before .before .before .before .before .before .before .before .pre .1, c .before .before .before .before .before .before .before .before .before .pre .2, c .before .before .before .before .before .before .loop .inv .0, c .before .before .before .before .before .before .loop .inv .1 .size, c .before .before .before .before .before .loop-test .taken, eights (c .before .before .before .before .before .before .before .before .before .args .d) (c .before .before .before .before .before .before .before .before .before .args .d - 1) (omega (arith, c .before .before .before .before .before .before .before .before .before .pre .0 .2)) (omega (arith, c .before .before .before .before .before .before .before .before .before .pre .0 .2)))) (l .inv .1) (moves-at refl (omega (arith, c .before .before .before .before .before .before .before .before .before .pre .0 .0, c .before .before .before .before .before .before .before .before .before .pre .0 .1, c .before .before .before .before .before .before .before .before .before .pre .0 .2, c .before .before .before .before .before .before .before .before .before .pre .1, c .before .before .before .before .before .before .before .before .before .pre .2, c .before .before .before .before .before .before .loop .inv .0, c .before .before .before .before .before .before .loop .inv .1 .size, c .before .before .before .before .before .loop-test .taken, eights (c .before .before .before .before .before .before .before .before .before .args .d) (c .before .before .before .before .before .before .before .before .before .args .d - 1) (omega (arith, c .before .before .before .before .before .before .before .before .before .pre .0 .2)) (omega (arith, c .before .before .before .before .before .before .before .before .before .pre .0 .2)))) (moves-for (λ g h. h i lt)
+    let lt : i < a .d = omega arith in (
+      omega arith,
+      moves-then (omega arith) (l .inv .1) (moves-at refl (omega arith) (moves-for (λ g h. h i lt)
           (subst (λ (n : List ℕ). Moves (OwnGates x (wordA (a .ops .now) i) (wordB (a .d) (a .ops .now) i)) x (x + 3) (l .marks) n) (sym (c .before .before .hand-on .ensures)) (own-moved x (wordA (a .ops .now) i) (wordB (a .d) (a .ops .now) i) (l .marks))))),
     )
 
@@ -93,7 +90,7 @@ pass-owns-spec =
     loop-holds
     sub-i
     add-a
-    mul-a
+    (λ c. search needs)
     shared-slice-read-a
     cast-a
     mul-own

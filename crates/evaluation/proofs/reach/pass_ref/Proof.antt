@@ -22,34 +22,31 @@ loop-holds : tie.Need-loop-holds Inv-loop μ-loop
 loop-holds c = (omega arith, held-moved (c .before .before .args .d) (c .before .before .args .first) (wordA (c .before .before .args .ops .now)) (c .before .before .args .marks .now))
 
 sub-i : tie.Need-sub-i Inv-loop μ-loop
-sub-i c = omega (arith, c .before .before .before .before .pre .0 .0, c .before .before .before .before .pre .0 .1, c .before .before .before .before .pre .0 .2, c .before .before .before .before .pre .1, c .before .before .before .before .pre .2, c .before .loop .inv .0, c .before .loop .inv .1 .size, c .loop-test .taken)
+sub-i c = omega arith
 
 add-a : tie.Need-add-a Inv-loop μ-loop
-add-a c = record { fits = omega (arith, c .before .before .before .before .pre .0 .0, c .before .before .before .before .pre .0 .1, c .before .before .before .before .pre .0 .2, c .before .before .before .before .pre .1, c .before .before .before .before .pre .2, c .before .loop .inv .0, c .before .loop .inv .1 .size, c .loop-test .taken) }
-
-mul-a : tie.Need-mul-a Inv-loop μ-loop
-mul-a c = search needs
+add-a c = record { fits = omega arith }
 
 shared-slice-read-a : tie.Need-shared-slice-read-a Inv-loop μ-loop
-shared-slice-read-a c = omega (arith, c .before .before .before .before .before .pre .0 .0, c .before .before .before .before .before .pre .0 .1, c .before .before .before .before .before .pre .0 .2, c .before .before .before .before .before .pre .1, c .before .before .before .before .before .pre .2, c .before .before .loop .inv .0, c .before .before .loop .inv .1 .size, c .before .loop-test .taken)
+shared-slice-read-a c = omega arith
 
 cast-a : tie.Need-cast-a Inv-loop μ-loop
-cast-a c = record { fits = omega (arith, c .before .before .before .before .before .pre .0 .0, c .before .before .before .before .before .pre .0 .1, c .before .before .before .before .before .pre .0 .2, c .before .before .before .before .before .pre .1, c .before .before .before .before .before .pre .2, c .before .before .loop .inv .0, c .before .before .loop .inv .1 .size, c .before .loop-test .taken, c .before .before .before .before .before .pre .3 (c .before .before .loop .i - 1) (omega (arith, c .before .before .loop .inv .0, c .before .loop-test .taken))) }
+cast-a c = record { fits = omega (arith, c .before .before .before .before .before .pre .3 (c .before .before .loop .i - 1) (omega arith)) }
 
 pass-sum-requires : tie.Need-pass-sum-requires Inv-loop μ-loop
-pass-sum-requires c κs = (c .before .before .before .before .before .before .pre .0, omega (arith, c .before .before .before .before .before .before .pre .0 .0, c .before .before .before .before .before .before .pre .0 .1, c .before .before .before .before .before .before .pre .0 .2, c .before .before .before .before .before .before .pre .1, c .before .before .before .before .before .before .pre .2, c .before .before .before .loop .inv .0, c .before .before .before .loop .inv .1 .size, c .before .before .loop-test .taken), c .before .before .before .before .before .before .pre .3 (c .before .before .before .loop .i - 1) (omega (arith, c .before .before .before .loop .inv .0, c .before .before .loop-test .taken)), omega (arith, c .before .before .before .before .before .before .pre .0 .0, c .before .before .before .before .before .before .pre .0 .1, c .before .before .before .before .before .before .pre .0 .2, c .before .before .before .before .before .before .pre .1, c .before .before .before .before .before .before .pre .2, c .before .before .before .loop .inv .0, c .before .before .before .loop .inv .1 .size, c .before .before .loop-test .taken))
+pass-sum-requires c κs = (c .before .before .before .before .before .before .pre .0, omega arith, c .before .before .before .before .before .before .pre .3 (c .before .before .before .loop .i - 1) (omega arith), omega arith)
 
 loop-less : tie.Need-loop-less Inv-loop μ-loop
-loop-less c = omega (arith, c .before .before .before .before .before .before .before .before .before .pre .0 .0, c .before .before .before .before .before .before .before .before .before .pre .0 .1, c .before .before .before .before .before .before .before .before .before .pre .0 .2, c .before .before .before .before .before .before .before .before .before .pre .1, c .before .before .before .before .before .before .before .before .before .pre .2, c .before .before .before .before .before .before .loop .inv .0, c .before .before .before .before .before .before .loop .inv .1 .size, c .before .before .before .before .before .loop-test .taken)
+loop-less c = omega arith
 
 loop-again : tie.Need-loop-again Inv-loop μ-loop
 loop-again c =
     let a = c .before .before .before .before .before .before .before .before .before .args in
     let l = c .before .before .before .before .before .before .loop in
     let i = l .i - 1 in (
-      omega (arith, c .before .before .before .before .before .before .before .before .before .pre .0 .0, c .before .before .before .before .before .before .before .before .before .pre .0 .1, c .before .before .before .before .before .before .before .before .before .pre .0 .2, c .before .before .before .before .before .before .before .before .before .pre .1, c .before .before .before .before .before .before .before .before .before .pre .2, c .before .before .before .before .before .before .loop .inv .0, c .before .before .before .before .before .before .loop .inv .1 .size, c .before .before .before .before .before .loop-test .taken),
-      moves-then (omega (arith, c .before .before .before .before .before .before .before .before .before .pre .0 .0, c .before .before .before .before .before .before .before .before .before .pre .0 .1, c .before .before .before .before .before .before .before .before .before .pre .0 .2, c .before .before .before .before .before .before .before .before .before .pre .1, c .before .before .before .before .before .before .before .before .before .pre .2, c .before .before .before .before .before .before .loop .inv .0, c .before .before .before .before .before .before .loop .inv .1 .size, c .before .before .before .before .before .loop-test .taken)) (l .inv .1) (moves-at refl (omega (arith, c .before .before .before .before .before .before .before .before .before .pre .0 .0, c .before .before .before .before .before .before .before .before .before .pre .0 .1, c .before .before .before .before .before .before .before .before .before .pre .0 .2, c .before .before .before .before .before .before .before .before .before .pre .1, c .before .before .before .before .before .before .before .before .before .pre .2, c .before .before .before .before .before .before .loop .inv .0, c .before .before .before .before .before .before .loop .inv .1 .size, c .before .before .before .before .before .loop-test .taken))
-          (subst (λ (n : List ℕ). Moves (λ g. RefGates g (a .d) (a .first) (wordA (a .ops .now))) (sumAt (a .d) (a .first) i) (sumAt (a .d) (a .first) (i + 1)) (l .marks) n) (sym (c .before .before .pass-sum .ensures)) (sum-moved (a .d) (a .first) (wordA (a .ops .now)) i (l .marks) (omega (arith, c .before .before .before .before .before .before .before .before .before .pre .0 .0, c .before .before .before .before .before .before .before .before .before .pre .0 .1, c .before .before .before .before .before .before .before .before .before .pre .0 .2, c .before .before .before .before .before .before .before .before .before .pre .1, c .before .before .before .before .before .before .before .before .before .pre .2, c .before .before .before .before .before .before .loop .inv .0, c .before .before .before .before .before .before .loop .inv .1 .size, c .before .before .before .before .before .loop-test .taken))))),
+      omega arith,
+      moves-then (omega arith) (l .inv .1) (moves-at refl (omega arith)
+          (subst (λ (n : List ℕ). Moves (λ g. RefGates g (a .d) (a .first) (wordA (a .ops .now))) (sumAt (a .d) (a .first) i) (sumAt (a .d) (a .first) (i + 1)) (l .marks) n) (sym (c .before .before .pass-sum .ensures)) (sum-moved (a .d) (a .first) (wordA (a .ops .now)) i (l .marks) (omega arith)))),
     )
 
 same-length : tie.Need-same-length Inv-loop μ-loop
@@ -69,7 +66,7 @@ pass-ref-spec =
     loop-holds
     sub-i
     add-a
-    mul-a
+    (λ c. search needs)
     shared-slice-read-a
     cast-a
     pass-sum-requires

@@ -1,17 +1,15 @@
 -- `evaluation::readings::list` meets its contract.
-use mathlib.Core.Path.{_≡_, refl, sym, ap, subst, _∙_}
+use mathlib.Core.Path.{_≡_, refl, sym, ap, _∙_}
 use Prim.Native.Nat.{ℕ, _-_}
 use native.Mathlib.Omega.{arith}
 use lib.ListN.{length, length-set}
 use borrow.Author.Needs.{needs}
 use Rattle.circuit.specs.Lists.{nth}
 use Rattle.circuit.proofs.Exact.{Accepted}
-use Rattle.checker.specs.Walk.{stepAt}
-use Rattle.checker.specs.declared.walk.Step.the-variants.{Next, Refused, End}
 use Rattle.evaluation.proofs.readings.list.Statement.{statement}
 use Rattle.evaluation.proofs.readings.list.Tie as tie
 use Rattle.evaluation.proofs.Evaluating.{second-word}
-use Rattle.evaluation.proofs.Settling.{ListedTo, listed-start, listed-end, listed-never, listed-next}
+use Rattle.evaluation.proofs.Settling.{ListedTo, Listing, listed-start, listed-end, listed-never, listed-next}
 
 abbrev Inv-loop : tie.InvT-loop
 Inv-loop table starts₀ walk₀ count₀ starts walk count = (walk .d ≡ nth table 1) × (length starts ≡ length starts₀) × ((room : ℕ) (a : Accepted table room) → ListedTo a starts (walk .at) count)
@@ -19,122 +17,70 @@ Inv-loop table starts₀ walk₀ count₀ starts walk count = (walk .d ≡ nth t
 abbrev μ-loop : tie.MeasureT-loop
 μ-loop table starts₀ walk₀ count₀ starts walk count = length table - walk .at
 
+-- a turn's places: the function's entry, the loop's head, the step behind it
+abbrev start : tie.At-loop Inv-loop μ-loop → tie.Start Inv-loop μ-loop
+start c = c .before .before .before .before
+
+abbrev head : tie.After-struct-known Inv-loop μ-loop → tie.At-loop Inv-loop μ-loop
+head c = c .before .before .before .before .before
+
+abbrev AcceptedAt : tie.At-loop Inv-loop μ-loop → ℕ → Type 0
+AcceptedAt c room = Accepted (start c .args .table .now) room
+
+-- the walk's d is the table's
+order : (c : tie.At-loop Inv-loop μ-loop) {room : ℕ} (a : AcceptedAt c room) → c .loop .walk .d ≡ a .d
+order c a = c .loop .inv .0 ∙ second-word a
+
+-- the frame that a turn meets is listed
+listing : (c : tie.After-struct-known Inv-loop μ-loop) {room : ℕ} (a : AcceptedAt (head c) room)
+    → Listing a (head c .loop .starts) (head c .loop .walk .at) (head c .loop .count) (head c .loop .inv .2 room a) (c .before .before .step2 .given .0 .1 .1 .0)
+listing c a = listed-next a _ _ _ _ _ (order (head c) a) _ _ _ (sym (c .before .before .before .before .step .ensures) ∙ c .before .before .step2 .given .1)
+
+-- with the notes that the contract names
+listed : (c : tie.After-struct-known Inv-loop μ-loop) → let a = start (head c) .pre .0 in
+    Listing (a .accepted) (head c .loop .starts) (head c .loop .walk .at) (head c .loop .count) (head c .loop .inv .2 (a .room) (a .accepted)) (c .before .before .step2 .given .0 .1 .1 .0)
+listed c = listing c (start (head c) .pre .0 .accepted)
+
 shared-slice-read-t8 : tie.Need-shared-slice-read-t8 Inv-loop μ-loop
 shared-slice-read-t8 c = omega (arith, ap length (c .before .before .before .pre .0 .accepted .table-is))
 
 loop-holds : tie.Need-loop-holds Inv-loop μ-loop
 loop-holds c = (refl, refl, λ room q. listed-start q (c .before .before .before .args .starts .now))
 
-step-requires : tie.Need-step-requires Inv-loop μ-loop
-step-requires c κs = search needs
-
-enum-told : tie.Need-enum-told Inv-loop μ-loop
-enum-told c = search needs
-
-same-length : tie.Need-same-length Inv-loop μ-loop
-same-length c = c .before .before .before .loop .inv .1
-
 returns : tie.Need-returns Inv-loop μ-loop
 returns c =
-    let a = c .before .before .before .before .before .before .before .args in
-    let pre = c .before .before .before .before .before .before .before .pre in
-    let l = c .before .before .before .loop in
-    let table = a .table .now in
-    (record { is = λ room q. listed-end q (l .starts) (l .walk .at) (l .count) (l .inv .2 room q) (subst (λ n. stepAt table n (l .walk .at) ≡ End) (l .inv .0 ∙ second-word q) (sym (c .before .before .step .ensures) ∙ c .enum-told .given .1)) }, omega (arith, l .inv .2 (pre .0 .room) (pre .0 .accepted) .spaced, l .inv .2 (pre .0 .room) (pre .0 .accepted) .between .most, pre .0 .accepted .short, l .inv .1, pre .1))
-
-enum-told-2 : tie.Need-enum-told-2 Inv-loop μ-loop
-enum-told-2 c = search needs
-
-same-length-2 : tie.Need-same-length-2 Inv-loop μ-loop
-same-length-2 c = c .before .before .before .loop .inv .1
+    let h = c .before .before .before in
+    let pre = start h .pre in
+    let l = h .loop .inv .2 in
+    (record { is = λ room q. listed-end q _ _ _ (l room q) _ (order h q) (sym (c .before .before .step .ensures) ∙ c .enum-told .given .1) }, omega (arith, l (pre .0 .room) (pre .0 .accepted) .spaced, l (pre .0 .room) (pre .0 .accepted) .between .most, pre .0 .accepted .short, h .loop .inv .1, pre .1))
 
 returns-2 : tie.Need-returns-2 Inv-loop μ-loop
 returns-2 c =
-    let a = c .before .before .before .before .before .before .before .args in
-    let pre = c .before .before .before .before .before .before .before .pre in
-    let l = c .before .before .before .loop in
-    let table = a .table .now in
-    absurd (listed-never (pre .0 .accepted) (l .starts) (l .walk .at) (l .count) (l .inv .2 (pre .0 .room) (pre .0 .accepted)) (c .enum-told2 .given .0 .0)
-    (subst (λ n. stepAt table n (l .walk .at) ≡ Refused (c .enum-told2 .given .0 .0)) (l .inv .0 ∙ second-word (pre .0 .accepted)) (sym (c .before .before .step .ensures) ∙ c .enum-told2 .given .1)))
-
-enum-known-step : tie.Need-enum-known-step Inv-loop μ-loop
-enum-known-step c = search needs
+    let h = c .before .before .before in
+    let a = start h .pre .0 in
+    absurd (listed-never (a .accepted) _ _ _ (h .loop .inv .2 (a .room) (a .accepted)) _ (order h (a .accepted)) _ (sym (c .before .before .step .ensures) ∙ c .enum-told2 .given .1))
 
 cast-starts : tie.Need-cast-starts Inv-loop μ-loop
-cast-starts c =
-    let a = c .before .before .before .before .before .before .before .before .before .args in
-    let pre = c .before .before .before .before .before .before .before .before .before .pre in
-    let l = c .before .before .before .before .before .loop in
-    let table = a .table .now in
-    let g = c .before .before .step2 .given in
-    let d = nth table 1 in
-    let e : stepAt table d (l .walk .at) ≡ Next (g .0 .0) (g .0 .1 .0) (g .0 .1 .1 .0) = subst (λ n. stepAt table n (l .walk .at) ≡ Next (g .0 .0) (g .0 .1 .0) (g .0 .1 .1 .0)) (l .inv .0) (sym (c .before .before .before .before .step .ensures) ∙ g .1) in
-    let t = listed-next (pre .0 .accepted) (l .starts) (l .walk .at) (l .count) (l .inv .2 (pre .0 .room) (pre .0 .accepted)) d (second-word (pre .0 .accepted)) (g .0 .0) (g .0 .1 .0) (g .0 .1 .1 .0) e in
-    omega (arith, t .later, t .ends, pre .0 .accepted .short)
+cast-starts c = omega (arith, listed c .later, listed c .ends, start (head c) .pre .0 .accepted .short)
 
 mul-starts : tie.Need-mul-starts Inv-loop μ-loop
-mul-starts c =
-    let a = c .before .before .before .before .before .before .before .before .before .args in
-    let pre = c .before .before .before .before .before .before .before .before .before .pre in
-    let l = c .before .before .before .before .before .loop in
-    let table = a .table .now in
-    let g = c .before .before .step2 .given in
-    let d = nth table 1 in
-    let e : stepAt table d (l .walk .at) ≡ Next (g .0 .0) (g .0 .1 .0) (g .0 .1 .1 .0) = subst (λ n. stepAt table n (l .walk .at) ≡ Next (g .0 .0) (g .0 .1 .0) (g .0 .1 .1 .0)) (l .inv .0) (sym (c .before .before .before .before .step .ensures) ∙ g .1) in
-    let t = listed-next (pre .0 .accepted) (l .starts) (l .walk .at) (l .count) (l .inv .2 (pre .0 .room) (pre .0 .accepted)) d (second-word (pre .0 .accepted)) (g .0 .0) (g .0 .1 .0) (g .0 .1 .1 .0) e in
-    record { fits = omega (arith, t .small) }
+mul-starts c = record { fits = omega (arith, listed c .small) }
 
 slice-write-starts : tie.Need-slice-write-starts Inv-loop μ-loop
-slice-write-starts c =
-    let a = c .before .before .before .before .before .before .before .before .before .args in
-    let pre = c .before .before .before .before .before .before .before .before .before .pre in
-    let l = c .before .before .before .before .before .loop in
-    let table = a .table .now in
-    let g = c .before .before .step2 .given in
-    let d = nth table 1 in
-    let e : stepAt table d (l .walk .at) ≡ Next (g .0 .0) (g .0 .1 .0) (g .0 .1 .1 .0) = subst (λ n. stepAt table n (l .walk .at) ≡ Next (g .0 .0) (g .0 .1 .0) (g .0 .1 .1 .0)) (l .inv .0) (sym (c .before .before .before .before .step .ensures) ∙ g .1) in
-    let t = listed-next (pre .0 .accepted) (l .starts) (l .walk .at) (l .count) (l .inv .2 (pre .0 .room) (pre .0 .accepted)) d (second-word (pre .0 .accepted)) (g .0 .0) (g .0 .1 .0) (g .0 .1 .1 .0) e in
-    omega (arith, t .small, l .inv .1, pre .1)
+slice-write-starts c = omega (arith, listed c .small, head c .loop .inv .1, start (head c) .pre .1)
 
 add-count : tie.Need-add-count Inv-loop μ-loop
-add-count c =
-    let a = c .before .before .before .before .before .before .before .before .before .args in
-    let pre = c .before .before .before .before .before .before .before .before .before .pre in
-    let l = c .before .before .before .before .before .loop in
-    let table = a .table .now in
-    let g = c .before .before .step2 .given in
-    let d = nth table 1 in
-    let e : stepAt table d (l .walk .at) ≡ Next (g .0 .0) (g .0 .1 .0) (g .0 .1 .1 .0) = subst (λ n. stepAt table n (l .walk .at) ≡ Next (g .0 .0) (g .0 .1 .0) (g .0 .1 .1 .0)) (l .inv .0) (sym (c .before .before .before .before .step .ensures) ∙ g .1) in
-    let t = listed-next (pre .0 .accepted) (l .starts) (l .walk .at) (l .count) (l .inv .2 (pre .0 .room) (pre .0 .accepted)) d (second-word (pre .0 .accepted)) (g .0 .0) (g .0 .1 .0) (g .0 .1 .1 .0) e in
-    record { fits = omega (arith, t .small) }
+add-count c = record { fits = omega (arith, listed c .small) }
 
 loop-less : tie.Need-loop-less Inv-loop μ-loop
-loop-less c =
-    let a = c .before .before .before .before .before .before .before .before .before .args in
-    let pre = c .before .before .before .before .before .before .before .before .before .pre in
-    let l = c .before .before .before .before .before .loop in
-    let table = a .table .now in
-    let g = c .before .before .step2 .given in
-    let d = nth table 1 in
-    let e : stepAt table d (l .walk .at) ≡ Next (g .0 .0) (g .0 .1 .0) (g .0 .1 .1 .0) = subst (λ n. stepAt table n (l .walk .at) ≡ Next (g .0 .0) (g .0 .1 .0) (g .0 .1 .1 .0)) (l .inv .0) (sym (c .before .before .before .before .step .ensures) ∙ g .1) in
-    let t = listed-next (pre .0 .accepted) (l .starts) (l .walk .at) (l .count) (l .inv .2 (pre .0 .room) (pre .0 .accepted)) d (second-word (pre .0 .accepted)) (g .0 .0) (g .0 .1 .0) (g .0 .1 .1 .0) e in
-    omega (arith, t .later, t .ends)
+loop-less c = omega (arith, listed c .later, listed c .ends)
 
 loop-again : tie.Need-loop-again Inv-loop μ-loop
-loop-again c =
-    let a = c .before .before .before .before .before .before .before .before .before .args in
-    let pre = c .before .before .before .before .before .before .before .before .before .pre in
-    let l = c .before .before .before .before .before .loop in
-    let table = a .table .now in
-    let g = c .before .before .step2 .given in
-    let d = nth table 1 in
-    let e : stepAt table d (l .walk .at) ≡ Next (g .0 .0) (g .0 .1 .0) (g .0 .1 .1 .0) = subst (λ n. stepAt table n (l .walk .at) ≡ Next (g .0 .0) (g .0 .1 .0) (g .0 .1 .1 .0)) (l .inv .0) (sym (c .before .before .before .before .step .ensures) ∙ g .1) in
-    let t = listed-next (pre .0 .accepted) (l .starts) (l .walk .at) (l .count) (l .inv .2 (pre .0 .room) (pre .0 .accepted)) d (second-word (pre .0 .accepted)) (g .0 .0) (g .0 .1 .0) (g .0 .1 .1 .0) e in (
-      t .same ∙ sym (second-word (pre .0 .accepted)),
-      length-set (l .starts) (l .count) (l .walk .at) ∙ l .inv .1,
-      λ room q.
-          listed-next q (l .starts) (l .walk .at) (l .count) (l .inv .2 room q) d (second-word q) (g .0 .0) (g .0 .1 .0) (g .0 .1 .1 .0) e .next (omega (arith, t .small, l .inv .1, pre .1)),
-    )
+loop-again c = (
+  listed c .same ∙ sym (second-word (start (head c) .pre .0 .accepted)),
+  length-set (head c .loop .starts) _ _ ∙ head c .loop .inv .1,
+  λ room q. listing c q .next (slice-write-starts c),
+)
 
 pub list-spec : {M : Type 1} → statement M
 list-spec =
@@ -144,14 +90,14 @@ list-spec =
     μ-loop
     shared-slice-read-t8
     loop-holds
-    step-requires
-    enum-told
-    same-length
+    (λ c κs. search needs)
+    (λ c. search needs)
+    (λ c. c .before .before .before .loop .inv .1)
     returns
-    enum-told-2
-    same-length-2
+    (λ c. search needs)
+    (λ c. c .before .before .before .loop .inv .1)
     returns-2
-    enum-known-step
+    (λ c. search needs)
     cast-starts
     mul-starts
     slice-write-starts

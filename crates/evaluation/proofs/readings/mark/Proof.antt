@@ -19,29 +19,17 @@ abbrev μ-loop : tie.MeasureT-loop
 loop-holds : tie.Need-loop-holds Inv-loop μ-loop
 loop-holds c = (search needs, refl, refl)
 
-mul-wire : tie.Need-mul-wire Inv-loop μ-loop
-mul-wire c = search needs
-
-shared-slice-read-wire : tie.Need-shared-slice-read-wire Inv-loop μ-loop
-shared-slice-read-wire c = search needs
-
 cast-wire : tie.Need-cast-wire Inv-loop μ-loop
 cast-wire c = record { fits = omega (arith, c .shared-slice-known .given (c .before .before .loop .i)) }
 
 slice-write-marks : tie.Need-slice-write-marks Inv-loop μ-loop
-slice-write-marks c = omega (arith, c .before .before .loop .inv .0, c .before .before .loop .inv .1, c .before .loop-test .taken, c .before .before .before .pre (c .before .before .loop .i) (c .before .loop-test .taken))
-
-add-i : tie.Need-add-i Inv-loop μ-loop
-add-i c = search needs
-
-loop-less : tie.Need-loop-less Inv-loop μ-loop
-loop-less c = search needs
+slice-write-marks c = omega (arith, c .before .before .before .pre (c .before .before .loop .i) (c .before .loop-test .taken))
 
 loop-again : tie.Need-loop-again Inv-loop μ-loop
 loop-again c =
     let a = c .before .before .before .args in
     let l = c .before .before .loop in
-    (omega (arith, c .before .before .loop .inv .0, c .before .before .loop .inv .1, c .before .loop-test .taken), length-set (l .marks) (nth (a .wires .now) (l .i)) 1 ∙ l .inv .1, l .inv .2 ∙ mark-turn (l .marks) (a .wires .now) (l .i) (c .before .loop-test .taken))
+    (omega arith, length-set (l .marks) (nth (a .wires .now) (l .i)) 1 ∙ l .inv .1, l .inv .2 ∙ mark-turn (l .marks) (a .wires .now) (l .i) (c .before .loop-test .taken))
 
 same-length : tie.Need-same-length Inv-loop μ-loop
 same-length c = c .before .loop .inv .1
@@ -56,12 +44,12 @@ mark-spec =
     Inv-loop
     μ-loop
     loop-holds
-    mul-wire
-    shared-slice-read-wire
+    (λ c. search needs)
+    (λ c. search needs)
     cast-wire
     slice-write-marks
-    add-i
-    loop-less
+    (λ c. search needs)
+    (λ c. search needs)
     loop-again
     same-length
     returns)

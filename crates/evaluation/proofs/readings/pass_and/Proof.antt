@@ -4,26 +4,25 @@ use Prim.Native.Nat.{_+_, _-_, _*_}
 use native.Mathlib.Omega.{arith}
 use Rattle.evaluation.proofs.readings.pass_and.Statement.{statement}
 use Rattle.evaluation.proofs.readings.pass_and.Tie as tie
-use Rattle.evaluation.proofs.Bounds.{eights}
 use Rattle.evaluation.proofs.Moved.{moves-unmarked}
 
 sub-largest : tie.Need-sub-largest
-sub-largest c = omega (arith, c .before .before .before .pre .0 .0, c .before .before .before .pre .0 .1, c .before .before .before .pre .0 .2, c .before .before .before .pre .1, eights (c .before .before .before .args .d) (c .before .before .before .args .d - 1) (omega (arith, c .before .before .before .pre .0 .2)) (omega (arith, c .before .before .before .pre .0 .2)))
+sub-largest c = omega arith
 
 mul-largest : tie.Need-mul-largest
-mul-largest c = record { fits = omega (arith, c .before .before .before .pre .0 .0, c .before .before .before .pre .0 .1, c .before .before .before .pre .0 .2, c .before .before .before .pre .1, eights (c .before .before .before .args .d) (c .before .before .before .args .d - 1) (omega (arith, c .before .before .before .pre .0 .2)) (omega (arith, c .before .before .before .pre .0 .2))) }
+mul-largest c = record { fits = omega arith }
 
 mul-largest-2 : tie.Need-mul-largest-2
-mul-largest-2 c = record { fits = omega (arith, c .before .before .before .pre .0 .0, c .before .before .before .pre .0 .1, c .before .before .before .pre .0 .2, c .before .before .before .pre .1, eights (c .before .before .before .args .d) (c .before .before .before .args .d - 1) (omega (arith, c .before .before .before .pre .0 .2)) (omega (arith, c .before .before .before .pre .0 .2))) }
+mul-largest-2 c = record { fits = omega arith }
 
 mul-largest-3 : tie.Need-mul-largest-3
-mul-largest-3 c = record { fits = omega (arith, c .before .before .before .pre .0 .0, c .before .before .before .pre .0 .1, c .before .before .before .pre .0 .2, c .before .before .before .pre .1, eights (c .before .before .before .args .d) (c .before .before .before .args .d - 1) (omega (arith, c .before .before .before .pre .0 .2)) (omega (arith, c .before .before .before .pre .0 .2))) }
+mul-largest-3 c = record { fits = omega arith }
 
 add-largest : tie.Need-add-largest
-add-largest c = record { fits = omega (arith, c .before .before .before .pre .0 .0, c .before .before .before .pre .0 .1, c .before .before .before .pre .0 .2, c .before .before .before .pre .1, eights (c .before .before .before .args .d) (c .before .before .before .args .d - 1) (omega (arith, c .before .before .before .pre .0 .2)) (omega (arith, c .before .before .before .pre .0 .2))) }
+add-largest c = record { fits = omega arith }
 
 largest-requires : tie.Need-largest-requires
-largest-requires c κs = omega (arith, c .before .before .before .pre .0 .0, c .before .before .before .pre .0 .1, c .before .before .before .pre .0 .2, c .before .before .before .pre .1, eights (c .before .before .before .args .d) (c .before .before .before .args .d - 1) (omega (arith, c .before .before .before .pre .0 .2)) (omega (arith, c .before .before .before .pre .0 .2)))
+largest-requires c κs = omega arith
 
 same-length : tie.Need-same-length
 same-length c = refl
@@ -31,10 +30,10 @@ same-length c = refl
 returns : tie.Need-returns
 returns c =
     let a = c .before .before .before .before .before .args in
-    moves-unmarked (a .first) (a .first + (7 * (a .d * (a .d - 1)) + 4 * a .d)) (a .marks .now) (λ x l u. omega (arith, c .before .largest .ensures .is x l u, c .if1 .taken))
+    moves-unmarked (a .first) (a .first + (7 * (a .d * (a .d - 1)) + 4 * a .d)) (a .marks .now) (λ x l u. omega (arith, c .before .largest .ensures .is x l u))
 
 pass-and-requires : tie.Need-pass-and-requires
-pass-and-requires c κs = (c .before .before .before .before .before .before .pre .0, omega (arith, c .before .before .before .before .before .before .pre .0 .0, c .before .before .before .before .before .before .pre .0 .1, c .before .before .before .before .before .before .pre .0 .2, c .before .before .before .before .before .before .pre .1, eights (c .before .before .before .before .before .before .args .d) (c .before .before .before .before .before .before .args .d - 1) (omega (arith, c .before .before .before .before .before .before .pre .0 .2)) (omega (arith, c .before .before .before .before .before .before .pre .0 .2))), c .before .before .before .before .before .before .pre .2 .0, c .before .before .before .before .before .before .pre .2 .1, c .before .before .before .before .before .before .pre .2 .2)
+pass-and-requires c κs = (c .before .before .before .before .before .before .pre .0, omega arith, c .before .before .before .before .before .before .pre .2 .0, c .before .before .before .before .before .before .pre .2 .1, c .before .before .before .before .before .before .pre .2 .2)
 
 same-length-2 : tie.Need-same-length-2
 same-length-2 c = c .before .before .pass-and .ensures .size

@@ -1,7 +1,7 @@
 -- `evaluation::readings::pass_frame` meets its contract.
 use mathlib.Core.Path.{_≡_, refl, sym, ap, subst, _∙_}
 use mathlib.Core.List.{List, [], _∷_}
-use Prim.Native.Nat.{ℕ, _+_, _-_, _≤_}
+use Prim.Native.Nat.{ℕ, _+_, _≤_}
 use native.Mathlib.Omega.{arith}
 use lib.ListN.{length}
 use borrow.Author.Needs.{needs}
@@ -14,24 +14,6 @@ use Rattle.evaluation.proofs.Moved.{handed-length, moves-none, moves-at
 use Rattle.evaluation.specs.Filling.{frameMakes}
 use Rattle.evaluation.specs.Marks.{Moves, FrameGates, FrameEarly}
 
-enum-known-frame : tie.Need-enum-known-frame
-enum-known-frame c = search needs
-
-enum-told : tie.Need-enum-told
-enum-told c = search needs
-
-enum-told-2 : tie.Need-enum-told-2
-enum-told-2 c = search needs
-
-enum-known-gate : tie.Need-enum-known-gate
-enum-known-gate c = search needs
-
-cast-hand-on : tie.Need-cast-hand-on
-cast-hand-on c = search needs
-
-cast-hand-on-2 : tie.Need-cast-hand-on-2
-cast-hand-on-2 c = search needs
-
 hand-on-requires : tie.Need-hand-on-requires
 hand-on-requires c κs =
     let a = c .before .before .before .before .before .before .before .before .before .args in
@@ -40,15 +22,6 @@ hand-on-requires c κs =
     let early = subst (λ (f : FrameCode). FrameEarly f (a .d) (a .first) (a .ops .now)) same (c .before .before .before .before .before .before .before .before .before .pre .2) in
     let room = subst (λ (f : FrameCode). a .first + frameMakes f (a .d) ≤ length old) same (c .before .before .before .before .before .before .before .before .before .pre .1) in
     (omega arith, omega arith, omega arith)
-
-enum-known-gate-2 : tie.Need-enum-known-gate-2
-enum-known-gate-2 c = search needs
-
-cast-hand-on-3 : tie.Need-cast-hand-on-3
-cast-hand-on-3 c = search needs
-
-cast-hand-on-4 : tie.Need-cast-hand-on-4
-cast-hand-on-4 c = search needs
 
 hand-on-requires-2 : tie.Need-hand-on-requires-2
 hand-on-requires-2 c κs =
@@ -59,15 +32,6 @@ hand-on-requires-2 c κs =
     let room = subst (λ (f : FrameCode). a .first + frameMakes f (a .d) ≤ length old) same (c .before .before .before .before .before .before .before .before .before .pre .1) in
     (omega arith, omega arith, omega arith)
 
-enum-told-3 : tie.Need-enum-told-3
-enum-told-3 c = search needs
-
-enum-told-4 : tie.Need-enum-told-4
-enum-told-4 c = search needs
-
-enum-told-5 : tie.Need-enum-told-5
-enum-told-5 c = search needs
-
 pass-and-requires : tie.Need-pass-and-requires
 pass-and-requires c κs =
     let a = c .before .before .before .before .before .args in
@@ -76,9 +40,6 @@ pass-and-requires c κs =
     let early = subst (λ (f : FrameCode). FrameEarly f (a .d) (a .first) (a .ops .now)) same (c .before .before .before .before .before .pre .2) in
     let room = subst (λ (f : FrameCode). a .first + frameMakes f (a .d) ≤ length old) same (c .before .before .before .before .before .pre .1) in
     (c .before .before .before .before .before .pre .0, room, early)
-
-enum-told-6 : tie.Need-enum-told-6
-enum-told-6 c = search needs
 
 pass-ref-requires : tie.Need-pass-ref-requires
 pass-ref-requires c κs =
@@ -185,22 +146,22 @@ pub pass-frame-spec : {M : Type 1} → statement M
 pass-frame-spec =
     tie.close
     (tie.spec
-    enum-known-frame
-    enum-told
-    enum-told-2
-    enum-known-gate
-    cast-hand-on
-    cast-hand-on-2
+    (λ c. search needs)
+    (λ c. search needs)
+    (λ c. search needs)
+    (λ c. search needs)
+    (λ c. search needs)
+    (λ c. search needs)
     hand-on-requires
-    enum-known-gate-2
-    cast-hand-on-3
-    cast-hand-on-4
+    (λ c. search needs)
+    (λ c. search needs)
+    (λ c. search needs)
     hand-on-requires-2
-    enum-told-3
-    enum-told-4
-    enum-told-5
+    (λ c. search needs)
+    (λ c. search needs)
+    (λ c. search needs)
     pass-and-requires
-    enum-told-6
+    (λ c. search needs)
     pass-ref-requires
     returns
     returns-2

@@ -30,7 +30,7 @@ shared-slice-read-d : tie.Need-shared-slice-read-d Inv-loop μ-loop
 shared-slice-read-d c = omega (arith, ap length (c .before .before .before .before .pre .2 .accepted .table-is))
 
 cast-n : tie.Need-cast-n Inv-loop μ-loop
-cast-n c = record { fits = omega (arith, c .before .before .before .before .pre .2 .accepted .most, second-word (c .before .before .before .before .pre .2 .accepted)) }
+cast-n c = record { fits = omega (arith, second-word (c .before .before .before .before .pre .2 .accepted)) }
 
 loop-holds : tie.Need-loop-holds Inv-loop μ-loop
 loop-holds c = (omega arith, refl, λ room q h. settled-start q (c .before .before .before .before .args .marks .now) (c .before .before .before .before .args .wires) (c .before .before .before .before .args .count) (c .before .before .before .before .pre .0 .is room q .0) h)
@@ -38,20 +38,11 @@ loop-holds c = (omega arith, refl, λ room q h. settled-start q (c .before .befo
 sub-i : tie.Need-sub-i Inv-loop μ-loop
 sub-i c = c .loop-test .taken
 
-mul-t18 : tie.Need-mul-t18 Inv-loop μ-loop
-mul-t18 c = search needs
-
 shared-slice-read-t20 : tie.Need-shared-slice-read-t20 Inv-loop μ-loop
-shared-slice-read-t20 c = omega (arith, c .before .before .loop .inv .0, c .before .loop-test .taken, c .before .before .before .before .before .before .before .pre .1)
+shared-slice-read-t20 c = omega arith
 
 cast-t21 : tie.Need-cast-t21 Inv-loop μ-loop
 cast-t21 c = record { fits = omega (arith, c .shared-slice-known4 .given (c .before .before .loop .i - 1)) }
-
-step-requires : tie.Need-step-requires Inv-loop μ-loop
-step-requires c κs = search needs
-
-enum-told : tie.Need-enum-told Inv-loop μ-loop
-enum-told c = search needs
 
 same-length : tie.Need-same-length Inv-loop μ-loop
 same-length c = c .before .before .before .before .before .loop .inv .1
@@ -65,15 +56,12 @@ returns c =
     let d = nth table 1 in
     let i = l .i - 1 in
     let at = nth (a .starts .now) i in
-    let turn : l .i ≡ i + 1 = omega (arith, c .before .before .before .before .loop-test .taken) in
+    let turn : l .i ≡ i + 1 = omega arith in
     let st = pre .0 .is (pre .2 .room) (pre .2 .accepted) in
-    let inside : i < length ((pre .2 .accepted) .fs) = omega (arith, st .0, l .inv .0, turn) in
-    let place = st .1 i (omega (arith, l .inv .0, turn)) in
+    let inside : i < length ((pre .2 .accepted) .fs) = omega arith in
+    let place = st .1 i (omega arith) in
     let so-far = subst (SettledTo (pre .2 .accepted) (a .marks .now) (l .marks) (l .w)) turn (l .inv .2 (pre .2 .room) (pre .2 .accepted) (pre .2 .all)) in
     absurd (no-end (pre .2 .accepted) (a .marks .now) (l .marks) (l .w) i at (place .0) (place .1) inside so-far d (second-word (pre .2 .accepted)) (sym (c .before .before .step .ensures) ∙ c .enum-told .given .1))
-
-enum-told-2 : tie.Need-enum-told-2 Inv-loop μ-loop
-enum-told-2 c = search needs
 
 same-length-2 : tie.Need-same-length-2 Inv-loop μ-loop
 same-length-2 c = c .before .before .before .before .before .loop .inv .1
@@ -87,18 +75,12 @@ returns-2 c =
     let d = nth table 1 in
     let i = l .i - 1 in
     let at = nth (a .starts .now) i in
-    let turn : l .i ≡ i + 1 = omega (arith, c .before .before .before .before .loop-test .taken) in
+    let turn : l .i ≡ i + 1 = omega arith in
     let st = pre .0 .is (pre .2 .room) (pre .2 .accepted) in
-    let inside : i < length ((pre .2 .accepted) .fs) = omega (arith, st .0, l .inv .0, turn) in
-    let place = st .1 i (omega (arith, l .inv .0, turn)) in
+    let inside : i < length ((pre .2 .accepted) .fs) = omega arith in
+    let place = st .1 i (omega arith) in
     let so-far = subst (SettledTo (pre .2 .accepted) (a .marks .now) (l .marks) (l .w)) turn (l .inv .2 (pre .2 .room) (pre .2 .accepted) (pre .2 .all)) in
     absurd (no-refusal (pre .2 .accepted) (a .marks .now) (l .marks) (l .w) i at (place .0) (place .1) inside so-far d (second-word (pre .2 .accepted)) (c .enum-told2 .given .0 .0) (sym (c .before .before .step .ensures) ∙ c .enum-told2 .given .1))
-
-enum-known-step : tie.Need-enum-known-step Inv-loop μ-loop
-enum-known-step c = search needs
-
-operands-requires : tie.Need-operands-requires Inv-loop μ-loop
-operands-requires c κs = search needs
 
 sub-w : tie.Need-sub-w Inv-loop μ-loop
 sub-w c =
@@ -109,10 +91,10 @@ sub-w c =
     let d = nth table 1 in
     let i = l .i - 1 in
     let at = nth (a .starts .now) i in
-    let turn : l .i ≡ i + 1 = omega (arith, c .before .before .before .before .before .before .before .loop-test .taken) in
+    let turn : l .i ≡ i + 1 = omega arith in
     let st = pre .0 .is (pre .2 .room) (pre .2 .accepted) in
-    let inside : i < length ((pre .2 .accepted) .fs) = omega (arith, st .0, l .inv .0, turn) in
-    let place = st .1 i (omega (arith, l .inv .0, turn)) in
+    let inside : i < length ((pre .2 .accepted) .fs) = omega arith in
+    let place = st .1 i (omega arith) in
     let so-far = subst (SettledTo (pre .2 .accepted) (a .marks .now) (l .marks) (l .w)) turn (l .inv .2 (pre .2 .room) (pre .2 .accepted) (pre .2 .all)) in
     let g = c .before .before .before .step2 .given in
     let e : stepAt table d at ≡ Next (g .0 .0) (g .0 .1 .0) (g .0 .1 .1 .0) = sym (c .before .before .before .before .before .step .ensures) ∙ g .1 in
@@ -128,22 +110,22 @@ pass-frame-requires c κs =
     let d = nth table 1 in
     let i = l .i - 1 in
     let at = nth (a .starts .now) i in
-    let turn : l .i ≡ i + 1 = omega (arith, c .before .before .before .before .before .before .before .before .loop-test .taken) in
+    let turn : l .i ≡ i + 1 = omega arith in
     let st = pre .0 .is (pre .2 .room) (pre .2 .accepted) in
-    let inside : i < length ((pre .2 .accepted) .fs) = omega (arith, st .0, l .inv .0, turn) in
-    let place = st .1 i (omega (arith, l .inv .0, turn)) in
+    let inside : i < length ((pre .2 .accepted) .fs) = omega arith in
+    let place = st .1 i (omega arith) in
     let so-far = subst (SettledTo (pre .2 .accepted) (a .marks .now) (l .marks) (l .w)) turn (l .inv .2 (pre .2 .room) (pre .2 .accepted) (pre .2 .all)) in
     let g = c .before .before .before .before .step2 .given in
     let e : stepAt table d at ≡ Next (g .0 .0) (g .0 .1 .0) (g .0 .1 .1 .0) = sym (c .before .before .before .before .before .before .step .ensures) ∙ g .1 in
     let t = frame-handed (pre .2 .accepted) (a .marks .now) (l .marks) (l .w) i at (place .0) (place .1) inside so-far d (second-word (pre .2 .accepted)) (g .0 .0) (g .0 .1 .0) (g .0 .1 .1 .0) e in
     let o : c .before .before .operands .result .now ≡ operandsAt table d at = c .before .before .operands .ensures in (
       t .small,
-      omega (arith, t .few-made, l .inv .1, pre .2 .roomy),
+      omega arith,
       subst (FrameEarly (g .0 .0) d (l .w - g .0 .1 .0 .makes)) (sym o) (t .early),
     )
 
 loop-less : tie.Need-loop-less Inv-loop μ-loop
-loop-less c = omega (arith, c .before .before .before .before .before .before .before .before .before .before .before .loop-test .taken)
+loop-less c = omega arith
 
 loop-again : tie.Need-loop-again Inv-loop μ-loop
 loop-again c =
@@ -154,19 +136,19 @@ loop-again c =
     let d = nth table 1 in
     let i = l .i - 1 in
     let at = nth (a .starts .now) i in
-    let turn : l .i ≡ i + 1 = omega (arith, c .before .before .before .before .before .before .before .before .before .before .before .loop-test .taken) in
+    let turn : l .i ≡ i + 1 = omega arith in
     let g = c .before .before .before .before .before .before .before .step2 .given in
     let e : stepAt table d at ≡ Next (g .0 .0) (g .0 .1 .0) (g .0 .1 .1 .0) = sym (c .before .before .before .before .before .before .before .before .before .step .ensures) ∙ g .1 in
     let o : c .before .before .before .before .before .operands .result .now ≡ operandsAt table d at = c .before .before .before .before .before .operands .ensures in (
-      omega (arith, l .inv .0),
+      omega arith,
       c .before .before .pass-frame .ensures .size ∙ l .inv .1,
       λ room q h.
           let st = pre .0 .is (room) (q) in
-          let inside : i < length ((q) .fs) = omega (arith, st .0, l .inv .0, turn) in
-          let place = st .1 i (omega (arith, l .inv .0, turn)) in
+          let inside : i < length ((q) .fs) = omega arith in
+          let place = st .1 i (omega arith) in
           let so-far = subst (SettledTo (q) (a .marks .now) (l .marks) (l .w)) turn (l .inv .2 (room) (q) (h)) in
           let t = frame-handed (q) (a .marks .now) (l .marks) (l .w) i at (place .0) (place .1) inside so-far d (second-word (q)) (g .0 .0) (g .0 .1 .0) (g .0 .1 .1 .0) e in
-          t .next (c .before .before .pass-frame .last .0) (settled-size q (l .marks) (omega (arith, l .inv .1, pre .2 .roomy)))
+          t .next (c .before .before .pass-frame .last .0) (settled-size q (l .marks) (omega arith))
           (subst (λ (x : List ℕ). Moves (FrameGates (g .0 .0) d (l .w - g .0 .1 .0 .makes) x) (l .w - g .0 .1 .0 .makes) (l .w - g .0 .1 .0 .makes + frameMakes (g .0 .0) d) (l .marks) (c .before .before .pass-frame .last .0)) o (c .before .before .pass-frame .ensures)),
     )
 
@@ -193,18 +175,18 @@ settle-spec =
     cast-n
     loop-holds
     sub-i
-    mul-t18
+    (λ c. search needs)
     shared-slice-read-t20
     cast-t21
-    step-requires
-    enum-told
+    (λ c κs. search needs)
+    (λ c. search needs)
     same-length
     returns
-    enum-told-2
+    (λ c. search needs)
     same-length-2
     returns-2
-    enum-known-step
-    operands-requires
+    (λ c. search needs)
+    (λ c κs. search needs)
     sub-w
     pass-frame-requires
     loop-less

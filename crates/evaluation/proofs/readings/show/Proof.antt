@@ -28,54 +28,51 @@ loop-holds : tie.Need-loop-holds Inv-loop μ-loop Inv-loop2 μ-loop2
 loop-holds c = (omega arith, refl, refl)
 
 shared-slice-read-shown : tie.Need-shared-slice-read-shown Inv-loop μ-loop Inv-loop2 μ-loop2
-shared-slice-read-shown c = omega (arith, c .before .before .loop .inv .0, c .before .before .loop .inv .1, c .before .loop-test .taken, c .before .before .before .before .before .before .pre .0, c .before .before .before .before .before .before .pre .1, c .before .before .before .before .before .before .pre .2, c .before .before .before .before .before .before .pre .3)
+shared-slice-read-shown c = omega arith
 
 shared-slice-read-shown-2 : tie.Need-shared-slice-read-shown-2 Inv-loop μ-loop Inv-loop2 μ-loop2
-shared-slice-read-shown-2 c = omega (arith, c .before .before .before .loop .inv .0, c .before .before .before .loop .inv .1, c .before .before .loop-test .taken, c .before .before .before .before .before .before .before .pre .0, c .before .before .before .before .before .before .before .pre .1, c .before .before .before .before .before .before .before .pre .2, c .before .before .before .before .before .before .before .pre .3)
-
-shown-requires : tie.Need-shown-requires Inv-loop μ-loop Inv-loop2 μ-loop2
-shown-requires c κs = search needs
+shared-slice-read-shown-2 c = omega arith
 
 slice-write-reading : tie.Need-slice-write-reading Inv-loop μ-loop Inv-loop2 μ-loop2
-slice-write-reading c = omega (arith, c .before .before .before .before .loop .inv .0, c .before .before .before .before .loop .inv .1, c .before .before .before .loop-test .taken, c .before .before .before .before .before .before .before .before .pre .0, c .before .before .before .before .before .before .before .before .pre .1, c .before .before .before .before .before .before .before .before .pre .2, c .before .before .before .before .before .before .before .before .pre .3)
+slice-write-reading c = omega arith
 
 add-x : tie.Need-add-x Inv-loop μ-loop Inv-loop2 μ-loop2
-add-x c = record { fits = omega (arith, c .before .before .before .before .loop .inv .0, c .before .before .before .before .loop .inv .1, c .before .before .before .loop-test .taken, c .before .before .before .before .before .before .before .before .pre .0, c .before .before .before .before .before .before .before .before .pre .1, c .before .before .before .before .before .before .before .before .pre .2, c .before .before .before .before .before .before .before .before .pre .3) }
+add-x c = record { fits = omega arith }
 
 loop-less : tie.Need-loop-less Inv-loop μ-loop Inv-loop2 μ-loop2
-loop-less c = omega (arith, c .before .before .before .before .loop .inv .0, c .before .before .before .before .loop .inv .1, c .before .before .before .loop-test .taken, c .before .before .before .before .before .before .before .before .pre .0, c .before .before .before .before .before .before .before .before .pre .1, c .before .before .before .before .before .before .before .before .pre .2, c .before .before .before .before .before .before .before .before .pre .3)
+loop-less c = omega arith
 
 loop-again : tie.Need-loop-again Inv-loop μ-loop Inv-loop2 μ-loop2
 loop-again c =
     let a = c .before .before .before .before .before .before .before .before .args in
     let l = c .before .before .before .before .loop in (
-      omega (arith, c .before .before .before .before .loop .inv .0, c .before .before .before .before .loop .inv .1, c .before .before .before .loop-test .taken, c .before .before .before .before .before .before .before .before .pre .0, c .before .before .before .before .before .before .before .before .pre .1, c .before .before .before .before .before .before .before .before .pre .2, c .before .before .before .before .before .before .before .before .pre .3),
+      omega arith,
       length-set (l .reading) (l .x) (c .shown .result) ∙ l .inv .1,
-      l .inv .2 ∙ show-store (a .marks .now) (a .values .now) (l .reading) 8192 (l .x) (omega (arith, c .before .before .before .before .loop .inv .0, c .before .before .before .before .loop .inv .1, c .before .before .before .loop-test .taken, c .before .before .before .before .before .before .before .before .pre .0, c .before .before .before .before .before .before .before .before .pre .1, c .before .before .before .before .before .before .before .before .pre .2, c .before .before .before .before .before .before .before .before .pre .3))
+      l .inv .2 ∙ show-store (a .marks .now) (a .values .now) (l .reading) 8192 (l .x) (omega arith)
           ∙ ap (λ n. sets (set (l .reading) (l .x) n) (l .x + 1) (shownFrom (a .marks .now) (a .values .now) (l .x + 1) (8192 - (l .x + 1)))) (sym (c .shown .ensures)),
     )
 
 loop2-holds : tie.Need-loop2-holds Inv-loop μ-loop Inv-loop2 μ-loop2
-loop2-holds c = (omega arith, omega (arith, c .before .loop .inv .0, c .before .loop .inv .1, c .loop-test .left, c .before .before .before .before .before .pre .0, c .before .before .before .before .before .pre .1, c .before .before .before .before .before .pre .2, c .before .before .before .before .before .pre .3), refl, refl)
+loop2-holds c = (omega arith, omega arith, refl, refl)
 
 slice-write-reading-2 : tie.Need-slice-write-reading-2 Inv-loop μ-loop Inv-loop2 μ-loop2
-slice-write-reading-2 c = omega (arith, c .before .before .before .loop .inv .0, c .before .before .before .loop .inv .1, c .before .loop2 .inv .0, c .before .loop2 .inv .1, c .before .loop2 .inv .2, c .before .before .loop-test .left, c .loop2-test .taken, c .before .before .before .before .before .before .before .pre .0, c .before .before .before .before .before .before .before .pre .1, c .before .before .before .before .before .before .before .pre .2, c .before .before .before .before .before .before .before .pre .3)
+slice-write-reading-2 c = omega arith
 
 add-x-2 : tie.Need-add-x-2 Inv-loop μ-loop Inv-loop2 μ-loop2
-add-x-2 c = record { fits = omega (arith, c .before .before .before .loop .inv .0, c .before .before .before .loop .inv .1, c .before .loop2 .inv .0, c .before .loop2 .inv .1, c .before .loop2 .inv .2, c .before .before .loop-test .left, c .loop2-test .taken, c .before .before .before .before .before .before .before .pre .0, c .before .before .before .before .before .before .before .pre .1, c .before .before .before .before .before .before .before .pre .2, c .before .before .before .before .before .before .before .pre .3) }
+add-x-2 c = record { fits = omega arith }
 
 loop2-less : tie.Need-loop2-less Inv-loop μ-loop Inv-loop2 μ-loop2
-loop2-less c = omega (arith, c .before .before .before .loop .inv .0, c .before .before .before .loop .inv .1, c .before .loop2 .inv .0, c .before .loop2 .inv .1, c .before .loop2 .inv .2, c .before .before .loop-test .left, c .loop2-test .taken, c .before .before .before .before .before .before .before .pre .0, c .before .before .before .before .before .before .before .pre .1, c .before .before .before .before .before .before .before .pre .2, c .before .before .before .before .before .before .before .pre .3)
+loop2-less c = omega arith
 
 loop2-again : tie.Need-loop2-again Inv-loop μ-loop Inv-loop2 μ-loop2
 loop2-again c =
     let a = c .before .before .before .before .before .before .before .args in
     let l = c .before .loop2 in
-    let two : 2 ≡ shownAt (nth (a .marks .now) (l .x)) (nth (a .values .now) (l .x)) = rw (lt-ltb (nth (a .marks .now) (l .x)) 1 (c .before .before .before .before .before .before .before .pre .4 (l .x) (omega (arith, c .before .before .before .loop .inv .0, c .before .before .before .loop .inv .1, c .before .loop2 .inv .0, c .before .loop2 .inv .1, c .before .loop2 .inv .2, c .before .before .loop-test .left, c .loop2-test .taken, c .before .before .before .before .before .before .before .pre .0, c .before .before .before .before .before .before .before .pre .1, c .before .before .before .before .before .before .before .pre .2, c .before .before .before .before .before .before .before .pre .3)))) in (
-      omega (arith, c .before .before .before .loop .inv .0, c .before .before .before .loop .inv .1, c .before .loop2 .inv .0, c .before .loop2 .inv .1, c .before .loop2 .inv .2, c .before .before .loop-test .left, c .loop2-test .taken, c .before .before .before .before .before .before .before .pre .0, c .before .before .before .before .before .before .before .pre .1, c .before .before .before .before .before .before .before .pre .2, c .before .before .before .before .before .before .before .pre .3),
-      omega (arith, c .before .before .before .loop .inv .0, c .before .before .before .loop .inv .1, c .before .loop2 .inv .0, c .before .loop2 .inv .1, c .before .loop2 .inv .2, c .before .before .loop-test .left, c .loop2-test .taken, c .before .before .before .before .before .before .before .pre .0, c .before .before .before .before .before .before .before .pre .1, c .before .before .before .before .before .before .before .pre .2, c .before .before .before .before .before .before .before .pre .3),
+    let two : 2 ≡ shownAt (nth (a .marks .now) (l .x)) (nth (a .values .now) (l .x)) = rw (lt-ltb (nth (a .marks .now) (l .x)) 1 (c .before .before .before .before .before .before .before .pre .4 (l .x) (omega arith))) in (
+      omega arith,
+      omega arith,
       length-set (l .reading) (l .x) 2 ∙ l .inv .2,
-      l .inv .3 ∙ show-store (a .marks .now) (a .values .now) (l .reading) 8192 (l .x) (omega (arith, c .before .before .before .loop .inv .0, c .before .before .before .loop .inv .1, c .before .loop2 .inv .0, c .before .loop2 .inv .1, c .before .loop2 .inv .2, c .before .before .loop-test .left, c .loop2-test .taken, c .before .before .before .before .before .before .before .pre .0, c .before .before .before .before .before .before .before .pre .1, c .before .before .before .before .before .before .before .pre .2, c .before .before .before .before .before .before .before .pre .3))
+      l .inv .3 ∙ show-store (a .marks .now) (a .values .now) (l .reading) 8192 (l .x) (omega arith)
           ∙ ap (λ n. sets (set (l .reading) (l .x) n) (l .x + 1) (shownFrom (a .marks .now) (a .values .now) (l .x + 1) (8192 - (l .x + 1)))) (sym (two)),
     )
 
@@ -96,7 +93,7 @@ show-spec =
     loop-holds
     shared-slice-read-shown
     shared-slice-read-shown-2
-    shown-requires
+    (λ c κs. search needs)
     slice-write-reading
     add-x
     loop-less

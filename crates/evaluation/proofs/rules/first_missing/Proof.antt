@@ -19,23 +19,11 @@ abbrev μ-loop : tie.MeasureT-loop
 loop-holds : tie.Need-loop-holds Inv-loop μ-loop
 loop-holds c = (search needs, λ k e. passed-start (probesRule k) (c .args .probes .now))
 
-mul-if1 : tie.Need-mul-if1 Inv-loop μ-loop
-mul-if1 c = search needs
-
-shared-slice-read-if1 : tie.Need-shared-slice-read-if1 Inv-loop μ-loop
-shared-slice-read-if1 c = search needs
-
 cast-if1 : tie.Need-cast-if1 Inv-loop μ-loop
 cast-if1 c = record { fits = omega (arith, c .shared-slice-known .given (c .before .before .loop .i)) }
 
 returns : tie.Need-returns Inv-loop μ-loop
 returns c = record { is = λ k e. probe-found k (c .before .before .before .before .args .probes .now) (c .before .before .before .loop .i) (c .before .before .before .loop .inv .1 k e) (c .before .before .loop-test .taken) (omega arith) }
-
-add-i : tie.Need-add-i Inv-loop μ-loop
-add-i c = search needs
-
-loop-less : tie.Need-loop-less Inv-loop μ-loop
-loop-less c = search needs
 
 loop-again : tie.Need-loop-again Inv-loop μ-loop
 loop-again c = (omega arith, λ k e. probe-turn k (c .before .before .before .before .args .probes .now) (c .before .before .before .loop .i) (c .before .before .before .loop .inv .1 k e) (c .before .before .loop-test .taken) (omega arith))
@@ -50,11 +38,11 @@ first-missing-spec =
     Inv-loop
     μ-loop
     loop-holds
-    mul-if1
-    shared-slice-read-if1
+    (λ c. search needs)
+    (λ c. search needs)
     cast-if1
     returns
-    add-i
-    loop-less
+    (λ c. search needs)
+    (λ c. search needs)
     loop-again
     returns-2)

@@ -18,25 +18,16 @@ largest-requires : tie.Need-largest-requires Inv-loop μ-loop
 largest-requires c κs = omega arith
 
 returns : tie.Need-returns Inv-loop μ-loop
-returns c = over-none (c .before .before .before .args .bytes .now) (λ x l. omega (arith, c .before .largest .ensures .is x (omega arith) (omega arith), c .if1 .taken))
+returns c = over-none (c .before .before .before .args .bytes .now) (λ x l. omega (arith, c .before .largest .ensures .is x (omega arith) (omega arith)))
 
 loop-holds : tie.Need-loop-holds Inv-loop μ-loop
 loop-holds c = (omega arith, passed-start bytesRule (c .before .before .before .args .bytes .now))
 
-shared-slice-read-if2 : tie.Need-shared-slice-read-if2 Inv-loop μ-loop
-shared-slice-read-if2 c = search needs
-
 returns-2 : tie.Need-returns-2 Inv-loop μ-loop
 returns-2 c = record { is = byte-found (c .before .before .before .before .before .before .before .args .bytes .now) (c .before .before .before .loop .i) (c .before .before .before .loop .inv .1) (c .before .before .loop-test .taken) (c .if2 .taken) }
 
-add-i : tie.Need-add-i Inv-loop μ-loop
-add-i c = search needs
-
-loop-less : tie.Need-loop-less Inv-loop μ-loop
-loop-less c = search needs
-
 loop-again : tie.Need-loop-again Inv-loop μ-loop
-loop-again c = (omega (arith, c .before .before .before .loop .inv .0, c .before .before .loop-test .taken), byte-turn (c .before .before .before .before .before .before .before .args .bytes .now) (c .before .before .before .loop .i) (c .before .before .before .loop .inv .1) (c .before .before .loop-test .taken) (c .if2 .left))
+loop-again c = (omega arith, byte-turn (c .before .before .before .before .before .before .before .args .bytes .now) (c .before .before .before .loop .i) (c .before .before .before .loop .inv .1) (c .before .before .loop-test .taken) (c .if2 .left))
 
 returns-3 : tie.Need-returns-3 Inv-loop μ-loop
 returns-3 c = record { is = byte-end (c .before .before .before .before .before .args .bytes .now) (c .before .loop .i) (c .before .loop .inv .1) (c .loop-test .left) }
@@ -50,9 +41,9 @@ first-over-spec =
     largest-requires
     returns
     loop-holds
-    shared-slice-read-if2
+    (λ c. search needs)
     returns-2
-    add-i
-    loop-less
+    (λ c. search needs)
+    (λ c. search needs)
     loop-again
     returns-3)

@@ -1,6 +1,5 @@
 -- `evaluation::values::constant` meets its contract.
 use mathlib.Core.Path.{sym, ap, _∙_}
-use Prim.Native.Nat.{_-_}
 use native.Mathlib.Omega.{arith}
 use borrow.Author.Needs.{needs}
 use Rattle.netlist.specs.Values.{byte}
@@ -8,17 +7,11 @@ use Rattle.evaluation.proofs.values.constant.Statement.{statement}
 use Rattle.evaluation.proofs.values.constant.Tie as tie
 use Rattle.evaluation.proofs.Filled.{fills-one}
 
-bit-requires : tie.Need-bit-requires
-bit-requires c κs = search needs
-
 slice-write-values : tie.Need-slice-write-values
-slice-write-values c = omega (arith, c .before .before .pre)
-
-same-length : tie.Need-same-length
-same-length c = search needs
+slice-write-values c = omega arith
 
 returns : tie.Need-returns
-returns c = fills-one (c .before .before .args .first) (c .before .before .args .values .now) (c .bit .result) (omega (arith, c .before .before .pre)) (λ v e k. c .bit .ensures ∙ ap byte (sym e))
+returns c = fills-one (c .before .before .args .first) (c .before .before .args .values .now) (c .bit .result) (omega arith) (λ v e k. c .bit .ensures ∙ ap byte (sym e))
 
 pub constant-spec : {M : Type 1} → statement M
-constant-spec = tie.close (tie.spec bit-requires slice-write-values same-length returns)
+constant-spec = tie.close (tie.spec (λ c κs. search needs) slice-write-values (λ c. search needs) returns)

@@ -27,16 +27,10 @@ shared-slice-read-d : tie.Need-shared-slice-read-d Inv-loop μ-loop
 shared-slice-read-d c = omega (arith, ap length (c .before .before .before .before .before .pre .accepted .table-is))
 
 cast-n : tie.Need-cast-n Inv-loop μ-loop
-cast-n c = record { fits = omega (arith, c .before .before .before .before .before .pre .accepted .most, second-word (c .before .before .before .before .before .pre .accepted)) }
+cast-n c = record { fits = omega (arith, second-word (c .before .before .before .before .before .pre .accepted)) }
 
 loop-holds : tie.Need-loop-holds Inv-loop μ-loop
 loop-holds c = (refl, λ room q s. filled-start q (c .before .before .before .before .before .args .shares .now) (c .before .before .before .before .before .args .tape .now) (c .before .before .before .before .before .args .values .now))
-
-step-requires : tie.Need-step-requires Inv-loop μ-loop
-step-requires c κs = search needs
-
-enum-told : tie.Need-enum-told Inv-loop μ-loop
-enum-told c = search needs
 
 same-length : tie.Need-same-length Inv-loop μ-loop
 same-length c =
@@ -57,9 +51,6 @@ returns c =
           (subst (λ n. stepAt table n (l .walk .at) ≡ End) (l .inv .0 ∙ second-word q) (sym (c .before .before .step .ensures) ∙ c .enum-told .given .1)) (pre .roomy);
     }
 
-enum-told-2 : tie.Need-enum-told-2 Inv-loop μ-loop
-enum-told-2 c = search needs
-
 same-length-2 : tie.Need-same-length-2 Inv-loop μ-loop
 same-length-2 c =
     let a = c .before .before .before .before .before .before .before .before .before .args in
@@ -76,12 +67,6 @@ returns-2 c =
     let table = a .table .now in
     absurd (no-refusal (pre .accepted) (a .shares .now) (a .tape .now) (pre .supplied) (a .values .now) (l .values) (l .walk .at) (l .ends .wires) (l .ends .shares) (l .ends .randoms) (l .inv .1 (pre .room) (pre .accepted) (pre .supplied)) (c .enum-told2 .given .0 .0)
     (subst (λ n. stepAt table n (l .walk .at) ≡ Refused (c .enum-told2 .given .0 .0)) (l .inv .0 ∙ second-word (pre .accepted)) (sym (c .before .before .step .ensures) ∙ c .enum-told2 .given .1)))
-
-enum-known-step : tie.Need-enum-known-step Inv-loop μ-loop
-enum-known-step c = search needs
-
-operands-requires : tie.Need-operands-requires Inv-loop μ-loop
-operands-requires c κs = search needs
 
 write-frame-requires : tie.Need-write-frame-requires Inv-loop μ-loop
 write-frame-requires c κs =
@@ -111,7 +96,7 @@ add-t19 c =
     let d = nth table 1 in
     let e : stepAt table d (l .walk .at) ≡ Next (g .0 .0) (g .0 .1 .0) (g .0 .1 .1 .0) = subst (λ n. stepAt table n (l .walk .at) ≡ Next (g .0 .0) (g .0 .1 .0) (g .0 .1 .1 .0)) (l .inv .0) (sym (c .before .before .before .before .before .before .before .before .before .before .step .ensures) ∙ g .1) in
     let t = frame-taken (pre .accepted) (a .shares .now) (a .tape .now) (pre .supplied) (a .values .now) (l .values) (l .walk .at) (l .ends .wires) (l .ends .shares) (l .ends .randoms) (l .inv .1 (pre .room) (pre .accepted) (pre .supplied)) d (second-word (pre .accepted)) (g .0 .0) (g .0 .1 .0) (g .0 .1 .1 .0) e in
-    record { fits = omega (arith, t .makes) }
+    record { fits = omega arith }
 
 mul-t20 : tie.Need-mul-t20 Inv-loop μ-loop
 mul-t20 c =
@@ -159,7 +144,7 @@ loop-less c =
     let d = nth table 1 in
     let e : stepAt table d (l .walk .at) ≡ Next (g .0 .0) (g .0 .1 .0) (g .0 .1 .1 .0) = subst (λ n. stepAt table n (l .walk .at) ≡ Next (g .0 .0) (g .0 .1 .0) (g .0 .1 .1 .0)) (l .inv .0) (sym (c .before .before .before .before .before .before .before .before .before .before .before .before .before .before .step .ensures) ∙ g .1) in
     let t = frame-taken (pre .accepted) (a .shares .now) (a .tape .now) (pre .supplied) (a .values .now) (l .values) (l .walk .at) (l .ends .wires) (l .ends .shares) (l .ends .randoms) (l .inv .1 (pre .room) (pre .accepted) (pre .supplied)) d (second-word (pre .accepted)) (g .0 .0) (g .0 .1 .0) (g .0 .1 .1 .0) e in
-    omega (arith, t .later, t .ends)
+    omega arith
 
 loop-again : tie.Need-loop-again Inv-loop μ-loop
 loop-again c =
@@ -187,15 +172,15 @@ fill-spec =
     shared-slice-read-d
     cast-n
     loop-holds
-    step-requires
-    enum-told
+    (λ c κs. search needs)
+    (λ c. search needs)
     same-length
     returns
-    enum-told-2
+    (λ c. search needs)
     same-length-2
     returns-2
-    enum-known-step
-    operands-requires
+    (λ c. search needs)
+    (λ c κs. search needs)
     write-frame-requires
     add-t19
     mul-t20

@@ -1,6 +1,5 @@
 -- `evaluation::values::inverse` meets its contract.
 use mathlib.Core.Path.{sym, ap, _∙_}
-use Prim.Native.Nat.{_-_}
 use native.Mathlib.Omega.{arith}
 use lib.Bits.{bitXor}
 use borrow.Author.Needs.{needs}
@@ -12,19 +11,16 @@ use Rattle.evaluation.proofs.Bits.{byte-not}
 use Rattle.evaluation.proofs.Filled.{fills-one}
 
 slice-read-values : tie.Need-slice-read-values
-slice-read-values c = omega (arith, c .before .pre .0, c .before .pre .1)
+slice-read-values c = omega arith
 
 slice-write-values : tie.Need-slice-write-values
-slice-write-values c = omega (arith, c .before .pre .0, c .before .pre .1)
-
-same-length : tie.Need-same-length
-same-length c = search needs
+slice-write-values c = omega arith
 
 returns : tie.Need-returns
 returns c =
     let a = c .before .args in
     let old = a .values .now in
-    fills-one (a .first) old (bitXor 1 (nth old (a .wire))) (omega (arith, c .before .pre .0, c .before .pre .1)) (λ v e k. ap (bitXor 1) (k (a .wire) (omega arith) (c .before .pre .1)) ∙ byte-not (v (a .wire)) ∙ ap byte (sym e))
+    fills-one (a .first) old (bitXor 1 (nth old (a .wire))) (omega arith) (λ v e k. ap (bitXor 1) (k (a .wire) (omega arith) (c .before .pre .1)) ∙ byte-not (v (a .wire)) ∙ ap byte (sym e))
 
 pub inverse-spec : {M : Type 1} → statement M
-inverse-spec = tie.close (tie.spec slice-read-values slice-write-values same-length returns)
+inverse-spec = tie.close (tie.spec slice-read-values slice-write-values (λ c. search needs) returns)

@@ -1,6 +1,5 @@
 -- `evaluation::values::register` meets its contract.
 use mathlib.Core.Path.{sym, ap, _∙_}
-use Prim.Native.Nat.{_-_}
 use native.Mathlib.Omega.{arith}
 use borrow.Author.Needs.{needs}
 use Rattle.circuit.specs.Lists.{nth}
@@ -10,19 +9,16 @@ use Rattle.evaluation.proofs.values.register.Tie as tie
 use Rattle.evaluation.proofs.Filled.{fills-one}
 
 slice-read-values : tie.Need-slice-read-values
-slice-read-values c = omega (arith, c .before .pre .0, c .before .pre .1)
+slice-read-values c = omega arith
 
 slice-write-values : tie.Need-slice-write-values
-slice-write-values c = omega (arith, c .before .pre .0, c .before .pre .1)
-
-same-length : tie.Need-same-length
-same-length c = search needs
+slice-write-values c = omega arith
 
 returns : tie.Need-returns
 returns c =
     let a = c .before .args in
     let old = a .values .now in
-    fills-one (a .first) old (nth old (a .wire)) (omega (arith, c .before .pre .0, c .before .pre .1)) (λ v e k. k (a .wire) (omega arith) (c .before .pre .1) ∙ ap byte (sym e))
+    fills-one (a .first) old (nth old (a .wire)) (omega arith) (λ v e k. k (a .wire) (omega arith) (c .before .pre .1) ∙ ap byte (sym e))
 
 pub register-spec : {M : Type 1} → statement M
-register-spec = tie.close (tie.spec slice-read-values slice-write-values same-length returns)
+register-spec = tie.close (tie.spec slice-read-values slice-write-values (λ c. search needs) returns)

@@ -1,6 +1,5 @@
 -- `evaluation::values::sum` meets its contract.
 use mathlib.Core.Path.{sym, ap, ap₂, _∙_}
-use Prim.Native.Nat.{_-_}
 use native.Mathlib.Omega.{arith}
 use lib.Bits.{bitXor}
 use borrow.Author.Needs.{needs}
@@ -12,24 +11,21 @@ use Rattle.evaluation.proofs.Bits.{byte-xor}
 use Rattle.evaluation.proofs.Filled.{fills-one}
 
 slice-read-values : tie.Need-slice-read-values
-slice-read-values c = omega (arith, c .before .pre .0, c .before .pre .1, c .before .pre .2)
+slice-read-values c = omega arith
 
 slice-read-values-2 : tie.Need-slice-read-values-2
-slice-read-values-2 c = omega (arith, c .before .before .pre .0, c .before .before .pre .1, c .before .before .pre .2)
+slice-read-values-2 c = omega arith
 
 slice-write-values : tie.Need-slice-write-values
-slice-write-values c = omega (arith, c .before .before .pre .0, c .before .before .pre .1, c .before .before .pre .2)
-
-same-length : tie.Need-same-length
-same-length c = search needs
+slice-write-values c = omega arith
 
 returns : tie.Need-returns
 returns c =
     let a = c .before .before .args in
     let old = a .values .now in
-    fills-one (a .first) old (bitXor (nth old (a .one)) (nth old (a .other))) (omega (arith, c .before .before .pre .0, c .before .before .pre .1, c .before .before .pre .2)) (λ v e k. ap₂ bitXor (k (a .one) (omega arith) (c .before .before .pre .1)) (k (a .other) (omega arith) (c .before .before .pre .2)) ∙ byte-xor (v (a .one)) (v (a .other)) ∙ ap byte (sym e))
+    fills-one (a .first) old (bitXor (nth old (a .one)) (nth old (a .other))) (omega arith) (λ v e k. ap₂ bitXor (k (a .one) (omega arith) (c .before .before .pre .1)) (k (a .other) (omega arith) (c .before .before .pre .2)) ∙ byte-xor (v (a .one)) (v (a .other)) ∙ ap byte (sym e))
 
 pub sum-spec : {M : Type 1} → statement M
 sum-spec =
     tie.close
-    (tie.spec slice-read-values slice-read-values-2 slice-write-values same-length returns)
+    (tie.spec slice-read-values slice-read-values-2 slice-write-values (λ c. search needs) returns)

@@ -99,13 +99,13 @@ put-number-slice-write-out-2 : (t : ℕ) → put-number-lts.Need-slice-write-out
   put-number-below t,
   put-number.Post,
 ) (put-number-at t) put-number.Post
-put-number-slice-write-out-2 t c = let f = front-put t c in omega (arith, f .place, f .room, c .before .before .before .before .before .before .pre .1)
+put-number-slice-write-out-2 t c = let f = front-put t c in omega arith
 
 put-number-add-result-2 : (t : ℕ) → put-number-lts.Need-add-result-2 (
   put-number-below t,
   put-number.Post,
 ) (put-number-at t) put-number.Post
-put-number-add-result-2 t c = record { fits = omega (arith, front-put t c .place, c .before .before .before .before .before .before .pre .1) }
+put-number-add-result-2 t c = record { fits = omega (arith, front-put t c .place) }
 
 put-number-same-length-2 : (t : ℕ) → put-number-lts.Need-same-length-2 (
   put-number-below t,

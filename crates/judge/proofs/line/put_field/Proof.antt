@@ -15,10 +15,7 @@ put-bytes-requires c κs = let k = c .before .before .before in omega (arith, le
 
 put-number-requires : tie.Need-put-number-requires
 put-number-requires c κs = let k = c .before .before .before .before .before .before .before .args in let e = c .before .before .before .put-bytes .ensures in
-    omega (arith, e .0, ap length (e .1), length-sets (now (k .out)) (k .at) (now (k .name)), length-append (now (k .name)) (decimal (k .n)), c .before .before .before .before .before .before .before .pre)
-
-same-length : tie.Need-same-length
-same-length c = search needs
+    omega (arith, e .0, ap length (e .1), length-sets (now (k .out)) (k .at) (now (k .name)), length-append (now (k .name)) (decimal (k .n)))
 
 returns : tie.Need-returns
 returns c =
@@ -28,4 +25,4 @@ returns c =
     (omega (arith, e .0, f .0, length-append (now (k .name)) (decimal (k .n))), f .1 ∙ rw (e .1, e .0) (one-run (now (k .out)) (k .at) (now (k .name)) (decimal (k .n))))
 
 pub put-field-spec : {M : Type 1} → statement M
-put-field-spec = tie.close (tie.spec put-bytes-requires put-number-requires same-length returns)
+put-field-spec = tie.close (tie.spec put-bytes-requires put-number-requires (λ c. search needs) returns)

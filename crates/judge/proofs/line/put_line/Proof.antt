@@ -60,18 +60,12 @@ put-field-requires-3 c κs =
     let r = second k in
     omega (arith, sizes (start2 k), start2 k .pre, r .place, length-append (one (start2 k)) (two (start2 k)), run-length _ _ _ _ r)
 
-slice-aggregate-put-bytes : tie.Need-slice-aggregate-put-bytes
-slice-aggregate-put-bytes c = search needs
-
 put-bytes-requires : tie.Need-put-bytes-requires
 put-bytes-requires c κs =
     let k = c .before .before .before .before in
     let r = third k in
     let s = start3 k in
     omega (arith, sizes s, s .pre, r .place, length-append (one s ++ two s) (three s), length-append (one s) (two s), run-length _ _ _ _ r)
-
-same-length : tie.Need-same-length
-same-length c = search needs
 
 returns : tie.Need-returns
 returns c =
@@ -86,7 +80,7 @@ put-line-spec =
     put-field-requires
     put-field-requires-2
     put-field-requires-3
-    slice-aggregate-put-bytes
+    (λ c. search needs)
     put-bytes-requires
-    same-length
+    (λ c. search needs)
     returns)

@@ -4,11 +4,8 @@ use Rattle.text.proofs.Table.{digit-entry}
 use Rattle.text.proofs.digits.digit.Tie as tie
 use Rattle.text.proofs.digits.digit.Statement.{statement}
 
-element-copy-out-result : tie.Need-element-copy-out-result
-element-copy-out-result c = search needs
-
 returns : tie.Need-returns
 returns c = rw (c .before .pre) (digit-entry (c .before .args .b) (search needs))
 
 pub digit-spec : {M : Type 1} → statement M
-digit-spec = tie.close (tie.spec element-copy-out-result returns)
+digit-spec = tie.close (tie.spec (λ c. search needs) returns)

@@ -15,39 +15,6 @@ small c = (
   rw (c .digit4 .ensures) (code-small _),
 )
 
-shared-slice-read-digit : tie.Need-shared-slice-read-digit
-shared-slice-read-digit c = search needs
-
-digit-requires : tie.Need-digit-requires
-digit-requires c κs = search needs
-
-add-digit : tie.Need-add-digit
-add-digit c = search needs
-
-shared-slice-read-digit-2 : tie.Need-shared-slice-read-digit-2
-shared-slice-read-digit-2 c = search needs
-
-digit-requires-2 : tie.Need-digit-requires-2
-digit-requires-2 c κs = search needs
-
-add-digit-2 : tie.Need-add-digit-2
-add-digit-2 c = search needs
-
-shared-slice-read-digit-3 : tie.Need-shared-slice-read-digit-3
-shared-slice-read-digit-3 c = search needs
-
-digit-requires-3 : tie.Need-digit-requires-3
-digit-requires-3 c κs = search needs
-
-add-digit-3 : tie.Need-add-digit-3
-add-digit-3 c = search needs
-
-shared-slice-read-digit-4 : tie.Need-shared-slice-read-digit-4
-shared-slice-read-digit-4 c = search needs
-
-digit-requires-4 : tie.Need-digit-requires-4
-digit-requires-4 c κs = search needs
-
 add-result : tie.Need-add-result
 add-result c = omega (arith, small c)
 
@@ -64,17 +31,17 @@ pub is-word-spec : {M : Type 1} → statement M
 is-word-spec =
     tie.close
     (tie.spec
-    shared-slice-read-digit
-    digit-requires
-    add-digit
-    shared-slice-read-digit-2
-    digit-requires-2
-    add-digit-2
-    shared-slice-read-digit-3
-    digit-requires-3
-    add-digit-3
-    shared-slice-read-digit-4
-    digit-requires-4
+    (λ c. search needs)
+    (λ c κs. search needs)
+    (λ c. search needs)
+    (λ c. search needs)
+    (λ c κs. search needs)
+    (λ c. search needs)
+    (λ c. search needs)
+    (λ c κs. search needs)
+    (λ c. search needs)
+    (λ c. search needs)
+    (λ c κs. search needs)
     add-result
     add-result-2
     add-result-3

@@ -24,9 +24,6 @@ loop-holds c = (c .before .before .pre .1, refl, refl, refl)
 value-requires : tie.Need-value-requires Inv-loop μ-loop
 value-requires c κs = (c .before .before .before .before .pre .0, omega arith)
 
-mul-table : tie.Need-mul-table Inv-loop μ-loop
-mul-table c = search needs
-
 slice-write-table : tie.Need-slice-write-table Inv-loop μ-loop
 slice-write-table c = omega arith
 
@@ -55,9 +52,6 @@ loop-again c =
           ∙ ap (λ (x : ℕ). sets (set (k .table) (k .to) v) (k .to + 1) (wordsAt x (drop (k .i + 5) t))) m,
     )
 
-same-length : tie.Need-same-length Inv-loop μ-loop
-same-length c = search needs
-
 returns : tie.Need-returns Inv-loop μ-loop
 unfolding wordsAt
 returns c = let k = c .before .loop in let e : (c .before .before .before .before .args .end - k .i) / 5 ≡ 0 = omega arith in (omega arith, sym (k .inv .3 ∙ rw e))
@@ -70,11 +64,11 @@ store-spec =
     μ-loop
     loop-holds
     value-requires
-    mul-table
+    (λ c. search needs)
     slice-write-table
     add-i
     add-to
     loop-less
     loop-again
-    same-length
+    (λ c. search needs)
     returns)

@@ -49,9 +49,6 @@ returns-3 : tie.Need-returns-3
 returns-3 c = let s = c .before .before .before .before .before in let a = s .args in let m = count s in let h = measured (c .before .before .before) in let k = c .before .before .value in
     λ n. rw (sym (k .ensures), lt-ltb 0 m (omega arith), le-leb 1 (k .result) (omega arith), lt-leb (k .result) 8 (c .if3 .taken))
 
-decide-requires : tie.Need-decide-requires
-decide-requires c κs = search needs
-
 add-count : tie.Need-add-count
 add-count c = record { fits = omega (arith, small c) }
 
@@ -65,9 +62,6 @@ returns-4 : tie.Need-returns-4
 returns-4 c = let s = c .before .before .before .before .before .before .before .before in let a = s .args in let m = count s in let h = measured (c .before .before .before .before .before .before) in let k = c .before .before .before .before .before .value in
     let w = ap (λ (x : Shape). x .words) (c .before .before .decide .ensures) in
     λ n. rw (sym (k .ensures), lt-ltb 0 m (omega arith), le-leb 1 (k .result) (omega arith), le-leb (k .result) 8 (omega arith), ne-eqb m (suc (words (a .d) (kindOf (k .result)))) (λ e. c .if4 .taken (omega arith)))
-
-room-rule-requires : tie.Need-room-rule-requires
-room-rule-requires c κs = search needs
 
 returns-5 : tie.Need-returns-5
 returns-5 c = let s = c .before .before .before .before .before .before .before .before .before in let a = s .args in let m = count s in let h = measured (c .before .before .before .before .before .before .before) in let k = c .before .before .before .before .before .before .value in
@@ -83,10 +77,10 @@ frame-rule-spec =
     value-requires
     returns-2
     returns-3
-    decide-requires
+    (λ c κs. search needs)
     add-count
     sub-if4
     mul-if4
     returns-4
-    room-rule-requires
+    (λ c κs. search needs)
     returns-5)

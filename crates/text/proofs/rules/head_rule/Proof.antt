@@ -23,20 +23,17 @@ measured c =
     let s = c .before .before .before .before in
     let e : c .before .end .result ≡ behindLine 0 (count s) = c .before .end .ensures in
     let k = behind-known 0 (count s) (λ z. c .if2 .left (e ∙ z)) in
-    (omega (arith, k .0), k .1)
+    (omega arith, k .1)
 
 -- a line of ten bytes has two words, and lies in the text
 two : (c : tie.Else3) → count (c .before .before .before .before .before) ≡ 2
-two c = omega (arith, measured (c .before), c .if3 .left)
+two c = omega (arith, measured (c .before))
 
 inside : (c : tie.Else3) → 10 ≤ length (now (c .before .before .before .before .before .args .text))
 inside c = omega (arith, line-fits (now (c .before .before .before .before .before .args .text)), two c)
 
 returns : tie.Need-returns
 returns c = rw (c .if1 .taken)
-
-end-requires : tie.Need-end-requires
-end-requires c κs = search needs
 
 returns-2 : tie.Need-returns-2
 returns-2 c = let s = c .before .before .before .before in let t = now (s .args .text) in let e : c .before .end .result ≡ behindLine 0 (count s) = c .before .end .ensures in
@@ -68,9 +65,6 @@ returns-6 : tie.Need-returns-6
 returns-6 c = let t = now (c .before .before .before .before .before .before .before .before .before .before .args .text) in let k = c .before .before .value2 in
     rw (sym (c .before .before .before .before .value .ensures), sym (k .ensures), lt-ltb 0 (length t) (omega arith), two (c .before .before .before .before .before), c .before .before .before .if4 .left, le-leb 2 (k .result) (omega arith), lt-leb (k .result) 8 (c .if6 .taken))
 
-room-rule-requires : tie.Need-room-rule-requires
-room-rule-requires c κs = search needs
-
 returns-7 : tie.Need-returns-7
 returns-7 c =
     let a = c .before .before .before .before .before .before .before .before .before .before .before .args in
@@ -84,7 +78,7 @@ head-rule-spec =
     tie.close
     (tie.spec
     returns
-    end-requires
+    (λ c κs. search needs)
     returns-2
     returns-3
     value-requires
@@ -92,5 +86,5 @@ head-rule-spec =
     value-requires-2
     returns-5
     returns-6
-    room-rule-requires
+    (λ c κs. search needs)
     returns-7)

@@ -12,18 +12,6 @@ use Rattle.circuit.specs.Lists.{nth}
 use Rattle.checker.proofs.walk.Walk.operands.Statement.{statement}
 use Rattle.checker.proofs.walk.Walk.operands.Tie as tie
 
-mul-result : tie.Need-mul-result
-mul-result c = search needs
-
-sub-result : tie.Need-sub-result
-sub-result c = search needs
-
-part-result-start : tie.Need-part-result-start
-part-result-start c = search needs
-
-part-result-end : tie.Need-part-result-end
-part-result-end c = search needs
-
 returns : tie.Need-returns
 returns c =
     let table = now (c .before .before .before .args .table) in
@@ -34,33 +22,6 @@ returns c =
     let none : drop (at + 1) table ≡ [] = drop-of-length-le table {i = at + 1} (omega arith) in
     rw (e, none) (sym (take-nil (words d kind)))
 
-mul-decide : tie.Need-mul-decide
-mul-decide c = search needs
-
-shared-slice-read-decide : tie.Need-shared-slice-read-decide
-shared-slice-read-decide c = search needs
-
-decide-requires : tie.Need-decide-requires
-decide-requires c κs = search needs
-
-add-start : tie.Need-add-start
-add-start c = search needs
-
-sub-if2 : tie.Need-sub-if2
-sub-if2 c = search needs
-
-mul-result-2 : tie.Need-mul-result-2
-mul-result-2 c = search needs
-
-sub-result-2 : tie.Need-sub-result-2
-sub-result-2 c = search needs
-
-part-result-start-2 : tie.Need-part-result-start-2
-part-result-start-2 c = search needs
-
-part-result-end-2 : tie.Need-part-result-end-2
-part-result-end-2 c = search needs
-
 returns-2 : tie.Need-returns-2
 returns-2 c =
     let table = now (c .before .before .before .before .before .before .args .table) in
@@ -70,21 +31,6 @@ returns-2 c =
     let e : c .before .before .decide .result .words ≡ words d kind = ap (λ s. s .words) (c .before .before .decide .ensures) in
     take-all (length table - (at + 1)) (drop (at + 1) table) (omega (arith, length-drop (at + 1) table))
     ∙ sym (take-all (words d kind) (drop (at + 1) table) (omega (arith, length-drop (at + 1) table)))
-
-add-end : tie.Need-add-end
-add-end c = search needs
-
-mul-result-3 : tie.Need-mul-result-3
-mul-result-3 c = search needs
-
-sub-result-3 : tie.Need-sub-result-3
-sub-result-3 c = search needs
-
-part-result-start-3 : tie.Need-part-result-start-3
-part-result-start-3 c = search needs
-
-part-result-end-3 : tie.Need-part-result-end-3
-part-result-end-3 c = search needs
 
 returns-3 : tie.Need-returns-3
 returns-3 c =
@@ -101,24 +47,24 @@ pub operands-spec : {M : Type 1} → statement M
 operands-spec =
     tie.close
     (tie.spec
-    mul-result
-    sub-result
-    part-result-start
-    part-result-end
+    (λ c. search needs)
+    (λ c. search needs)
+    (λ c. search needs)
+    (λ c. search needs)
     returns
-    mul-decide
-    shared-slice-read-decide
-    decide-requires
-    add-start
-    sub-if2
-    mul-result-2
-    sub-result-2
-    part-result-start-2
-    part-result-end-2
+    (λ c. search needs)
+    (λ c. search needs)
+    (λ c κs. search needs)
+    (λ c. search needs)
+    (λ c. search needs)
+    (λ c. search needs)
+    (λ c. search needs)
+    (λ c. search needs)
+    (λ c. search needs)
     returns-2
-    add-end
-    mul-result-3
-    sub-result-3
-    part-result-start-3
-    part-result-end-3
+    (λ c. search needs)
+    (λ c. search needs)
+    (λ c. search needs)
+    (λ c. search needs)
+    (λ c. search needs)
     returns-3)

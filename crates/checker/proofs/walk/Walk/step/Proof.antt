@@ -18,44 +18,11 @@ use Rattle.checker.proofs.walk.Walk.step.Tie as tie
 returns : tie.Need-returns
 returns c = rw (le-ltb _ _ (c .if1 .taken))
 
-mul-word : tie.Need-mul-word
-mul-word c = search needs
-
-shared-slice-read-word : tie.Need-shared-slice-read-word
-shared-slice-read-word c = search needs
-
 returns-2 : tie.Need-returns-2
 returns-2 c = rw (lt-ltb _ _ (c .before .before .if1 .left), lt-leb _ _ (c .if2 .taken))
 
 returns-3 : tie.Need-returns-3
 returns-3 c = rw (lt-ltb _ _ (c .before .before .before .if1 .left), le-leb _ _ (c .before .if2 .left), lt-leb _ _ (c .if3 .taken))
-
-add-start : tie.Need-add-start
-add-start c = search needs
-
-mul-rest : tie.Need-mul-rest
-mul-rest c = search needs
-
-sub-rest : tie.Need-sub-rest
-sub-rest c = search needs
-
-part-rest-start : tie.Need-part-rest-start
-part-rest-start c = search needs
-
-part-rest-end : tie.Need-part-rest-end
-part-rest-end c = search needs
-
-decide-requires : tie.Need-decide-requires
-decide-requires c κs = search needs
-
-frame-of-requires : tie.Need-frame-of-requires
-frame-of-requires c κs = search needs
-
-enum-told : tie.Need-enum-told
-enum-told c = search needs
-
-enum-known-framed : tie.Need-enum-known-framed
-enum-known-framed c = search needs
 
 add-end : tie.Need-add-end
 add-end c =
@@ -69,7 +36,7 @@ add-end c =
     let found : c .before .before .before .frame-of .result ≡ framedBy (frameCode (kindCode kind) rest) (words d kind) rest =
     c .before .before .before .frame-of .ensures ∙ ap₂ (λ s r. framedBy (frameCode (s .kind) r) (s .words) r) told all in
     let (whole, same) = framed-whole _ (frameCode (kindCode kind) rest) (words d kind) rest (sym (c .before .framed .given .1) ∙ found) in
-    record { fits = omega (arith, whole, ap (λ s. s .words) told, length-drop (at + 1) table, c .before .before .before .before .before .before .before .before .before .before .before .good .1 .0 .0) }
+    record { fits = omega (arith, whole, ap (λ s. s .words) told, length-drop (at + 1) table) }
 
 returns-4 : tie.Need-returns-4
 returns-4 c =
@@ -104,19 +71,19 @@ step-spec =
     tie.close
     (tie.spec
     returns
-    mul-word
-    shared-slice-read-word
+    (λ c. search needs)
+    (λ c. search needs)
     returns-2
     returns-3
-    add-start
-    mul-rest
-    sub-rest
-    part-rest-start
-    part-rest-end
-    decide-requires
-    frame-of-requires
-    enum-told
-    enum-known-framed
+    (λ c. search needs)
+    (λ c. search needs)
+    (λ c. search needs)
+    (λ c. search needs)
+    (λ c. search needs)
+    (λ c κs. search needs)
+    (λ c κs. search needs)
+    (λ c. search needs)
+    (λ c. search needs)
     add-end
     returns-4
     returns-5)
