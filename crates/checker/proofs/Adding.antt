@@ -11,29 +11,29 @@ use Rattle.circuit.specs.Kinds.{Kind, shape}
 use Rattle.circuit.specs.Circuit.{Circuit, size, newStage, made, extend}
 use Rattle.circuit.specs.Rules.{pass, refuse, need, _then_, wordsRule}
 use Rattle.circuit.proofs.Building.{size-extend}
-use Rattle.checker.specs.declared.kinds.Shape.{Shape as ShapeCode}
-use Rattle.checker.specs.declared.walk.Frame.{Frame}
+use Rattle.frames.specs.declared.kinds.Shape.{Shape as ShapeCode}
+use Rattle.frames.specs.declared.walk.Frame.{Frame}
 use Rattle.checker.specs.declared.notes.Found.{Found}
 use Rattle.checker.specs.declared.notes.Made.{Made}
 use Rattle.checker.specs.declared.words.Spot.{Spot}
 use Rattle.checker.specs.declared.frame.Tally.{Tally}
 use Rattle.checker.specs.declared.frame.Added.the-variants.{Next, Refused}
-use Rattle.checker.specs.Walk.{kindCode, frameCode}
-use Rattle.checker.specs.Sheet.{noted, madeWords, madeFrame, latencyFrame, judged, Told, FirstBroken, tallyOf, laterRule, FrameOf, Placed, Adds}
+use Rattle.frames.specs.Walk.{kindCode, frameCode}
+use Rattle.checker.specs.Internal.Sheet.{noted, madeWords, madeFrame, latencyFrame, judged, Told, FirstBroken, tallyOf, laterRule, FrameOf, Placed, Adds}
 use Rattle.checker.proofs.Numbers.{broken-ends}
 use Rattle.checker.proofs.MadeNotes.{madeBy, made-count, uses-few, brings-few, made-stage, made-words, made-latency}
 
 module _ {fr : Frame} {sh : ShapeCode} {d : ℕ} {ops : List ℕ} where
   -- a frame of one kind makes as many wires as the kind says, and uses no more random bits
-  pub frame-count : FrameOf fr sh d ops → (look : ℕ → Found) (m : Made) → m ≡ madeFrame fr d (sh .makes - d) look ops → m .inner + m .named ≡ sh .makes
-  frame-count o look m e = ap (λ x. x .inner + x .named) (e ∙ ap₂ (λ f s. madeFrame f d (s .makes - d) look ops) (o .frame-is) (o .shape-is))
-      ∙ made-count look ops d (o .kind) ∙ sym (ap (λ s. s .makes) (o .shape-is))
+  pub frame-count : FrameOf fr sh d ops → (look : ℕ → Found) (m : Made) → m ≡ madeFrame fr d (sh .wires - d) look ops → m .inner + m .named ≡ sh .wires
+  frame-count o look m e = ap (λ x. x .inner + x .named) (e ∙ ap₂ (λ f s. madeFrame f d (s .wires - d) look ops) (o .frame-is) (o .shape-is))
+      ∙ made-count look ops d (o .kind) ∙ sym (ap (λ s. s .wires) (o .shape-is))
 
-  pub frame-uses : FrameOf fr sh d ops → sh .uses ≤ sh .makes
+  pub frame-uses : FrameOf fr sh d ops → sh .randoms ≤ sh .wires
   frame-uses o = rw (o .shape-is) (uses-few d (o .kind))
 
   -- and brings in one secret bit at most
-  pub frame-brings : FrameOf fr sh d ops → sh .brings ≤ 1
+  pub frame-brings : FrameOf fr sh d ops → sh .inputs ≤ 1
   frame-brings o = rw (o .shape-is) (brings-few d (o .kind))
 
 never-next : {rule word : ℕ} {t t′ : Tally} → Refused rule word ≡ Next t → t ≡ t′
@@ -52,26 +52,26 @@ module _ {tally : Tally} {fr : Frame} {sh : ShapeCode} {d : ℕ} {ops old : List
 
     -- what is left to judge, by the first broken word
     later-is : (spot : Spot) → FirstBroken (sh .form) d (tally .randoms) (tally .wires) ops old spot → (f : ℕ) → laterRule k f kind ops
-        ≡ (judged (spot .rule) f (spot .word) then need (leb (newStage k ops kind) stageLimit) 13 f 0 then need (leb (size k + shape (k .d) kind .makes) wireLimit) 14 f 0)
-    later-is spot b f = ap (λ j. j then need (leb (newStage k ops kind) stageLimit) 13 f 0 then need (leb (size k + shape (k .d) kind .makes) wireLimit) 14 f 0)
+        ≡ (judged (spot .rule) f (spot .word) then need (leb (newStage k ops kind) stageLimit) 13 f 0 then need (leb (size k + shape (k .d) kind .wires) wireLimit) 14 f 0)
+    later-is spot b f = ap (λ j. j then need (leb (newStage k ops kind) stageLimit) 13 f 0 then need (leb (size k + shape (k .d) kind .wires) wireLimit) 14 f 0)
         (ap (λ n. wordsRule k f ops 1 (shape n kind .rules) ops) (p .shares) ∙ sym (b .is k kind told f))
 
     -- the wires made are those that the circuit's own look-ups give
-    made-is : (m : Made) → m ≡ madeFrame fr d (sh .makes - d) (noted old (tally .wires)) ops → m ≡ madeBy k ops kind
-    made-is m e = e ∙ ap₂ (λ f s. madeFrame f d (s .makes - d) (noted old (tally .wires)) ops) (p .frame-is) (p .shape-is)
-        ∙ ap₂ (λ n look. madeFrame (frameCode (kindCode kind) ops) n (shape n kind .makes - n) look ops) (sym (p .shares)) (fun-ext (p .tells))
+    made-is : (m : Made) → m ≡ madeFrame fr d (sh .wires - d) (noted old (tally .wires)) ops → m ≡ madeBy k ops kind
+    made-is m e = e ∙ ap₂ (λ f s. madeFrame f d (s .wires - d) (noted old (tally .wires)) ops) (p .frame-is) (p .shape-is)
+        ∙ ap₂ (λ n look. madeFrame (frameCode (kindCode kind) ops) n (shape n kind .wires - n) look ops) (sym (p .shares)) (fun-ext (p .tells))
 
-    stage-is : (m : Made) → m ≡ madeFrame fr d (sh .makes - d) (noted old (tally .wires)) ops → m .stage ≡ newStage k ops kind
+    stage-is : (m : Made) → m ≡ madeFrame fr d (sh .wires - d) (noted old (tally .wires)) ops → m .stage ≡ newStage k ops kind
     stage-is m e = ap (λ x. x .stage) (made-is m e) ∙ made-stage k ops kind (p .later)
 
-    makes-is : sh .makes ≡ shape (k .d) kind .makes
-    makes-is = ap (λ s. s .makes) (p .shape-is) ∙ ap (λ n. shape n kind .makes) (sym (p .shares))
+    makes-is : sh .wires ≡ shape (k .d) kind .wires
+    makes-is = ap (λ s. s .wires) (p .shape-is) ∙ ap (λ n. shape n kind .wires) (sym (p .shares))
 
-    uses-is : sh .uses ≡ shape (k .d) kind .uses
-    uses-is = ap (λ s. s .uses) (p .shape-is) ∙ ap (λ n. shape n kind .uses) (sym (p .shares))
+    uses-is : sh .randoms ≡ shape (k .d) kind .randoms
+    uses-is = ap (λ s. s .randoms) (p .shape-is) ∙ ap (λ n. shape n kind .randoms) (sym (p .shares))
 
-    brings-is : sh .brings ≡ shape (k .d) kind .brings
-    brings-is = ap (λ s. s .brings) (p .shape-is) ∙ ap (λ n. shape n kind .brings) (sym (p .shares))
+    brings-is : sh .inputs ≡ shape (k .d) kind .inputs
+    brings-is = ap (λ s. s .inputs) (p .shape-is) ∙ ap (λ n. shape n kind .inputs) (sym (p .shares))
 
     wires-is : tally .wires ≡ size k
     wires-is = ap (λ t. t .wires) (p .tally-is)
@@ -94,7 +94,7 @@ module _ {tally : Tally} {fr : Frame} {sh : ShapeCode} {d : ℕ} {ops old : List
         refuses zero z = absurd (z refl)
         refuses (suc n) z = refl
 
-    module _ (none : spot .rule ≡ 0) (m : Made) (e : m ≡ madeFrame fr d (sh .makes - d) (noted old (tally .wires)) ops) where
+    module _ (none : spot .rule ≡ 0) (m : Made) (e : m ≡ madeFrame fr d (sh .wires - d) (noted old (tally .wires)) ops) where
       -- 13
       pub stage-over : stageLimit < m .stage → Adds tally fr sh d ops old old (Refused 13 0)
       stage-over h = refused (λ k kind p. later-is k kind p spot b (tally .frames)
@@ -102,20 +102,20 @@ module _ {tally : Tally} {fr : Frame} {sh : ShapeCode} {d : ℕ} {ops old : List
 
       module _ (low : m .stage ≤ stageLimit) where
         before-14 : (k : Circuit) (kind : Kind) (p : Placed k kind tally fr sh d ops old) → laterRule k (tally .frames) kind ops
-            ≡ need (leb (size k + shape (k .d) kind .makes) wireLimit) 14 (tally .frames) 0
+            ≡ need (leb (size k + shape (k .d) kind .wires) wireLimit) 14 (tally .frames) 0
         before-14 k kind p = later-is k kind p spot b (tally .frames)
             ∙ rw (none, le-leb (newStage k ops kind) stageLimit (subst (λ n. n ≤ stageLimit) (stage-is k kind p m e) low))
 
         -- 14
-        pub wires-over : wireLimit < tally .wires + sh .makes → Adds tally fr sh d ops old old (Refused 14 0)
+        pub wires-over : wireLimit < tally .wires + sh .wires → Adds tally fr sh d ops old old (Refused 14 0)
         wires-over h = refused (λ k kind p. before-14 k kind p
-            ∙ rw (lt-leb (size k + shape (k .d) kind .makes) wireLimit (omega (arith, wires-is k kind p, makes-is k kind p))))
+            ∙ rw (lt-leb (size k + shape (k .d) kind .wires) wireLimit (omega (arith, wires-is k kind p, makes-is k kind p))))
 
         -- added
-        pub frame-added : tally .wires + sh .makes ≤ wireLimit → (latency : ℕ) → latency ≡ latencyFrame fr (tally .latency) (m .stage)
+        pub frame-added : tally .wires + sh .wires ≤ wireLimit → (latency : ℕ) → latency ≡ latencyFrame fr (tally .latency) (m .stage)
             → (new : List ℕ) → new ≡ sets old (2 * tally .wires) (madeWords m)
             → Adds tally fr sh d ops old new
-            (Next (record { frames = tally .frames + 1; wires = tally .wires + sh .makes; randoms = tally .randoms + sh .uses; latency = latency; inputs = tally .inputs + sh .brings }))
+            (Next (record { frames = tally .frames + 1; wires = tally .wires + sh .wires; randoms = tally .randoms + sh .randoms; latency = latency; inputs = tally .inputs + sh .inputs }))
         frame-added h latency l new w = record {
           judgement = λ k kind p. sym (passes k kind p);
           next = λ k kind p t e. next-is (same k kind p) e;
@@ -128,19 +128,19 @@ module _ {tally : Tally} {fr : Frame} {sh : ShapeCode} {d : ℕ} {ops old : List
 
             passes : (k : Circuit) (kind : Kind) → Placed k kind tally fr sh d ops old → laterRule k (tally .frames) kind ops ≡ pass
             passes k kind p = before-14 k kind p
-                ∙ rw (le-leb (size k + shape (k .d) kind .makes) wireLimit (omega (arith, wires-is k kind p, makes-is k kind p)))
+                ∙ rw (le-leb (size k + shape (k .d) kind .wires) wireLimit (omega (arith, wires-is k kind p, makes-is k kind p)))
 
             same : (k : Circuit) (kind : Kind) (p : Placed k kind tally fr sh d ops old)
-                → _≡_ {A = Tally} (record { frames = tally .frames + 1; wires = tally .wires + sh .makes; randoms = tally .randoms + sh .uses; latency = latency; inputs = tally .inputs + sh .brings }) (tallyOf (tally .frames + 1) (extend k ops kind))
+                → _≡_ {A = Tally} (record { frames = tally .frames + 1; wires = tally .wires + sh .wires; randoms = tally .randoms + sh .randoms; latency = latency; inputs = tally .inputs + sh .inputs }) (tallyOf (tally .frames + 1) (extend k ops kind))
             same k kind p = λ i. record { frames = tally .frames + 1; wires = wires i; randoms = randoms i; latency = later i; inputs = inputs i }
               where
-                wires : tally .wires + sh .makes ≡ size (extend k ops kind)
+                wires : tally .wires + sh .wires ≡ size (extend k ops kind)
                 wires = ap₂ _+_ (wires-is k kind p) (makes-is k kind p) ∙ sym (size-extend k ops kind)
 
-                randoms : tally .randoms + sh .uses ≡ k .randoms + shape (k .d) kind .uses
+                randoms : tally .randoms + sh .randoms ≡ k .randoms + shape (k .d) kind .randoms
                 randoms = ap₂ _+_ (ap (λ t. t .randoms) (p .tally-is)) (uses-is k kind p)
 
-                inputs : tally .inputs + sh .brings ≡ k .inputs + shape (k .d) kind .brings
+                inputs : tally .inputs + sh .inputs ≡ k .inputs + shape (k .d) kind .inputs
                 inputs = ap₂ _+_ (ap (λ t. t .inputs) (p .tally-is)) (brings-is k kind p)
 
                 later : latency ≡ extend k ops kind .latency

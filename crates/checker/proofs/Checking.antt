@@ -17,14 +17,14 @@ use Rattle.circuit.specs.Answer.{answer, verdictOf, notesAfter}
 use Rattle.circuit.proofs.Base.{cases}
 use Rattle.circuit.proofs.Building.{Lawful}
 use Rattle.checker.specs.declared.Verdict.the-variants.{Refused}
-use Rattle.checker.specs.declared.kinds.Shape.{Shape as ShapeCode}
-use Rattle.checker.specs.declared.walk.Frame.{Frame}
-use Rattle.checker.specs.declared.walk.Walk.{Walk}
-use Rattle.checker.specs.declared.walk.Step.the-variants as step
+use Rattle.frames.specs.declared.kinds.Shape.{Shape as ShapeCode}
+use Rattle.frames.specs.declared.walk.Frame.{Frame}
+use Rattle.frames.specs.declared.walk.Walk.{Walk}
+use Rattle.frames.specs.declared.walk.Step.the-variants as step
 use Rattle.checker.specs.declared.frame.Tally.{Tally}
-use Rattle.checker.specs.Said.{said}
-use Rattle.checker.specs.Walk.{kindCode, shapeCode, frameCode, operandsAt, behind, stepAt}
-use Rattle.checker.specs.Sheet.{judged, tallyOf, headNumber}
+use Rattle.checker.specs.Answers.{answerOf}
+use Rattle.frames.specs.Walk.{kindCode, shapeCode, frameCode, operandsAt, behind, stepAt}
+use Rattle.checker.specs.Internal.Sheet.{judged, tallyOf, headNumber}
 use Rattle.checker.proofs.Telling.{Labelled}
 
 -- 1 to 4
@@ -41,12 +41,12 @@ head-judged table room = go (leb (length table) tableLimit) (leb notesRoom room)
     go true true true true = refl
 
 pub head-refused : (table notes : List ℕ) (n : ℕ) → n ≡ headNumber table (length notes) → (n ≡ 0 → ⊥)
-    → (said (Refused n 0 (n / 4)) ≡ verdictOf table (length notes)) × ((notes ≡ notesAfter (checked table (length notes) .circuit) notes) × Unit {0})
+    → (answerOf (Refused n 0 (n / 4)) ≡ verdictOf table (length notes)) × ((notes ≡ notesAfter (checked table (length notes) .circuit) notes) × Unit {0})
 unfolding checked notesAfter
 head-refused table notes n e h = rw (head-judged table (length notes), ← e) (go n h)
   where
     go : (n : ℕ) → (n ≡ 0 → ⊥)
-        → (said (Refused n 0 (n / 4)) ≡ answer (onward (judged n 0 (n / 4)) (empty 0) (frames (empty (nth table 1)) 1 0 (drop 2 table)) .circuit) (onward (judged n 0 (n / 4)) (empty 0) (frames (empty (nth table 1)) 1 0 (drop 2 table)) .judgement))
+        → (answerOf (Refused n 0 (n / 4)) ≡ answer (onward (judged n 0 (n / 4)) (empty 0) (frames (empty (nth table 1)) 1 0 (drop 2 table)) .circuit) (onward (judged n 0 (n / 4)) (empty 0) (frames (empty (nth table 1)) 1 0 (drop 2 table)) .judgement))
         × ((notes ≡ notesAfter (onward (judged n 0 (n / 4)) (empty 0) (frames (empty (nth table 1)) 1 0 (drop 2 table)) .circuit) notes) × Unit {0})
     go zero z = absurd (z refl)
     go (suc n) z = (refl, (refl, tt))
@@ -61,7 +61,7 @@ pub record Walking (table notes₀ notes : List ℕ) (d : ℕ) (walk : Walk) (ta
   pub tally-is : tally ≡ tallyOf (tally .frames) k
   pub few : size k ≤ wireLimit
   pub used : k .randoms ≤ size k
-  pub brought : k .inputs ≤ tally .frames
+  pub inputs : k .inputs ≤ tally .frames
   pub counted : tally .frames ≤ walk .at
   pub inside : walk .at ≤ length table
   pub short : length table ≤ tableLimit
@@ -107,7 +107,7 @@ start table notes e =
       tally-is = refl;
       few = omega arith;
       used = omega arith;
-      brought = omega arith;
+      inputs = omega arith;
       counted = omega arith;
       inside = h .two;
       short = h .short;

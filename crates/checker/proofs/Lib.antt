@@ -1,6 +1,3 @@
--- The kind table in numbers
-pub mod KindTable
-pub mod Framing
 -- The words of a frame
 pub mod WordRules
 pub mod Numbers

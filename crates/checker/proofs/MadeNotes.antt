@@ -7,7 +7,7 @@ use native.Mathlib.Omega.{arith}
 use lib.Dec.{ltb}
 use lib.ListN.{length}
 use borrow.Author.Tests.{ltb-true, ltb-false}
-use Rattle.circuit.specs.Lists.{range, nth, each}
+use Rattle.circuit.specs.Lists.{range, nth, concatMap}
 use Rattle.circuit.specs.Wires.{Gate, input, Wire, named, inner, _placed_}
 use Rattle.circuit.specs.Gadgets.{labels, Part, c, S, gate, delay, inAND, inREF, index, gadget}
 use Rattle.circuit.specs.Kinds.{Kind, HEAD, IN, CON, XOR, NOT, REG, AND, REF, OUT, pairs, shape}
@@ -16,17 +16,17 @@ use Rattle.circuit.specs.Answer.{note}
 use Rattle.circuit.proofs.Base.{cases}
 use Rattle.circuit.proofs.Sizes.{and-size, ref-size}
 use Rattle.checker.specs.declared.notes.Made.{Made}
-use Rattle.checker.specs.Walk.{kindCode, frameCode}
-use Rattle.checker.specs.Sheet.{foundOf, innerWords, namedWords, madeWords, madeFrame, latencyFrame}
+use Rattle.frames.specs.Walk.{kindCode, frameCode}
+use Rattle.checker.specs.Internal.Sheet.{foundOf, innerWords, namedWords, madeWords, madeFrame, latencyFrame}
 use Rattle.checker.proofs.WordRules.{label-found, stage-found}
 
 -- the wires that a frame makes, by what a circuit says of those it names
 abbrev pub madeBy : Circuit → List ℕ → Kind → Made
-madeBy k ops kind = madeFrame (frameCode (kindCode kind) ops) (k .d) (shape (k .d) kind .makes - k .d) (foundOf k) ops
+madeBy k ops kind = madeFrame (frameCode (kindCode kind) ops) (k .d) (shape (k .d) kind .wires - k .d) (foundOf k) ops
 
 -- how many
 pub made-count : (look : ℕ → _) (ops : List ℕ) (d : ℕ) (kind : Kind)
-    → (madeFrame (frameCode (kindCode kind) ops) d (shape d kind .makes - d) look ops .inner) + (madeFrame (frameCode (kindCode kind) ops) d (shape d kind .makes - d) look ops .named) ≡ shape d kind .makes
+    → (madeFrame (frameCode (kindCode kind) ops) d (shape d kind .wires - d) look ops .inner) + (madeFrame (frameCode (kindCode kind) ops) d (shape d kind .wires - d) look ops .named) ≡ shape d kind .wires
 unfolding shape
 made-count look ops d HEAD = refl
 made-count look ops d IN = omega arith
@@ -39,7 +39,7 @@ made-count look ops d REF = omega arith
 made-count look ops d OUT = refl
 
 -- how many random bits: no more than wires
-pub uses-few : (d : ℕ) (kind : Kind) → shape d kind .uses ≤ shape d kind .makes
+pub uses-few : (d : ℕ) (kind : Kind) → shape d kind .randoms ≤ shape d kind .wires
 unfolding shape
 uses-few d HEAD = omega arith
 uses-few d IN = omega arith
@@ -52,7 +52,7 @@ uses-few d REF = omega arith
 uses-few d OUT = omega arith
 
 -- how many secret bits: one at most
-pub brings-few : (d : ℕ) (kind : Kind) → shape d kind .brings ≤ 1
+pub brings-few : (d : ℕ) (kind : Kind) → shape d kind .inputs ≤ 1
 unfolding shape
 brings-few d HEAD = omega arith
 brings-few d IN = omega arith
@@ -65,22 +65,22 @@ brings-few d REF = omega arith
 brings-few d OUT = omega arith
 
 -- the words of wires in the notes
-pub notes-append : (xs ys : List Wire) → each (xs ++ ys) (λ w. note (w .place)) ≡ each xs (λ w. note (w .place)) ++ each ys (λ w. note (w .place))
+pub notes-append : (xs ys : List Wire) → concatMap (xs ++ ys) (λ w. note (w .place)) ≡ concatMap xs (λ w. note (w .place)) ++ concatMap ys (λ w. note (w .place))
 notes-append [] ys = refl
-notes-append (x ∷ xs) ys = ap (λ l. note (x .place) ++ l) (notes-append xs ys) ∙ sym (append-assoc (note (x .place)) (each xs (λ w. note (w .place))) (each ys (λ w. note (w .place))))
+notes-append (x ∷ xs) ys = ap (λ l. note (x .place) ++ l) (notes-append xs ys) ∙ sym (append-assoc (note (x .place)) (concatMap xs (λ w. note (w .place))) (concatMap ys (λ w. note (w .place))))
 
-row-notes : (g : ℕ → Gate) (t n count : ℕ) → each (map (λ i. g i placed named i t) (range n count)) (λ w. note (w .place)) ≡ namedWords n t count
+row-notes : (g : ℕ → Gate) (t n count : ℕ) → concatMap (map (λ i. g i placed named i t) (range n count)) (λ w. note (w .place)) ≡ namedWords n t count
 unfolding namedWords
 row-notes g t n zero = refl
 row-notes g t n (suc count) = ap (λ l. n ∷ t ∷ l) (row-notes g t (suc n) count)
 
-inner-notes : (g : Part → Gate) (stage : Part → ℕ) (ps : List Part) → each (map (λ p. g p placed inner (stage p)) ps) (λ w. note (w .place)) ≡ innerWords (length ps)
+inner-notes : (g : Part → Gate) (stage : Part → ℕ) (ps : List Part) → concatMap (map (λ p. g p placed inner (stage p)) ps) (λ w. note (w .place)) ≡ innerWords (length ps)
 unfolding innerWords
 inner-notes g stage [] = refl
 inner-notes g stage (p ∷ ps) = ap (λ l. 0xFFFF ∷ 0xFFFF ∷ l) (inner-notes g stage ps)
 
 gadget-notes : (d first : ℕ) (a b : ℕ → ℕ) (inside : List Part) (out : ℕ → Part) (start end count : ℕ) → length inside ≡ count
-    → each (gadget d first a b inside out start end) (λ w. note (w .place)) ≡ innerWords count ++ namedWords 0 end d
+    → concatMap (gadget d first a b inside out start end) (λ w. note (w .place)) ≡ innerWords count ++ namedWords 0 end d
 unfolding gadget
 gadget-notes d first a b inside out start end count e =
     let g : Part → Gate = gate d a b (λ p. first + index p inside) in
@@ -101,7 +101,7 @@ module _ (k : Circuit) (ops : List ℕ) where
   made-stage REF h = omega (arith, stage-found k (nth ops 1))
   made-stage OUT h = stage-found k (nth ops 0)
 
-  pub made-words : (kind : Kind) → (kind ≡ HEAD → ⊥) → madeWords (madeBy k ops kind) ≡ each (made k ops kind) (λ w. note (w .place))
+  pub made-words : (kind : Kind) → (kind ≡ HEAD → ⊥) → madeWords (madeBy k ops kind) ≡ concatMap (made k ops kind) (λ w. note (w .place))
   unfolding shape newStage made innerWords namedWords
   made-words HEAD h = absurd (h refl)
   made-words IN h = sym (row-notes (λ i. input (k .inputs * k .d + i)) (nth ops 0) 0 (k .d))

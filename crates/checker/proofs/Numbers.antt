@@ -9,12 +9,12 @@ use lib.ListN.{length, drop}
 use lib.Seq.{drop-cons}
 use Rattle.circuit.specs.Lists.{nth}
 use Rattle.circuit.specs.Wires.{Place, named, inner}
-use Rattle.circuit.specs.Kinds.{Kind, WordRule, order, label, value, stage, random, like, share, before, shape, words}
+use Rattle.circuit.specs.Kinds.{Kind, WordRule, shareCount, label, value, stage, random, like, share, before, shape, words}
 use Rattle.circuit.specs.Circuit.{Circuit, size, place, labelOf, stageShown}
 use Rattle.circuit.specs.Rules.{Judgement, pass, need, _then_, isNamed, wireRule, wordRule, wordsRule}
-use Rattle.checker.specs.declared.kinds.Form.{Form}
+use Rattle.frames.specs.declared.kinds.Form.{Form}
 use Rattle.checker.specs.declared.notes.Found.{Found}
-use Rattle.checker.specs.Sheet.{noted, shown, foundOf, ruleIn, leadPlace, wireNumber, wordNumber, judged, Told}
+use Rattle.checker.specs.Internal.Sheet.{noted, shown, foundOf, ruleIn, leadPlace, wireNumber, wordNumber, judged, Told}
 use Rattle.checker.proofs.WordRules.{rule-at, label-found, stage-found}
 
 -- a test's number
@@ -42,7 +42,7 @@ module _ (k : Circuit) (f : ℕ) (ops : List ℕ) where
   -- every word
   pub word-number : (r : WordRule) (w x : ℕ)
       → judged (wordNumber r (k .d) (k .randoms) x (foundOf k x) (foundOf k (nth ops (leadPlace r)))) f w ≡ wordRule k f ops r w x
-  word-number order w x = tested (leb 2 x && leb x 8) 3 f w
+  word-number shareCount w x = tested (leb 2 x && leb x 8) 3 f w
   word-number label w x = tested (ltb x (k .d)) 6 f w
   word-number value w x = tested (leb x 1) 6 f w
   word-number stage w x = tested (leb x 255) 6 f w
@@ -97,7 +97,7 @@ module _ (form : Form) (d used wires : ℕ) (ops notes : List ℕ) (i : ℕ) (h 
       two = omega arith
 
       at : drop i rules ≡ rule ∷ drop (i + 1) rules
-      at = drop-cons rules i order room ∙ ap₂ (λ a n. a ∷ drop n rules) (rule-at d kind i room ∙ ap (λ z. ruleIn z d i) (sym (told .form-is)) ∙ sym e) one
+      at = drop-cons rules i shareCount room ∙ ap₂ (λ a n. a ∷ drop n rules) (rule-at d kind i room ∙ ap (λ z. ruleIn z d i) (sym (told .form-is)) ∙ sym e) one
 
       word : drop i ops ≡ x ∷ drop (i + 1) ops
       word = drop-cons ops i 0 h ∙ ap (λ n. x ∷ drop n ops) one

@@ -13,18 +13,18 @@ use Rattle.circuit.specs.Lists.{nth}
 use Rattle.circuit.specs.Kinds.{Kind, HEAD, IN, CON, XOR, NOT, REG, AND, REF, OUT, WordRule, shape, words}
 use Rattle.circuit.specs.Rules.{_then_, wordsRule}
 use Rattle.circuit.proofs.Base.{cases}
-use Rattle.checker.specs.declared.kinds.Form.{Form}
-use Rattle.checker.specs.declared.kinds.Shape.{Shape as ShapeCode}
+use Rattle.frames.specs.declared.kinds.Form.{Form}
+use Rattle.frames.specs.declared.kinds.Shape.{Shape as ShapeCode}
 use Rattle.checker.specs.declared.notes.Found.{Found}
 use Rattle.checker.specs.declared.notes.Found.the-variants.{Missing, Inner, Named}
 use Rattle.checker.specs.declared.notes.Made.{Made}
-use Rattle.checker.specs.declared.walk.Frame.{Frame}
+use Rattle.frames.specs.declared.walk.Frame.{Frame}
 use Rattle.checker.specs.declared.frame.Tally.{Tally}
 use Rattle.checker.specs.declared.frame.Taken.{Taken}
-use Rattle.checker.specs.Walk.{formOf, kindCode, frameCode}
-use Rattle.checker.specs.Sheet.{noted, stageFound, innerWords, namedWords, ruleIn, gadgetRule, leadPlace, wordNumber, judged, FirstBroken, madeFrame, latencyFrame, FrameOf}
-use Rattle.checker.specs.Quick.{Right, Nameable, InRow, RowFrom, Kept, wordsOf, Put, Took, Fitting, grownBy, Takes}
-use Rattle.checker.proofs.KindTable.{words-AND, words-REF, words-OUT}
+use Rattle.frames.specs.Walk.{formOf, kindCode, frameCode}
+use Rattle.checker.specs.Internal.Sheet.{noted, stageFound, innerWords, namedWords, ruleIn, gadgetRule, leadPlace, wordNumber, judged, FirstBroken, madeFrame, latencyFrame, FrameOf}
+use Rattle.checker.specs.Internal.Quick.{Right, Nameable, InRow, RowFrom, Kept, wordsOf, Put, Took, Fitting, grownBy, Takes}
+use Rattle.frames.proofs.KindTable.{words-AND, words-REF, words-OUT}
 use Rattle.checker.proofs.WordRules.{a-rule, b-rule}
 use Rattle.checker.proofs.Numbers.{Reached, reached-start, reached-word, words-end}
 use Rattle.checker.proofs.Adding.{frame-count, frame-uses, frame-brings, frame-added}
@@ -158,8 +158,8 @@ module _ {fr : Frame} {sh : ShapeCode} {d : ℕ} {ops : List ℕ} (o : FrameOf f
           reached-word (sh .form) d used wires ops notes n (omega arith) (ruleIn (sh .form) d n) refl (reach n (omega arith)) c kind told f
           ∙ ap (λ m. judged m f (n + 1) then wordsRule c f ops (n + 1 + 1) (drop (n + 1) (shape d kind .rules)) (drop (n + 1) ops)) (all n (omega arith)))
 
-  module _ (tally : Tally) {old new : List ℕ} {m : Made} (e : m ≡ madeFrame fr d (sh .makes - d) (noted old (tally .wires)) ops) where
-    room : {r : Bool} → Put m (tally .wires) old new r → r ≡ true → tally .wires + sh .makes ≤ wireLimit
+  module _ (tally : Tally) {old new : List ℕ} {m : Made} (e : m ≡ madeFrame fr d (sh .wires - d) (noted old (tally .wires)) ops) where
+    room : {r : Bool} → Put m (tally .wires) old new r → r ≡ true → tally .wires + sh .wires ≤ wireLimit
     room p y = omega (arith, p .room y, frame-count o (noted old (tally .wires)) m e)
 
     -- the counts fit

@@ -10,7 +10,7 @@ use lib.ListN.{length, getD, drop, length-append, length-drop}
 use lib.Seq.{sets, sets-eq, take-append-seam, drop-append-add, drop-drop}
 use borrow.Author.Tests.{ne-eqb, ltb-true}
 use Rattle.circuit.specs.Limits.{innerNote, fewestShares, mostShares}
-use Rattle.circuit.specs.Lists.{nth, each, over}
+use Rattle.circuit.specs.Lists.{nth, concatMap, overwrite}
 use Rattle.circuit.specs.Wires.{Wire, Place, named, inner, constant, _placed_}
 use Rattle.circuit.specs.Gadgets.{labels, c, S, inAND, inREF}
 use Rattle.circuit.specs.Kinds.{Kind}
@@ -20,11 +20,11 @@ use Rattle.circuit.proofs.Base.{cases, AllFrom, all-map, all-of, every-of}
 use Rattle.circuit.proofs.Parts.{label-lt, InAND, InREF, and-parts, ref-parts}
 use Rattle.circuit.specs.Composition.{Fits, fit-IN, fit-CON, fit-XOR, fit-NOT, fit-REG, fit-AND, fit-REF, fit-OUT}
 use Rattle.circuit.proofs.Building.{Lawful, step-all, gadget-all}
-use Rattle.checker.specs.Sheet.{foundIn, shown, Tells}
+use Rattle.checker.specs.Internal.Sheet.{foundIn, shown, Represents}
 use Rattle.checker.proofs.MadeNotes.{notes-append}
 
 abbrev notesOf : List Wire → List ℕ
-notesOf ws = each ws (λ w. note (w .place))
+notesOf ws = concatMap ws (λ w. note (w .place))
 
 -- two words a wire
 pub notes-length : (ws : List Wire) → length (notesOf ws) ≡ 2 * length ws
@@ -79,7 +79,7 @@ label-old k least law x = go (k .wires) 0 x law
     go (w ∷ ws) n (suc x) h = go ws (suc n) x (h .1)
 
 -- the notes tell
-pub tells : (k : Circuit) (notes : List ℕ) → k .d ≤ mostShares → 0 < k .d → Lawful Labelled k → Tells k (notesAfter k notes) (size k)
+pub tells : (k : Circuit) (notes : List ℕ) → k .d ≤ mostShares → 0 < k .d → Lawful Labelled k → Represents k (notesAfter k notes) (size k)
 unfolding notesAfter placeAt
 tells k notes most least law x = cases (ltb x (size k)) (λ e. rw e (inside (ltb-true x (size k) e))) (λ e. rw e)
   where
@@ -87,17 +87,17 @@ tells k notes most least law x = cases (ltb x (size k)) (λ e. rw e (inside (ltb
     found (named l t) h = rw (ne-eqb l innerNote (λ e. omega arith))
     found (inner t) h = refl
 
-    inside : x < size k → foundIn (nth (over (notesOf (k .wires)) notes) (2 * x)) (nth (over (notesOf (k .wires)) notes) (2 * x + 1)) ≡ shown (place k x)
+    inside : x < size k → foundIn (nth (overwrite (notesOf (k .wires)) notes) (2 * x)) (nth (overwrite (notesOf (k .wires)) notes) (2 * x + 1)) ≡ shown (place k x)
     inside h =
         let (a, b) = words-at (k .wires) (drop (length (notesOf (k .wires))) notes) x h in
         ap₂ foundIn a b ∙ found (place k x) (label-old k least law x)
 
 -- new words written behind those that are there
-over-more : (xs ys n : List ℕ) → length xs + length ys ≤ length n → sets (over xs n) (length xs) ys ≡ over (xs ++ ys) n
-over-more xs ys n h = sets-eq ys (over xs n) (length xs) (omega (arith, length-append xs (drop (length xs) n), length-drop (length xs) n))
+overwrite-more : (xs ys n : List ℕ) → length xs + length ys ≤ length n → sets (overwrite xs n) (length xs) ys ≡ overwrite (xs ++ ys) n
+overwrite-more xs ys n h = sets-eq ys (overwrite xs n) (length xs) (omega (arith, length-append xs (drop (length xs) n), length-drop (length xs) n))
     ∙ ap₂ (λ a b. a ++ ys ++ b) (take-append-seam xs (drop (length xs) n)) rest
   where
-    rest : drop (length xs + length ys) (over xs n) ≡ drop (length (xs ++ ys)) n
+    rest : drop (length xs + length ys) (overwrite xs n) ≡ drop (length (xs ++ ys)) n
     rest = drop-append-add xs (drop (length xs) n) (length ys) ∙ drop-drop (length ys) (length xs) n ∙ ap (λ m. drop m n) (sym (length-append xs ys))
 
 -- a frame's words written behind the notes
@@ -109,8 +109,8 @@ notes-more k ops kind notes room =
     let ys = notesOf (made k ops kind) in
     let fits : length xs + length ys ≤ length notes =
     omega (arith, notes-length (k .wires), notes-length (made k ops kind), length-append (k .wires) (made k ops kind)) in
-    ap (λ p. sets (over xs notes) p ys) (sym (notes-length (k .wires))) ∙ over-more xs ys notes fits
-    ∙ ap (λ l. over l notes) (sym (notes-append (k .wires) (made k ops kind)))
+    ap (λ p. sets (overwrite xs notes) p ys) (sym (notes-length (k .wires))) ∙ overwrite-more xs ys notes fits
+    ∙ ap (λ l. overwrite l notes) (sym (notes-append (k .wires) (made k ops kind)))
 
 -- every frame keeps the law of labels
 label-new : (k : Circuit) (ops : List ℕ) (kind : Kind) → fewestShares ≤ k .d → Lawful Labelled k → Fits k kind ops → AllFrom (Labelled (extend k ops kind)) (size k) (made k ops kind)

@@ -6,7 +6,7 @@ use native.Mathlib.Omega.{arith}
 use lib.ListN.{length, take, drop, length-drop, drop-of-length-le}
 use lib.Seq.{sets, drop-drop, length-take-le}
 use borrow.Author.Tests.{le-leb}
-use Rattle.circuit.specs.Lists.{nth, each}
+use Rattle.circuit.specs.Lists.{nth, concatMap}
 use Rattle.circuit.specs.Kinds.{Kind, HEAD, kindOf, words}
 use Rattle.circuit.specs.Circuit.{Circuit, size, made, extend}
 use Rattle.circuit.specs.Rules.{pass, refuse, frameRule, Checked, frames, checked}
@@ -17,31 +17,31 @@ use Rattle.circuit.proofs.Steps.{frames-pass, frames-refuse}
 use Rattle.circuit.proofs.Fitting.{known, frame-pass}
 use Rattle.checker.specs.declared.Verdict.{Verdict}
 use Rattle.checker.specs.declared.Verdict.the-variants.{Accepted, Refused}
-use Rattle.checker.specs.declared.kinds.Shape.{Shape as ShapeCode}
-use Rattle.checker.specs.declared.walk.Frame.{Frame}
-use Rattle.checker.specs.declared.walk.Walk.{Walk}
-use Rattle.checker.specs.declared.walk.Step.the-variants as step
+use Rattle.frames.specs.declared.kinds.Shape.{Shape as ShapeCode}
+use Rattle.frames.specs.declared.walk.Frame.{Frame}
+use Rattle.frames.specs.declared.walk.Walk.{Walk}
+use Rattle.frames.specs.declared.walk.Step.the-variants as step
 use Rattle.checker.specs.declared.frame.Tally.{Tally}
 use Rattle.checker.specs.declared.frame.Added.{Added}
 use Rattle.checker.specs.declared.frame.Added.the-variants as added
 use Rattle.checker.specs.declared.frame.Taken.{Taken}
 use Rattle.checker.specs.declared.frame.Taken.the-variants as taken
-use Rattle.checker.specs.Said.{said, inputsAre}
-use Rattle.checker.specs.Walk.{shapeCode, operandsAt, behind, stepAt}
-use Rattle.checker.specs.Sheet.{Tells, tallyOf, judgementIn, laterRule, notesAdded, FrameOf, Placed, Adds}
-use Rattle.checker.specs.Quick.{Takes}
+use Rattle.checker.specs.Answers.{answerOf, inputsAre}
+use Rattle.frames.specs.Walk.{shapeCode, operandsAt, behind, stepAt}
+use Rattle.checker.specs.Internal.Sheet.{Represents, tallyOf, judgementIn, laterRule, notesAdded, FrameOf, Placed, Adds}
+use Rattle.checker.specs.Internal.Quick.{Takes}
 use Rattle.checker.proofs.MadeNotes.{uses-few, brings-few}
 use Rattle.checker.proofs.Telling.{tells, notes-more, notes-same, label-step}
 use Rattle.checker.proofs.Checking.{Walking, here, step-end, step-refused, AtFrame, step-next}
 
 -- what the call promises
 abbrev pub Promised : (table notes₀ notes : List ℕ) → Verdict → Type 0
-Promised table notes₀ notes verdict = (said verdict ≡ verdictOf table (length notes₀))
+Promised table notes₀ notes verdict = (answerOf verdict ≡ verdictOf table (length notes₀))
     × ((notes ≡ notesAfter (checked table (length notes₀) .circuit) notes₀) × inputsAre verdict (checked table (length notes₀) .circuit .inputs))
 
 module _ {table notes₀ notes : List ℕ} {d : ℕ} {walk : Walk} {tally : Tally} (w : Walking table notes₀ notes d walk tally) where
   -- the rest of the table judged ends the check
-  ends : (c : Checked) → frames (w .k) (tally .frames) 0 (drop (walk .at) table) ≡ c → c .circuit ≡ w .k → (v : Verdict) → said v ≡ answer (c .circuit) (c .judgement) → inputsAre v (c .circuit .inputs)
+  ends : (c : Checked) → frames (w .k) (tally .frames) 0 (drop (walk .at) table) ≡ c → c .circuit ≡ w .k → (v : Verdict) → answerOf v ≡ answer (c .circuit) (c .judgement) → inputsAre v (c .circuit .inputs)
       → Promised table notes₀ notes v
   ends c e s v a n = rw (w .rest, e) (a, (w .notes-is ∙ ap (λ k. notesAfter k notes₀) (sym s), n))
 
@@ -52,7 +52,7 @@ module _ {table notes₀ notes : List ℕ} {d : ℕ} {walk : Walk} {tally : Tall
       (ap (λ t. answer-of (t .wires) (t .randoms) (t .latency)) (w .tally-is)) (ap (λ t. t .inputs) (w .tally-is))
     where
       answer-of : ℕ → ℕ → ℕ → Answer
-      answer-of a b c = said (Accepted a b c 0)
+      answer-of a b c = answerOf (Accepted a b c 0)
 
       none : drop (walk .at) table ≡ []
       none = drop-of-length-le table {i = walk .at} (step-end table (walk .d) (walk .at) e)
@@ -98,7 +98,7 @@ module _ {table notes₀ notes : List ℕ} {d : ℕ} {walk : Walk} {tally : Tall
     unfolding kind rest
     placed = record {
       later = later;
-      tells = rw (w .notes-is) (subst (λ n. Tells (w .k) (notesAfter (w .k) notes₀) n) (sym (ap (λ t. t .wires) (w .tally-is))) (tells (w .k) notes₀ (w .most) (omega (arith, w .least)) (w .law)));
+      tells = rw (w .notes-is) (subst (λ n. Represents (w .k) (notesAfter (w .k) notes₀) n) (sym (ap (λ t. t .wires) (w .tally-is))) (tells (w .k) notes₀ (w .most) (omega (arith, w .least)) (w .law)));
       tally-is = w .tally-is;
       shares = w .shares;
       frame-is = rw o (frame-at .frame-is);
@@ -148,14 +148,14 @@ module _ {table notes₀ notes : List ℕ} {d : ℕ} {walk : Walk} {tally : Tall
             tally-is = t-is ∙ ap (λ f. tallyOf f more) (sym f-is);
             few = omega (arith, size-extend (w .k) ops kind, passed .few);
             used = omega (arith, size-extend (w .k) ops kind, uses-few (w .k .d) kind, w .used);
-            brought = omega (arith, brings-few (w .k .d) kind, w .brought);
+            inputs = omega (arith, brings-few (w .k .d) kind, w .inputs);
             counted = omega (arith, w .counted);
             inside = omega (arith, length-drop (walk .at + 1) table, frame-at .inside, whole);
             short = w .short;
             roomy = w .roomy;
             law = label-step (w .k) ops kind (w .least) (subst (Fits (w .k) kind) (sym ops-is) (passed .fits)) (w .law);
             notes-is = a .notes (w .k) kind placed ∙ ap (λ j. notesAdded j notes (size (w .k)) (made (w .k) ops kind)) told
-                ∙ ap (λ l. sets l (2 * size (w .k)) (each (made (w .k) ops kind) (λ x. note (x .place)))) (w .notes-is)
+                ∙ ap (λ l. sets l (2 * size (w .k)) (concatMap (made (w .k) ops kind) (λ x. note (x .place)))) (w .notes-is)
                 ∙ notes-more (w .k) ops kind notes₀ (omega (arith, size-extend (w .k) ops kind, passed .few, w .roomy));
             rest = w .rest ∙ ap (frames (w .k) (tally .frames) 0) (here table d (walk .at) (frame-at .inside))
                 ∙ frames-pass (w .k) (tally .frames) (nth table (walk .at)) rest (judged-is ∙ told)
@@ -199,7 +199,7 @@ bounded w =
       wires = omega (arith, w .few);
       used = omega (arith, ap (λ t. t .randoms) (w .tally-is), w .used);
       frames = omega (arith, w .counted, w .inside, w .short);
-      inputs = omega (arith, ap (λ t. t .inputs) (w .tally-is), w .brought);
+      inputs = omega (arith, ap (λ t. t .inputs) (w .tally-is), w .inputs);
     }
 
 pub shares-few : {table notes₀ notes : List ℕ} {d : ℕ} {walk : Walk} {tally : Tally} → Walking table notes₀ notes d walk tally → d ≤ 8

@@ -10,14 +10,14 @@ use lib.Seq.{getD-append-add}
 use borrow.Author.Tests.{le-leb, lt-leb, ne-eqb, ltb-true, ltb-false}
 use Rattle.circuit.specs.Lists.{range}
 use Rattle.circuit.specs.Wires.{Place, named, inner}
-use Rattle.circuit.specs.Kinds.{Kind, HEAD, IN, CON, XOR, NOT, REG, AND, REF, OUT, WordRule, order, random, share, before, row, shape, words}
+use Rattle.circuit.specs.Kinds.{Kind, HEAD, IN, CON, XOR, NOT, REG, AND, REF, OUT, WordRule, shareCount, random, share, before, row, shape, words}
 use Rattle.circuit.specs.Circuit.{Circuit, size, place, labelOf, stageShown}
 use Rattle.circuit.proofs.Base.{cases}
 use Rattle.checker.specs.declared.notes.Found.{Found}
 use Rattle.checker.specs.declared.notes.Found.the-variants.{Missing}
-use Rattle.checker.specs.Walk.{formOf}
-use Rattle.checker.specs.Sheet.{shown, foundOf, labelFound, stageFound, gadgetRule, ruleIn}
-use Rattle.checker.proofs.KindTable.{row-length, words-AND, words-REF, words-OUT}
+use Rattle.frames.specs.Walk.{formOf}
+use Rattle.checker.specs.Internal.Sheet.{shown, foundOf, labelFound, stageFound, gadgetRule, ruleIn}
+use Rattle.frames.proofs.KindTable.{row-length, words-AND, words-REF, words-OUT}
 
 -- the rule at a place of a row
 row-at : (f : ℕ → WordRule) (n k i : ℕ) (e : WordRule) → i < k → getD (map f (range n k)) i e ≡ f (n + i)
@@ -25,8 +25,8 @@ row-at f n zero i e h = absurd (omega arith)
 row-at f n (suc k) zero e h = let q : n ≡ n + 0 = omega arith in ap f q
 row-at f n (suc k) (suc i) e h = let q : suc n + i ≡ n + suc i = omega arith in row-at f (suc n) k i e (omega arith) ∙ ap f q
 
-first-row : (rule : ℕ → ℕ → WordRule) (p d i : ℕ) → i < d → getD (row rule p d) i order ≡ rule i p
-first-row rule p d i h = let q : 0 + i ≡ i = omega arith in row-at (λ i. rule i p) 0 d i order h ∙ ap (λ j. rule j p) q
+first-row : (rule : ℕ → ℕ → WordRule) (p d i : ℕ) → i < d → getD (row rule p d) i shareCount ≡ rule i p
+first-row rule p d i h = let q : 0 + i ≡ i = omega arith in row-at (λ i. rule i p) 0 d i shareCount h ∙ ap (λ j. rule j p) q
 
 -- the words of a gadget behind the first random
 pub a-rule : (d j : ℕ) → j < d → gadgetRule d (suc j) ≡ share j 1
@@ -35,17 +35,17 @@ a-rule d j h = let q : suc j - 1 ≡ j = omega arith in rw (ne-eqb (suc j) 0 (λ
 pub b-rule : (d j : ℕ) → d ≤ j → gadgetRule d (suc j) ≡ before (j - d) 1
 b-rule d j h = let q : suc j - 1 - d ≡ j - d = omega arith in rw (ne-eqb (suc j) 0 (λ e. omega arith), lt-leb (suc j) d (omega arith), q)
 
-and-row : (d j : ℕ) → j < d + d → getD (row share 1 d ++ row before 1 d) j order ≡ gadgetRule d (suc j)
+and-row : (d j : ℕ) → j < d + d → getD (row share 1 d ++ row before 1 d) j shareCount ≡ gadgetRule d (suc j)
 and-row d j h = cases (ltb j d)
     (λ e. let l = ltb-true j d e in
-    List·getD-append (row share 1 d) (row before 1 d) order j (omega (arith, row-length share 1 d)) ∙ first-row share 1 d j l ∙ sym (a-rule d j l))
+    List·getD-append (row share 1 d) (row before 1 d) shareCount j (omega (arith, row-length share 1 d)) ∙ first-row share 1 d j l ∙ sym (a-rule d j l))
     (λ e. let l = ltb-false j d e in
     let q : j ≡ length (row share 1 d) + (j - d) = omega (arith, row-length share 1 d) in
-    ap (λ n. getD (row share 1 d ++ row before 1 d) n order) q ∙ getD-append-add (row share 1 d) (row before 1 d) (j - d) order
+    ap (λ n. getD (row share 1 d ++ row before 1 d) n shareCount) q ∙ getD-append-add (row share 1 d) (row before 1 d) (j - d) shareCount
     ∙ first-row before 1 d (j - d) (omega arith) ∙ sym (b-rule d j l))
 
 -- the rule at each place
-pub rule-at : (d : ℕ) (kind : Kind) (i : ℕ) → i < words d kind → getD (shape d kind .rules) i order ≡ ruleIn (formOf kind) d i
+pub rule-at : (d : ℕ) (kind : Kind) (i : ℕ) → i < words d kind → getD (shape d kind .rules) i shareCount ≡ ruleIn (formOf kind) d i
 unfolding shape
 rule-at d HEAD zero h = refl
 rule-at d HEAD (suc i) h = absurd (omega arith)
@@ -77,15 +77,15 @@ module _ (k : Circuit) where
   found-by f g e h x = cases (ltb x (size k)) (λ l. rw l (h (place k x))) (λ l. rw (l, past x (ltb-false x (size k) l)) e)
 
   pub label-found : (x : ℕ) → labelFound (foundOf k x) ≡ labelOf (place k x)
-  label-found = found-by labelFound labelOf refl each
+  label-found = found-by labelFound labelOf refl concatMap
     where
-      each : (p : Place) → labelFound (shown p) ≡ labelOf p
-      each (named l t) = refl
-      each (inner t) = refl
+      concatMap : (p : Place) → labelFound (shown p) ≡ labelOf p
+      concatMap (named l t) = refl
+      concatMap (inner t) = refl
 
   pub stage-found : (x : ℕ) → stageFound (foundOf k x) ≡ stageShown (place k x)
-  stage-found = found-by stageFound stageShown refl each
+  stage-found = found-by stageFound stageShown refl concatMap
     where
-      each : (p : Place) → stageFound (shown p) ≡ stageShown p
-      each (named l t) = refl
-      each (inner t) = refl
+      concatMap : (p : Place) → stageFound (shown p) ≡ stageShown p
+      concatMap (named l t) = refl
+      concatMap (inner t) = refl

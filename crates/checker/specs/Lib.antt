@@ -1,6 +1,4 @@
--- What the code's answer says, and what the walk over frames answers.
-pub mod Said
-pub mod Walk
+-- What the code's answer says.
+pub mod Answers
 -- For the contracts of the crate's own functions. No promise to others names any of it.
-pub mod Sheet
-pub mod Quick
+pub mod Internal

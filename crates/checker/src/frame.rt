@@ -2,18 +2,18 @@
 ghost use mathlib.Core.Path.{_≡_};
 ghost use Prim.Native.Nat.{_+_, _*_, _-_, _≤_, _<_};
 ghost use lib.ListN.{length};
-ghost use Rattle.checker.specs.Sheet.{noted, likeWire, rowAfter, madeFrame, latencyFrame, FrameOf, Adds};
-ghost use Rattle.checker.specs.Quick.{Fitting, grownBy, largerOf, Takes};
+ghost use Rattle.checker.specs.Internal.Sheet.{noted, likeWire, rowAfter, madeFrame, latencyFrame, FrameOf, Adds};
+ghost use Rattle.checker.specs.Internal.Quick.{Fitting, grownBy, largerOf, Takes};
 ghost use mathlib.Core.Bool.{true};
-use super::kinds::Shape;
 use super::notes;
 use super::notes::Found;
 use super::notes::Made;
 use super::quick;
-use super::walk::Frame;
-use super::walk::Gate;
-use super::walk::word_at;
 use super::words;
+use frames::kinds::Shape;
+use frames::walk::Frame;
+use frames::walk::Gate;
+use frames::walk::word_at;
 
 // The circuit so far: the number of frames with HEAD, of wires, of random bits, the latency, and the number of INs.
 pub struct Tally {
@@ -148,7 +148,7 @@ pub(crate) fn add(
     let n = d as usize;
     let wires = tally.wires;
     let form = shape.form;
-    let makes = shape.makes;
+    let more = shape.wires;
     let spot = words::first_broken(form, n, tally.randoms, wires, ops, notes);
     if spot.rule != 0 {
         return Added::Refused {
@@ -156,21 +156,21 @@ pub(crate) fn add(
             word: spot.word,
         };
     }
-    let made = made_by(frame, n, less(makes, n), wires, ops, notes);
+    let made = made_by(frame, n, less(more, n), wires, ops, notes);
     let stage = made.stage;
     if 255 < stage {
         return Added::Refused { rule: 13, word: 0 };
     }
-    if 8192 - wires < makes {
+    if 8192 - wires < more {
         return Added::Refused { rule: 14, word: 0 };
     }
     notes::write(notes, wires, made);
     Added::Next(Tally {
         frames: tally.frames + 1,
-        wires: wires + makes,
-        randoms: tally.randoms + shape.uses,
+        wires: wires + more,
+        randoms: tally.randoms + shape.randoms,
         latency: latency_after(frame, tally.latency, stage),
-        inputs: tally.inputs + shape.brings,
+        inputs: tally.inputs + shape.inputs,
     })
 }
 
@@ -188,10 +188,10 @@ fn grown(done: bool, tally: Tally, shape: Shape, latency: usize) -> Taken
     if done {
         Taken::Next(Tally {
             frames: tally.frames + 1,
-            wires: tally.wires + shape.makes,
-            randoms: tally.randoms + shape.uses,
+            wires: tally.wires + shape.wires,
+            randoms: tally.randoms + shape.randoms,
             latency: latency,
-            inputs: tally.inputs + shape.brings,
+            inputs: tally.inputs + shape.inputs,
         })
     } else {
         Taken::Unsure
@@ -247,12 +247,12 @@ pub(crate) fn take(
             }
         },
         Frame::And => {
-            let inner = less(shape.makes, n);
+            let inner = less(shape.wires, n);
             let done = quick::and(inner, n, tally.randoms, ops, wires, notes);
             grown(done, tally, shape, latency)
         }
         Frame::Ref => {
-            let inner = less(shape.makes, n);
+            let inner = less(shape.wires, n);
             let done = quick::refresh(inner, n, tally.randoms, ops, wires, notes);
             grown(done, tally, shape, latency)
         }

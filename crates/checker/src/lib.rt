@@ -3,22 +3,20 @@
 ghost use mathlib.Core.Path.{_≡_};
 ghost use lib.ListN.{length};
 ghost use Rattle.circuit.specs.Rules.{checked};
-ghost use Rattle.checker.specs.Said.{said, inputsAre};
+ghost use Rattle.checker.specs.Answers.{answerOf, inputsAre};
 ghost use Rattle.circuit.specs.Answer.{verdictOf, notesAfter};
-ghost use Rattle.checker.specs.Sheet.{headNumber};
+ghost use Rattle.checker.specs.Internal.Sheet.{headNumber};
 
 mod frame;
-pub mod kinds;
 mod notes;
 mod quick;
-pub mod walk;
 mod words;
 
 use frame::Added;
 use frame::Taken;
 use frame::Tally;
-use walk::Step;
-use walk::Walk;
+use frames::walk::Step;
+use frames::walk::Walk;
 
 // The answer: accepted with the numbers of wires and random bits, the latency and the number of INs, or refused with the
 // number of the first rule broken, the frame and the word.
@@ -87,9 +85,9 @@ fn head_rule(table: &[u16], room: usize) -> usize
 // judged word by word from the first that is left.
 fn check_frames(table: &[u16], notes: &mut [u16]) -> Verdict
     requires { ⌜ headNumber (now table) (length (now notes)) ≡ 0 ⌝ }
-    ensures answered { λ r. ⌜ said r ≡ verdictOf (now (table .entry)) (length (now (notes .entry))) ⌝ }
+    ensures answered { λ r. ⌜ answerOf r ≡ verdictOf (now (table .entry)) (length (now (notes .entry))) ⌝ }
     ensures noted { λ _. ⌜ now (notes .exit) ≡ notesAfter (checked (now (table .entry)) (length (now (notes .entry))) .circuit) (now (notes .entry)) ⌝ }
-    ensures brought { λ r. ⌜ inputsAre r (checked (now (table .entry)) (length (now (notes .entry))) .circuit .inputs) ⌝ }
+    ensures inputs { λ r. ⌜ inputsAre r (checked (now (table .entry)) (length (now (notes .entry))) .circuit .inputs) ⌝ }
 {
     let d = table[1];
     let mut walk = Walk { d: d, at: 2 };
@@ -155,9 +153,9 @@ fn check_frames(table: &[u16], notes: &mut [u16]) -> Verdict
 
 // The table checked frame by frame, in one pass. Rules 1 to 4 leave the notes untouched.
 pub fn check(table: &[u16], notes: &mut [u16]) -> Verdict
-    ensures answered { λ r. ⌜ said r ≡ verdictOf (now (table .entry)) (length (now (notes .entry))) ⌝ }
+    ensures answered { λ r. ⌜ answerOf r ≡ verdictOf (now (table .entry)) (length (now (notes .entry))) ⌝ }
     ensures noted { λ _. ⌜ now (notes .exit) ≡ notesAfter (checked (now (table .entry)) (length (now (notes .entry))) .circuit) (now (notes .entry)) ⌝ }
-    ensures brought { λ r. ⌜ inputsAre r (checked (now (table .entry)) (length (now (notes .entry))) .circuit .inputs) ⌝ }
+    ensures inputs { λ r. ⌜ inputsAre r (checked (now (table .entry)) (length (now (notes .entry))) .circuit .inputs) ⌝ }
 {
     let broken = head_rule(table, notes.len());
     if broken != 0 {

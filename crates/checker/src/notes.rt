@@ -3,7 +3,7 @@ ghost use mathlib.Core.Path.{_≡_};
 ghost use Prim.Native.Nat.{_+_, _*_, _≤_, _<_};
 ghost use lib.ListN.{length};
 ghost use lib.Seq.{sets};
-ghost use Rattle.checker.specs.Sheet.{noted, innerWords, namedWords, madeWords};
+ghost use Rattle.checker.specs.Internal.Sheet.{noted, innerWords, namedWords, madeWords};
 
 // What the notes say of a wire.
 pub enum Found {

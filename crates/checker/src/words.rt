@@ -2,15 +2,15 @@
 ghost use mathlib.Core.Path.{_≡_};
 ghost use Prim.Native.Nat.{_*_, _≤_, _<_};
 ghost use lib.ListN.{length};
-ghost use Rattle.checker.specs.Sheet.{labelFound, stageFound, ruleOf, ruleIn, leadPlace, wireNumber, wordNumber, FirstBroken};
-use super::kinds::Form;
+ghost use Rattle.checker.specs.Internal.Sheet.{labelFound, stageFound, ruleOf, ruleIn, leadPlace, wireNumber, wordNumber, FirstBroken};
 use super::notes;
 use super::notes::Found;
-use super::walk::word_at;
+use frames::kinds::Form;
+use frames::walk::word_at;
 
 // What a word after the kind has to be. Places on the frame count from 0, the first word after the kind.
 pub enum WordRule {
-    Order,
+    ShareCount,
     Label,
     Value,
     Stage,
@@ -28,7 +28,7 @@ fn rule_at(form: Form, d: usize, i: usize) -> WordRule
     ensures { λ r. ⌜ ruleOf r ≡ ruleIn form d i ⌝ }
 {
     match form {
-        Form::Order => WordRule::Order,
+        Form::ShareCount => WordRule::ShareCount,
         Form::Stage => WordRule::Stage,
         Form::Constant => {
             if i == 0 {
@@ -64,7 +64,7 @@ fn lead_place(rule: WordRule) -> usize
     ensures { λ r. ⌜ r ≡ leadPlace (ruleOf rule) ⌝ }
 {
     match rule {
-        WordRule::Order => 0,
+        WordRule::ShareCount => 0,
         WordRule::Label => 0,
         WordRule::Value => 0,
         WordRule::Stage => 0,
@@ -122,7 +122,7 @@ fn word_broken(rule: WordRule, d: usize, used: usize, x: u16, own: Found, lead: 
 {
     let n = x as usize;
     match rule {
-        WordRule::Order => {
+        WordRule::ShareCount => {
             if n < 2 {
                 4
             } else if 8 < n {

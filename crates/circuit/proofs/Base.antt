@@ -8,7 +8,7 @@ use native.Mathlib.Omega.{arith}
 use lib.Dec.{eqb, ltb}
 use lib.ListN.{length}
 use borrow.Author.Tests.{eq-eqb, ne-eqb, eqb-true, eqb-false, lt-ltb, ltb-true, ltb-false}
-use Rattle.circuit.specs.Lists.{_⊕_, mem, range, keep, each}
+use Rattle.circuit.specs.Lists.{_⊕_, mem, range, filter, concatMap}
 
 -- tests
 pub cases : {A : Type 0} (b : Bool) → (b ≡ true → A) → (b ≡ false → A) → A
@@ -108,9 +108,9 @@ in-append s [] ys h f g = g h
 in-append s (x ∷ xs) ys h f g = or-cases (eqb s x) (mem s (xs ++ ys)) h
     (λ e. f (or-left (eqb s x) (mem s xs) e)) (λ e. in-append s xs ys e (λ k. f (in-tail s x xs k)) g)
 
-pub in-each : {A : Type 0} (s : ℕ) (f : ℕ → List ℕ) (xs : List ℕ) → In s (each xs f) → ((y : ℕ) → In y xs → In s (f y) → A) → A
+pub in-each : {A : Type 0} (s : ℕ) (f : ℕ → List ℕ) (xs : List ℕ) → In s (concatMap xs f) → ((y : ℕ) → In y xs → In s (f y) → A) → A
 in-each s f [] h g = absurd (false≢true h)
-in-each s f (x ∷ xs) h g = in-append s (f x) (each xs f) h (g x (in-head x xs)) (λ k. in-each s f xs k (λ y p. g y (in-tail y x xs p)))
+in-each s f (x ∷ xs) h g = in-append s (f x) (concatMap xs f) h (g x (in-head x xs)) (λ k. in-each s f xs k (λ y p. g y (in-tail y x xs p)))
 
 pub in-range : (i n k : ℕ) → n ≤ i → i < n + k → In i (range n k)
 in-range i n zero h l = absurd (omega arith)
@@ -121,19 +121,19 @@ pub range-in : (i n k : ℕ) → In i (range n k) → i < n + k
 range-in i n zero h = absurd (false≢true h)
 range-in i n (suc k) h = or-cases (eqb i n) (mem i (range (suc n) k)) h (λ e. let z = eqb-true i n e in omega arith) (λ e. omega (arith, range-in i (suc n) k e))
 
-pub in-keep : (f : ℕ → Bool) (xs : List ℕ) (i : ℕ) → In i xs → f i ≡ true → In i (keep f xs)
+pub in-keep : (f : ℕ → Bool) (xs : List ℕ) (i : ℕ) → In i xs → f i ≡ true → In i (filter f xs)
 in-keep f [] i h k = h
 in-keep f (x ∷ xs) i h k = or-cases (eqb i x) (mem i xs) h
-    (λ e. let z : f x ≡ true = rw (eqb-true i x e) at k in rw z (or-left (eqb i x) (mem i (keep f xs)) e))
-    (λ e. cases (f x) (λ z. rw z (in-tail i x (keep f xs) (in-keep f xs i e k))) (λ z. rw z (in-keep f xs i e k)))
+    (λ e. let z : f x ≡ true = rw (eqb-true i x e) at k in rw z (or-left (eqb i x) (mem i (filter f xs)) e))
+    (λ e. cases (f x) (λ z. rw z (in-tail i x (filter f xs) (in-keep f xs i e k))) (λ z. rw z (in-keep f xs i e k)))
 
-pub keep-in : (f : ℕ → Bool) (xs : List ℕ) (i : ℕ) → In i (keep f xs) → In i xs × (f i ≡ true)
-keep-in f [] i h = absurd (false≢true h)
-keep-in f (x ∷ xs) i h = cases (f x)
-    (λ z. or-cases (eqb i x) (mem i (keep f xs)) (rw z at h)
+pub filter-in : (f : ℕ → Bool) (xs : List ℕ) (i : ℕ) → In i (filter f xs) → In i xs × (f i ≡ true)
+filter-in f [] i h = absurd (false≢true h)
+filter-in f (x ∷ xs) i h = cases (f x)
+    (λ z. or-cases (eqb i x) (mem i (filter f xs)) (rw z at h)
     (λ e. (or-left (eqb i x) (mem i xs) e, rw (eqb-true i x e) z))
-    (λ e. let (a, b) = keep-in f xs i e in (in-tail i x xs a, b)))
-    (λ z. let (a, b) = keep-in f xs i (rw z at h) in (in-tail i x xs a, b))
+    (λ e. let (a, b) = filter-in f xs i e in (in-tail i x xs a, b)))
+    (λ z. let (a, b) = filter-in f xs i (rw z at h) in (in-tail i x xs a, b))
 
 -- an element of a list
 abbrev pub Has : {A : Type 0} → A → List A → Type 0
@@ -149,10 +149,10 @@ pub has-right : {A : Type 0} (a : A) (xs ys : List A) → Has a ys → Has a (xs
 has-right a [] ys h = h
 has-right a (x ∷ xs) ys h = inr (has-right a xs ys h)
 
-pub has-each : {A : Type 0} (a : A) (xs : List ℕ) (f : ℕ → List A) (i : ℕ) → In i xs → Has a (f i) → Has a (each xs f)
+pub has-each : {A : Type 0} (a : A) (xs : List ℕ) (f : ℕ → List A) (i : ℕ) → In i xs → Has a (f i) → Has a (concatMap xs f)
 has-each a [] f i h k = absurd (false≢true h)
 has-each a (x ∷ xs) f i h k = or-cases (eqb i x) (mem i xs) h
-    (λ e. has-left a (f x) (each xs f) (subst (λ (y : ℕ). Has a (f y)) (eqb-true i x e) k)) (λ e. has-right a (f x) (each xs f) (has-each a xs f i e k))
+    (λ e. has-left a (f x) (concatMap xs f) (subst (λ (y : ℕ). Has a (f y)) (eqb-true i x e) k)) (λ e. has-right a (f x) (concatMap xs f) (has-each a xs f i e k))
 
 pub has-map : {A : Type 0} (f : ℕ → A) (xs : List ℕ) (i : ℕ) → In i xs → Has (f i) (map f xs)
 has-map f [] i h = absurd (false≢true h)
@@ -167,9 +167,9 @@ pub every-map : {A : Type 0} (Q : A → Type 0) (f : ℕ → A) (xs : List ℕ) 
 every-map Q f [] g = tt
 every-map Q f (x ∷ xs) g = (g x (in-head x xs), every-map Q f xs (λ i h. g i (in-tail i x xs h)))
 
-pub every-each : {A : Type 0} (Q : A → Type 0) (xs : List ℕ) (f : ℕ → List A) → ((i : ℕ) → In i xs → Every Q (f i)) → Every Q (each xs f)
+pub every-each : {A : Type 0} (Q : A → Type 0) (xs : List ℕ) (f : ℕ → List A) → ((i : ℕ) → In i xs → Every Q (f i)) → Every Q (concatMap xs f)
 every-each Q [] f g = tt
-every-each Q (x ∷ xs) f g = every-append Q (f x) (each xs f) (g x (in-head x xs)) (every-each Q xs f (λ i h. g i (in-tail i x xs h)))
+every-each Q (x ∷ xs) f g = every-append Q (f x) (concatMap xs f) (g x (in-head x xs)) (every-each Q xs f (λ i h. g i (in-tail i x xs h)))
 
 pub every-imp : {A : Type 0} (Q R : A → Type 0) (xs : List A) → ((x : A) → Q x → R x) → Every Q xs → Every R xs
 every-imp Q R [] g h = tt

@@ -109,7 +109,7 @@ fit-split k [] gs h = (done, h)
 fit-split k (f ∷ fs) gs (next fits few more) = let (p, q) = fit-split (extend k (f .ops) (f .kind)) fs gs more in (next fits few p, q)
 
 -- at most 8,192 wires
-pub size-extend : (k : Circuit) (ops : List ℕ) (kind : Kind) → size (extend k ops kind) ≡ size k + shape (k .d) kind .makes
+pub size-extend : (k : Circuit) (ops : List ℕ) (kind : Kind) → size (extend k ops kind) ≡ size k + shape (k .d) kind .wires
 size-extend k ops kind = length-append (k .wires) (made k ops kind) ∙ ap (λ (n : ℕ). size k + n) (made-size k ops kind)
 
 pub build-size : {k : Circuit} (fs : List Frame) → AllFit k fs → size k ≤ wireLimit → size (build k fs) ≤ wireLimit

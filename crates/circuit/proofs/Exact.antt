@@ -10,7 +10,7 @@ use lib.Seq.{drop-nil, take-at, drop-at}
 use borrow.Author.Tests.{leb-true, le-leb, eqb-true}
 use Rattle.circuit.specs.Limits.{tableLimit, wireLimit, notesRoom, stageLimit, fewestShares, mostShares}
 use Rattle.circuit.specs.Lists.{nth}
-use Rattle.circuit.specs.Kinds.{kindOf, order, words}
+use Rattle.circuit.specs.Kinds.{kindOf, shareCount, words}
 use Rattle.circuit.specs.Circuit.{Circuit, size, empty, place, stageOf, extend}
 use Rattle.circuit.specs.Rules.{Judgement, pass, refuse, frameRule, Checked, onward, frames, headRule, checked}
 use Rattle.circuit.proofs.Base.{and-left, and-right, and-both}
@@ -76,7 +76,7 @@ sound table room h =
     let (p1, h2) = need-then (leb (length table) tableLimit) 1 0 0 _ e in
     let (p2, h3) = need-then (leb notesRoom room) 2 0 0 _ h2 in
     let (p3, h4) = need-then (leb 2 (length table) && eqb (nth table 0) 0) 3 0 0 _ h3 in
-    let (ge, le) = word-pass (empty 0) 0 [] order 1 d h4 in
+    let (ge, le) = word-pass (empty 0) 0 [] shareCount 1 d h4 in
     let w = walked (empty d) 1 0 (drop 2 table) ge (sym (ap (λ r. r .judgement) on) ∙ h) in
     record {
       d = d;
@@ -113,7 +113,7 @@ complete d fs room ge le short roomy fit =
     then-need _ 1 0 0 _ (le-leb (length table) tableLimit short)
     (then-need _ 2 0 0 _ (le-leb notesRoom room roomy)
     (then-need _ 3 0 0 _ (and-both _ _ (le-leb 2 (length table) (omega arith)) refl)
-    (pass-word (empty 0) 0 [] order 1 d (ge, le)))) in
+    (pass-word (empty 0) 0 [] shareCount 1 d (ge, le)))) in
     rw head (frames-fit (empty d) 1 fs ge tt fit)
 
 -- what holds of the circuit of every accepted table: at most 8,192 wires, and no stage over 255

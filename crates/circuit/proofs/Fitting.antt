@@ -108,7 +108,7 @@ pub record Passed (k : Circuit) (x : ℕ) (rest : List ℕ) : Type 0 where
   pub kind : kindWord (kindOf x) ≡ x
   pub whole : words (k .d) (kindOf x) ≤ length rest
   pub fits : Fits k (kindOf x) (take (words (k .d) (kindOf x)) rest)
-  pub few : size k + shape (k .d) (kindOf x) .makes ≤ wireLimit
+  pub few : size k + shape (k .d) (kindOf x) .wires ≤ wireLimit
 
 pub frame-pass : (k : Circuit) (f x : ℕ) (rest : List ℕ) → fewestShares ≤ k .d → frameRule k f x rest ≡ pass → Passed k x rest
 unfolding frameRule
@@ -119,7 +119,7 @@ frame-pass k f x rest ge h =
     let (p6, h7) = need-then (leb n (length rest)) 6 f 0 _ h6 in
     let (p7, h13) = then-pass (wordsRule k f ops 1 (shape (k .d) (kindOf x) .rules) ops) _ h7 in
     let (p13, h14) = need-then (leb (newStage k ops (kindOf x)) stageLimit) 13 f 0 _ h13 in
-    let p14 = need-pass (leb (size k + shape (k .d) (kindOf x) .makes) wireLimit) 14 f 0 h14 in
+    let p14 = need-pass (leb (size k + shape (k .d) (kindOf x) .wires) wireLimit) 14 f 0 h14 in
     let whole = leb-true n (length rest) p6 in
     let count = length-take-le n rest whole in
     let kind = known x (leb-true x 8 (and-right (leb 1 x) (leb x 8) p5)) in
@@ -128,7 +128,7 @@ frame-pass k f x rest ge h =
       whole = whole;
       fits = meets-fit k ops (kindOf x) ge (subst (λ (w : ℕ). 1 ≤ w) (sym kind) (leb-true 1 x (and-left (leb 1 x) (leb x 8) p5))) count
           (words-pass k f ops 1 0 (shape (k .d) (kindOf x) .rules) (omega arith) p7) (leb-true (newStage k ops (kindOf x)) stageLimit p13);
-      few = leb-true (size k + shape (k .d) (kindOf x) .makes) wireLimit p14;
+      few = leb-true (size k + shape (k .d) (kindOf x) .wires) wireLimit p14;
     }
 
 -- a frame that fits meets its rules
@@ -182,7 +182,7 @@ fit-meets k _ _ ge h (fit-OUT ops t len p) = record {
 
 -- a frame that fits passes, whatever words come behind it
 pub fit-pass : (k : Circuit) (f : ℕ) (kind : Kind) (ops rest : List ℕ) → fewestShares ≤ k .d → Lawful InTime k → Fits k kind ops
-    → size k + shape (k .d) kind .makes ≤ wireLimit → frameRule k f (kindWord kind) (ops ++ rest) ≡ pass
+    → size k + shape (k .d) kind .wires ≤ wireLimit → frameRule k f (kindWord kind) (ops ++ rest) ≡ pass
 unfolding frameRule
 fit-pass k f kind ops rest ge h fits few =
     let g = fit-meets k kind ops ge h fits in
@@ -192,4 +192,4 @@ fit-pass k f kind ops rest ge h fits few =
     (then-need _ 6 f 0 _ (le-leb (words (k .d) kind) (length (ops ++ rest)) whole)
     (pass-then (wordsRule k f ops 1 (shape (k .d) kind .rules) ops) _ (pass-words k f ops 1 0 (shape (k .d) kind .rules) (omega (arith, g .count)) (g .meets))
     (then-need _ 13 f 0 _ (le-leb (newStage k ops kind) stageLimit (g .stage))
-    (pass-need _ 14 f 0 (le-leb (size k + shape (k .d) kind .makes) wireLimit few))))))
+    (pass-need _ 14 f 0 (le-leb (size k + shape (k .d) kind .wires) wireLimit few))))))

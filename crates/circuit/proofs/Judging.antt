@@ -11,7 +11,7 @@ use borrow.Author.Tests.{ltb-true, ltb-false, leb-true, eqb-true, lt-ltb, le-leb
 use Rattle.circuit.specs.Limits.{stageLimit, fewestShares, mostShares}
 use Rattle.circuit.specs.Lists.{nth}
 use Rattle.circuit.specs.Wires.{Place, named, inner, constant, _placed_}
-use Rattle.circuit.specs.Kinds.{WordRule, order, label, value, stage, random, like, share, before}
+use Rattle.circuit.specs.Kinds.{WordRule, shareCount, label, value, stage, random, like, share, before}
 use Rattle.circuit.specs.Circuit.{Circuit, size, place, labelOf, stageShown}
 use Rattle.circuit.specs.Rules.{Judgement, pass, refuse, need, _then_, isNamed, wireRule, wordRule, wordsRule}
 use Rattle.circuit.proofs.Base.{cases, and-left, and-right, and-both, AllFrom}
@@ -54,7 +54,7 @@ named-place (inner t) h = absurd (let z : _≡_ {A = ℕ} 0 1 = cc in omega arit
 -- what the word x has to be, by its rule
 module _ (k : Circuit) (ops : List ℕ) where
   abbrev pub Meets : WordRule → ℕ → Type 0
-  Meets order x = (fewestShares ≤ x) × (x ≤ mostShares)
+  Meets shareCount x = (fewestShares ≤ x) × (x ≤ mostShares)
   Meets label x = x < k .d
   Meets value x = x ≤ 1
   Meets stage x = x ≤ stageLimit
@@ -84,7 +84,7 @@ module _ (k : Circuit) (f : ℕ) (ops : List ℕ) where
   pass-wire l t w x stageRight h s = rw (lt-ltb x (size k) (named-made k x l t h), h, eq-eqb l l refl, s)
 
   pub word-pass : (r : WordRule) (w x : ℕ) → wordRule k f ops r w x ≡ pass → Meets k ops r x
-  word-pass order w x h = let e = need-pass (leb fewestShares x && leb x mostShares) 4 f w h in
+  word-pass shareCount w x h = let e = need-pass (leb fewestShares x && leb x mostShares) 4 f w h in
       (leb-true fewestShares x (and-left (leb fewestShares x) (leb x mostShares) e), leb-true x mostShares (and-right (leb fewestShares x) (leb x mostShares) e))
   word-pass label w x h = ltb-true x (k .d) (need-pass (ltb x (k .d)) 7 f w h)
   word-pass value w x h = leb-true x 1 (need-pass (leb x 1) 7 f w h)
@@ -97,7 +97,7 @@ module _ (k : Circuit) (f : ℕ) (ops : List ℕ) where
       (stageShown (place k x), e, eqb-true (suc (stageShown (place k x))) (stageShown (place k (nth ops p))) s)
 
   pub pass-word : (r : WordRule) (w x : ℕ) → Meets k ops r x → wordRule k f ops r w x ≡ pass
-  pass-word order w x h = pass-need _ 4 f w (and-both _ _ (le-leb fewestShares x (h .0)) (le-leb x mostShares (h .1)))
+  pass-word shareCount w x h = pass-need _ 4 f w (and-both _ _ (le-leb fewestShares x (h .0)) (le-leb x mostShares (h .1)))
   pass-word label w x h = pass-need _ 7 f w (lt-ltb x (k .d) h)
   pass-word value w x h = pass-need _ 7 f w (le-leb x 1 h)
   pass-word stage w x h = pass-need _ 7 f w (le-leb x stageLimit h)

@@ -8,9 +8,9 @@ use native.Mathlib.Omega.{arith}
 use native.Mathlib.Decide.{ℕ-discrete}
 use lib.Dec.{eqb, ltb}
 use lib.ListN.{length}
-use Rattle.circuit.specs.Lists.{each}
+use Rattle.circuit.specs.Lists.{concatMap}
 use Rattle.circuit.specs.Gadgets.{Part, r, R, B, m, M, u, U, v, V′, w, W, c, s, S, same, labels, above, others, sorted, inAND, inREF, index}
-use Rattle.circuit.proofs.Base.{cases, not-true, eqb-sym, ltb-ne, ltb-other, In, in-head, in-tail, in-range, range-in, in-keep, keep-in, Has, has-left, has-right, has-each, has-map, Every, every-append, every-map, every-each, AllFrom, all-imp}
+use Rattle.circuit.proofs.Base.{cases, not-true, eqb-sym, ltb-ne, ltb-other, In, in-head, in-tail, in-range, range-in, in-keep, filter-in, Has, has-left, has-right, has-each, has-map, Every, every-append, every-map, every-each, AllFrom, all-imp}
 
 -- the wire at the index of a part is that part's
 pub index-at : (Q : ℕ → Part → Type 0) (n : ℕ) (ps : List Part) (p : Part) → Has p ps → AllFrom Q n ps → Q (n + index p ps) p
@@ -63,9 +63,9 @@ module _ (Q : List Part → Part → Type 0) where
       split more f g q (inl e) = f q (inl e)
       split more f g q (inr z) = g q z
 
-  pub before-each : (pre : List Part) (is : List ℕ) (f : ℕ → List Part) → ((i : ℕ) → In i is → (more : List Part) → More pre more → Before more (f i)) → Before pre (each is f)
+  pub before-each : (pre : List Part) (is : List ℕ) (f : ℕ → List Part) → ((i : ℕ) → In i is → (more : List Part) → More pre more → Before more (f i)) → Before pre (concatMap is f)
   before-each pre [] f g = tt
-  before-each pre (i ∷ is) f g = before-append pre (f i) (each is f) (g i (in-head i is) pre (λ q z. z))
+  before-each pre (i ∷ is) f g = before-append pre (f i) (concatMap is f) (g i (in-head i is) pre (λ q z. z))
       (λ more h k. before-each more is f (λ j z mine l. g j (in-tail j i is z) mine (λ q y. l q (h q y))))
 
 -- where the parts of a list have their wires, those before a part have lower ones
@@ -100,11 +100,11 @@ pub in-labels : (d i : ℕ) → i < d → In i (labels d)
 in-labels d i h = in-range i 0 d (omega arith) (omega arith)
 
 pub above-pair : (d i j : ℕ) → In i (labels d) → In j (above d i) → Pair d i j × (ltb i j ≡ true)
-above-pair d i j h k = let (a, b) = keep-in (ltb i) (labels d) j k in
+above-pair d i j h k = let (a, b) = filter-in (ltb i) (labels d) j k in
     (record { fst = label-lt d i h; snd = label-lt d j a; apart = ltb-ne i j b }, b)
 
 pub others-pair : (d i j : ℕ) → i < d → In j (others d i) → Pair d i j
-others-pair d i j h k = let (a, b) = keep-in (λ j. not (eqb i j)) (labels d) j k in
+others-pair d i j h k = let (a, b) = filter-in (λ j. not (eqb i j)) (labels d) j k in
     record { fst = h; snd = label-lt d j a; apart = not-true (eqb i j) b }
 
 in-above : (d i j : ℕ) → j < d → ltb i j ≡ true → In j (above d i)
@@ -137,33 +137,33 @@ abbrev pub cell3 : ℕ → ℕ → List Part
 cell3 i j = u i j ∷ U i j ∷ v i j ∷ V′ i j ∷ w i j ∷ W i j ∷ []
 
 abbrev pub sec1 : ℕ → List Part
-sec1 d = each (labels d) (λ i. each (above d i) (cell1 i))
+sec1 d = concatMap (labels d) (λ i. concatMap (above d i) (cell1 i))
 
 abbrev pub sec2 : ℕ → List Part
-sec2 d = each (labels d) cell2
+sec2 d = concatMap (labels d) cell2
 
 abbrev pub sec3 : ℕ → List Part
-sec3 d = each (labels d) (λ i. each (others d i) (cell3 i))
+sec3 d = concatMap (labels d) (λ i. concatMap (others d i) (cell3 i))
 
 pub and-parts : (d : ℕ) → Every (InAND d) (inAND d)
 unfolding inAND
 and-parts d = every-append (InAND d) (sec1 d ++ sec2 d) (sec3 d)
     (every-append (InAND d) (sec1 d) (sec2 d)
-    (every-each (InAND d) (labels d) (λ i. each (above d i) (cell1 i)) (λ i h. every-each (InAND d) (above d i) (cell1 i) (λ j k.
+    (every-each (InAND d) (labels d) (λ i. concatMap (above d i) (cell1 i)) (λ i h. every-each (InAND d) (above d i) (cell1 i) (λ j k.
     let (o, l) = above-pair d i j h k in (is-r i j o l, (is-R i j o l, tt)))))
     (every-each (InAND d) (labels d) cell2 (λ i h. let l = label-lt d i h in (is-B i l, (is-m i l, (is-M i l, tt))))))
-    (every-each (InAND d) (labels d) (λ i. each (others d i) (cell3 i)) (λ i h. every-each (InAND d) (others d i) (cell3 i) (λ j k.
+    (every-each (InAND d) (labels d) (λ i. concatMap (others d i) (cell3 i)) (λ i h. every-each (InAND d) (others d i) (cell3 i) (λ j k.
     let o = others-pair d i j (label-lt d i h) k in (is-u i j o, (is-U i j o, (is-v i j o, (is-V i j o, (is-w i j o, (is-W i j o, tt)))))))))
 
 module _ (d : ℕ) where
   pub has1 : (p : Part) (i j : ℕ) → Pair d i j → ltb i j ≡ true → Has p (cell1 i j) → Has p (sec1 d)
-  has1 p i j o l h = has-each p (labels d) (λ i. each (above d i) (cell1 i)) i (in-labels d i (o .fst)) (has-each p (above d i) (cell1 i) j (in-above d i j (o .snd) l) h)
+  has1 p i j o l h = has-each p (labels d) (λ i. concatMap (above d i) (cell1 i)) i (in-labels d i (o .fst)) (has-each p (above d i) (cell1 i) j (in-above d i j (o .snd) l) h)
 
   pub has2 : (p : Part) (i : ℕ) → i < d → Has p (cell2 i) → Has p (sec2 d)
   has2 p i l h = has-each p (labels d) cell2 i (in-labels d i l) h
 
   pub has3 : (p : Part) (i j : ℕ) → Pair d i j → Has p (cell3 i j) → Has p (sec3 d)
-  has3 p i j o h = has-each p (labels d) (λ i. each (others d i) (cell3 i)) i (in-labels d i (o .fst)) (has-each p (others d i) (cell3 i) j (in-others d i j o) h)
+  has3 p i j o h = has-each p (labels d) (λ i. concatMap (others d i) (cell3 i)) i (in-labels d i (o .fst)) (has-each p (others d i) (cell3 i) j (in-others d i j o) h)
 
   left : (p : Part) → Has p (sec1 d) → Has p (inAND d)
   unfolding inAND
@@ -196,17 +196,17 @@ pub data InREF (d : ℕ) : Part → Type 0 where
   added : (i : ℕ) → i < d → InREF d (s i)
 
 abbrev pub fresh1 : ℕ → List Part
-fresh1 d = each (labels d) (λ i. each (above d i) (λ j. r i j ∷ []))
+fresh1 d = concatMap (labels d) (λ i. concatMap (above d i) (λ j. r i j ∷ []))
 
 pub ref-parts : (d : ℕ) → Every (InREF d) (inREF d)
 unfolding inREF
 ref-parts d = every-append (InREF d) (fresh1 d) (map s (labels d))
-    (every-each (InREF d) (labels d) (λ i. each (above d i) (λ j. r i j ∷ [])) (λ i h. every-each (InREF d) (above d i) (λ j. r i j ∷ []) (λ j k.
+    (every-each (InREF d) (labels d) (λ i. concatMap (above d i) (λ j. r i j ∷ [])) (λ i h. every-each (InREF d) (above d i) (λ j. r i j ∷ []) (λ j k.
     let (o, l) = above-pair d i j h k in (fresh i j o l, tt))))
     (every-map (InREF d) s (labels d) (λ i h. added i (label-lt d i h)))
 
 pub fresh-has : (d i j : ℕ) → Pair d i j → ltb i j ≡ true → Has (r i j) (fresh1 d)
-fresh-has d i j o l = has-each (r i j) (labels d) (λ i. each (above d i) (λ j. r i j ∷ [])) i (in-labels d i (o .fst)) (has-each (r i j) (above d i) (λ j. r i j ∷ []) j (in-above d i j (o .snd) l) (inl refl))
+fresh-has d i j o l = has-each (r i j) (labels d) (λ i. concatMap (above d i) (λ j. r i j ∷ [])) i (in-labels d i (o .fst)) (has-each (r i j) (above d i) (λ j. r i j ∷ []) j (in-above d i j (o .snd) l) (inl refl))
 
 pub ref-has : (d : ℕ) {p : Part} → InREF d p → Has p (inREF d)
 unfolding inREF

@@ -2,7 +2,7 @@
 use mathlib.Core.List.{List, [], _∷_}
 use Prim.Native.Nat.{ℕ}
 use Rattle.circuit.specs.Limits.{innerNote}
-use Rattle.circuit.specs.Lists.{each, over}
+use Rattle.circuit.specs.Lists.{concatMap, overwrite}
 use Rattle.circuit.specs.Wires.{Place, named, inner, Wire}
 use Rattle.circuit.specs.Circuit.{Circuit, size}
 use Rattle.circuit.specs.Rules.{Judgement, pass, refuse, Checked, checked}
@@ -28,4 +28,4 @@ note (inner stage) = innerNote ∷ innerNote ∷ []
 
 -- the notes after a check: the words of the wires made, the rest untouched
 unfoldable pub notesAfter : Circuit → List ℕ → List ℕ
-notesAfter k notes = over (each (k .wires) (λ wire. note (wire .place))) notes
+notesAfter k notes = overwrite (concatMap (k .wires) (λ wire. note (wire .place))) notes

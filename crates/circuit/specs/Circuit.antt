@@ -96,7 +96,7 @@ module _ (k : Circuit) (ops : List ℕ) where
   extend kind = record {
     d = k .d;
     wires = k .wires ++ made kind;
-    inputs = k .inputs + shape (k .d) kind .brings;
-    randoms = k .randoms + shape (k .d) kind .uses;
+    inputs = k .inputs + shape (k .d) kind .inputs;
+    randoms = k .randoms + shape (k .d) kind .randoms;
     latency = latencyAfter kind;
   }

@@ -1,4 +1,4 @@
--- Document 01's composition rules said a second way: a predicate on a list of frames, with no walk over words. `Exact` proves
+-- Document 01's composition rules answerOf a second way: a predicate on a list of frames, with no walk over words. `Exact` proves
 -- that the checker accepts exactly these.
 use mathlib.Core.Path.{_≡_}
 use mathlib.Core.List.{List, [], _∷_, _++_}
@@ -39,7 +39,7 @@ pub data Fits (k : Circuit) : Kind → List ℕ → Type 0 where
 -- frames that fit one after the other and make no more wires than the limit
 pub data AllFit : Circuit → List Frame → Type 0 where
   done : {k : Circuit} → AllFit k []
-  next : {k : Circuit} {f : Frame} {fs : List Frame} → Fits k (f .kind) (f .ops) → size k + shape (k .d) (f .kind) .makes ≤ wireLimit
+  next : {k : Circuit} {f : Frame} {fs : List Frame} → Fits k (f .kind) (f .ops) → size k + shape (k .d) (f .kind) .wires ≤ wireLimit
       → AllFit (extend k (f .ops) (f .kind)) fs → AllFit k (f ∷ fs)
 
 -- the circuit of frames

@@ -4,18 +4,18 @@ use mathlib.Core.List.{List, [], _∷_, _++_, map}
 use Prim.Native.Nat.{ℕ, zero, suc, _+_}
 use native.Mathlib.Decide.{ℕ-discrete}
 use lib.Dec.{ltb, eqb}
-use Rattle.circuit.specs.Lists.{range, keep, each}
-use Rattle.circuit.specs.Wires.{Gate, random, reg, sum, product, gated, Place, named, inner, Wire, _placed_}
+use Rattle.circuit.specs.Lists.{range, filter, concatMap}
+use Rattle.circuit.specs.Wires.{Gate, random, reg, sum, product, andNot, Place, named, inner, Wire, _placed_}
 
 -- the labels 0 to d−1; those above i; those other than i
 abbrev pub labels : ℕ → List ℕ
 labels d = range 0 d
 
 abbrev pub above : ℕ → ℕ → List ℕ
-above d i = keep (ltb i) (labels d)
+above d i = filter (ltb i) (labels d)
 
 abbrev pub others : ℕ → ℕ → List ℕ
-others d i = keep (λ j. not (eqb i j)) (labels d)
+others d i = filter (λ j. not (eqb i j)) (labels d)
 
 -- the wires of AND and REF by document 01's names; capital letters are registers
 pub data Part : Type 0 where
@@ -39,7 +39,7 @@ module _ (d : ℕ) (a b : ℕ → ℕ) (wire : Part → ℕ) where
   gate (B i) = reg (b i)
   gate (m i) = product (a i) (wire (B i))
   gate (M i) = reg (wire (m i))
-  gate (u i j) = gated (a i) (wire (sorted R i j))
+  gate (u i j) = andNot (a i) (wire (sorted R i j))
   gate (U i j) = reg (wire (u i j))
   gate (v i j) = sum (b j ∷ wire (sorted r i j) ∷ [])
   gate (V′ i j) = reg (wire (v i j))
@@ -69,12 +69,12 @@ delay (S i) = 1
 
 -- the inner parts of AND and of REF, in the order made; the outputs come after them
 unfoldable pub inAND : ℕ → List Part
-inAND d = each (labels d) (λ i. each (above d i) (λ j. r i j ∷ R i j ∷ []))
-    ++ each (labels d) (λ i. B i ∷ m i ∷ M i ∷ [])
-    ++ each (labels d) (λ i. each (others d i) (λ j. u i j ∷ U i j ∷ v i j ∷ V′ i j ∷ w i j ∷ W i j ∷ []))
+inAND d = concatMap (labels d) (λ i. concatMap (above d i) (λ j. r i j ∷ R i j ∷ []))
+    ++ concatMap (labels d) (λ i. B i ∷ m i ∷ M i ∷ [])
+    ++ concatMap (labels d) (λ i. concatMap (others d i) (λ j. u i j ∷ U i j ∷ v i j ∷ V′ i j ∷ w i j ∷ W i j ∷ []))
 
 unfoldable pub inREF : ℕ → List Part
-inREF d = each (labels d) (λ i. each (above d i) (λ j. r i j ∷ [])) ++ map s (labels d)
+inREF d = concatMap (labels d) (λ i. concatMap (above d i) (λ j. r i j ∷ [])) ++ map s (labels d)
 
 -- where a part first stands on a list
 unfoldable pub index : Part → List Part → ℕ

@@ -13,7 +13,7 @@ kindOf word = getD (HEAD ∷ IN ∷ CON ∷ XOR ∷ NOT ∷ REG ∷ AND ∷ REF 
 
 -- what a word after the kind has to be. Places on the frame count from 0, the first word after the kind
 pub data WordRule : Type 0 where
-  order : WordRule  -- d
+  shareCount : WordRule  -- d
   label value stage : WordRule
   random : WordRule  -- the number of random bits used so far
   like : (place : ℕ) → WordRule  -- a wire with the label and the stage of the wire at that place
@@ -31,17 +31,17 @@ pairs d = d * (d - 1) / 2
 -- what a kind decides
 pub record Shape : Type 0 where
   pub rules : List WordRule  -- a rule for each word after the kind
-  pub makes : ℕ  -- how many wires
-  pub uses : ℕ  -- how many random bits
-  pub brings : ℕ  -- how many secret bits
+  pub wires : ℕ  -- how many wires
+  pub randoms : ℕ  -- how many random bits
+  pub inputs : ℕ  -- how many secret bits
 
-abbrev pub frame : List WordRule → (makes uses brings : ℕ) → Shape
-frame rules makes uses brings = record { rules = rules; makes = makes; uses = uses; brings = brings }
+abbrev pub frame : List WordRule → (wires randoms inputs : ℕ) → Shape
+frame rules wires randoms inputs = record { rules = rules; wires = wires; randoms = randoms; inputs = inputs }
 
 -- words after the kind, wires made, random bits, secret bits. (The first wire of XOR, NOT and REG is only like itself, and so
 -- is the first of a row a.)
 unfoldable pub shape : ℕ → Kind → Shape
-shape d HEAD = frame (order ∷ []) 0 0 0
+shape d HEAD = frame (shareCount ∷ []) 0 0 0
 shape d IN = frame (stage ∷ []) d 0 1
 shape d CON = frame (label ∷ value ∷ stage ∷ []) 1 0 0
 shape d XOR = frame (like 0 ∷ like 0 ∷ []) 1 0 0

@@ -17,14 +17,14 @@ range n zero = []
 range n (suc k) = n ∷ range (suc n) k
 
 -- the numbers that pass a test
-abbrev pub keep : (ℕ → Bool) → List ℕ → List ℕ
-keep p [] = []
-keep p (x ∷ xs) = cond (p x) (x ∷ keep p xs) (keep p xs)
+abbrev pub filter : (ℕ → Bool) → List ℕ → List ℕ
+filter p [] = []
+filter p (x ∷ xs) = cond (p x) (x ∷ filter p xs) (filter p xs)
 
 -- a list for each element, one after the other
-abbrev pub each : {A B : Type 0} → List A → (A → List B) → List B
-each [] f = []
-each (x ∷ xs) f = f x ++ each xs f
+abbrev pub concatMap : {A B : Type 0} → List A → (A → List B) → List B
+concatMap [] f = []
+concatMap (x ∷ xs) f = f x ++ concatMap xs f
 
 -- whether a number stands on a list
 abbrev pub mem : ℕ → List ℕ → Bool
@@ -36,5 +36,5 @@ abbrev pub nth : List ℕ → ℕ → ℕ
 nth xs i = getD xs i 0
 
 -- a buffer that held `old`, once `new` is written from its start: the rest is untouched
-abbrev pub over : List ℕ → List ℕ → List ℕ
-over new old = new ++ drop (length new) old
+abbrev pub overwrite : List ℕ → List ℕ → List ℕ
+overwrite new old = new ++ drop (length new) old

@@ -7,7 +7,7 @@ use lib.ListN.{length, take, drop}
 use Rattle.circuit.specs.Limits.{tableLimit, wireLimit, notesRoom, stageLimit, fewestShares, mostShares}
 use Rattle.circuit.specs.Lists.{nth}
 use Rattle.circuit.specs.Wires.{Place, named, inner}
-use Rattle.circuit.specs.Kinds.{Kind, kindOf, WordRule, order, label, value, stage, random, like, share, before, shape, words}
+use Rattle.circuit.specs.Kinds.{Kind, kindOf, WordRule, shareCount, label, value, stage, random, like, share, before, shape, words}
 use Rattle.circuit.specs.Circuit.{Circuit, size, empty, place, labelOf, stageShown, newStage, extend}
 
 -- nothing is broken; or the number of the first rule broken, the frame and the word
@@ -47,7 +47,7 @@ module _ (k : Circuit) (f : ℕ) (ops : List ℕ) where
 
   -- a word by its rule
   abbrev pub wordRule : WordRule → (w x : ℕ) → Judgement
-  wordRule order w x = need (leb fewestShares x && leb x mostShares) 4 f w
+  wordRule shareCount w x = need (leb fewestShares x && leb x mostShares) 4 f w
   wordRule label w x = need (ltb x (k .d)) 7 f w
   wordRule value w x = need (leb x 1) 7 f w
   wordRule stage w x = need (leb x stageLimit) 7 f w
@@ -71,7 +71,7 @@ frameRule k f word rest =
     then need (leb (words (k .d) kind) (length rest)) 6 f 0
     then wordsRule k f ops 1 (shape (k .d) kind .rules) ops
     then need (leb (newStage k ops kind) stageLimit) 13 f 0
-    then need (leb (size k + shape (k .d) kind .makes) wireLimit) 14 f 0
+    then need (leb (size k + shape (k .d) kind .wires) wireLimit) 14 f 0
 
 -- the circuit of the frames before the first refusal, or of all; and the judgement
 pub record Checked : Type 0 where
@@ -97,7 +97,7 @@ unfoldable pub headRule : List ℕ → ℕ → Judgement
 headRule table room = need (leb (length table) tableLimit) 1 0 0
     then need (leb notesRoom room) 2 0 0
     then need (leb 2 (length table) && eqb (nth table 0) 0) 3 0 0
-    then wordRule (empty 0) 0 [] order 1 (nth table 1)
+    then wordRule (empty 0) 0 [] shareCount 1 (nth table 1)
 
 unfoldable pub checked : List ℕ → ℕ → Checked
 checked table room = onward (headRule table room) (empty 0) (frames (empty (nth table 1)) 1 0 (drop 2 table))

@@ -12,7 +12,7 @@ pub data Gate : Type 0 where
   inverse : ℕ → Gate
   sum : List ℕ → Gate  -- modulo 2
   product : ℕ → ℕ → Gate
-  gated : ℕ → ℕ → Gate  -- (not x)·y
+  andNot : ℕ → ℕ → Gate  -- (not x)·y
 
 -- where a wire stands. Document 01's terms: a label is a wire's share, 0 to d−1; a stage is its clock, 0 to 255. An inner
 -- wire has no label, and its stage is not shown in the notes

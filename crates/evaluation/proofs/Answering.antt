@@ -14,18 +14,18 @@ use Rattle.circuit.specs.Rules.{Judgement, pass, refuse, need, _then_, checked}
 use Rattle.circuit.specs.Answer.{accepted, refused, answer, verdictOf}
 use Rattle.checker.specs.declared.Verdict.{Verdict}
 use Rattle.checker.specs.declared.Verdict.the-variants as verdict
-use Rattle.checker.specs.Said.{said}
+use Rattle.checker.specs.Answers.{answerOf}
 use Rattle.circuit.proofs.Base.{cases, or-cases, In}
 use Rattle.circuit.proofs.Judging.{then-pass, need-then}
 use Rattle.circuit.proofs.Building.{build-shares}
 use Rattle.circuit.proofs.Exact.{Accepted, sound, accepted-size}
-use Rattle.netlist.specs.Calls.{written, bytesRule, probesRule, sheetsRule, circuitOf, callRule}
-use Rattle.evaluation.specs.Filling.{Bits}
-use Rattle.evaluation.specs.Evaluating.{Supplied}
-use Rattle.evaluation.specs.Refusing.{refusal, OverFirst, MissingFirst}
-use Rattle.evaluation.specs.Calling.{Shortest, Judged}
-use Rattle.evaluation.proofs.Framing.{inputs-few}
-use Rattle.evaluation.proofs.Evaluating.{second-word}
+use Rattle.semantics.specs.Calls.{written, bytesRule, probesRule, sheetsRule, circuitOf, callRule}
+use Rattle.simulation.specs.Internal.Filling.{Bits}
+use Rattle.simulation.specs.Internal.Evaluating.{Supplied}
+use Rattle.evaluation.specs.Internal.Refusing.{refusal, OverFirst, MissingFirst}
+use Rattle.evaluation.specs.Internal.Calling.{Shortest, Judged}
+use Rattle.simulation.proofs.Framing.{inputs-few}
+use Rattle.simulation.proofs.Evaluating.{second-word}
 
 -- answers and judgements
 clash : {w n l a b c : ℕ} → accepted w n l ≡ refused a b c → ⊥
@@ -141,10 +141,10 @@ module _ (table notes shares tape : List ℕ) (sheets : List (List ℕ)) (probes
         pub rule17 : room < wireLimit → rule ≡ refuse 17 0 0
         rule17 h = rest17 ∙ rw (lt-leb wireLimit room h)
 
-        module _ (seventeen : wireLimit ≤ room) (s : ℕ) (over : OverFirst shares s) where
+        module _ (seventeen : wireLimit ≤ room) (s : ℕ) (overShares : OverFirst shares s) where
           rest18 : rule ≡ (refusal 18 0 shares s then (bytesRule (0 + length shares) tape then probesRule k 0 probes))
           rest18 = rest17 ∙ rw (le-leb wireLimit room seventeen)
-              (ap (λ j. j then probesRule k 0 probes) (bytes-append 0 shares tape ∙ ap (λ j. j then bytesRule (0 + length shares) tape) (over .is 0))
+              (ap (λ j. j then probesRule k 0 probes) (bytes-append 0 shares tape ∙ ap (λ j. j then bytesRule (0 + length shares) tape) (overShares .is 0))
               ∙ then-assoc (refusal 18 0 shares s) (bytesRule (0 + length shares) tape) (probesRule k 0 probes))
 
           pub rule18-shares : s < length shares → rule ≡ refuse 18 0 s
@@ -217,9 +217,9 @@ pub record Passed (table notes shares tape : List ℕ) (sheets : List (List ℕ)
 module _ {table notes shares tape probes new : List ℕ} {room : ℕ} {r : Verdict} (j : Judged table notes shares tape probes room new r) (sheets : List (List ℕ)) (shortest : Shortest room sheets) where
   pub passed : {w n l i : ℕ} → r ≡ verdict.Accepted w n l i → Passed table notes shares tape sheets probes w
   passed e =
-      let (p, wires, _) = answer-pass (circuitOf table notes) (callRule table notes shares tape sheets probes) (sym (ap said e) ∙ j .answers sheets shortest) in
+      let (p, wires, _) = answer-pass (circuitOf table notes) (callRule table notes shares tape sheets probes) (sym (ap answerOf e) ∙ j .answers sheets shortest) in
       let q = parts table notes shares tape sheets probes p in
       record { passes = p; shows = q; wires-are = wires; few = accepted-size (q .accepted) }
 
   pub left : {a b c : ℕ} → r ≡ verdict.Refused a b c → (bytes sheet : List ℕ) → sheet ≡ written (callRule table notes shares tape sheets probes) bytes sheet
-  left e bytes sheet = untouched (circuitOf table notes) (callRule table notes shares tape sheets probes) bytes sheet (sym (ap said e) ∙ j .answers sheets shortest)
+  left e bytes sheet = untouched (circuitOf table notes) (callRule table notes shares tape sheets probes) bytes sheet (sym (ap answerOf e) ∙ j .answers sheets shortest)

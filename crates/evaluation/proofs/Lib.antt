@@ -1,33 +1,3 @@
--- What is proved of the definitions, and of the code.
-pub mod Ranges
-pub mod Bounds
-pub mod Bits
-pub mod Adding
--- Where the wires of the gadgets stand
-pub mod Sites
-pub mod Placed
--- The walk over an accepted table
-pub mod Walking
--- The values of a circuit
-pub mod Solving
--- Sheets filled in
-pub mod Filled
-pub mod Crossing
-pub mod Owning
-pub mod Rows
-pub mod Equations
-pub mod Framing
-pub mod Outputs
-pub mod Gadgets
-pub mod Evaluating
--- Marks
-pub mod Marked
-pub mod Reaching
-pub mod Moved
-pub mod Marking
-pub mod Highest
-pub mod Settling
--- The calls
+-- What is proved of the calls' judgement, rule by rule.
 pub mod Refusals
 pub mod Answering
-pub mod Showing

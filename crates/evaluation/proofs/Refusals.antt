@@ -9,9 +9,9 @@ use borrow.Author.Tests.{lt-ltb, le-ltb, le-leb, lt-leb}
 use Rattle.circuit.specs.Lists.{nth}
 use Rattle.circuit.specs.Circuit.{Circuit, size}
 use Rattle.circuit.specs.Rules.{Judgement, pass, refuse}
-use Rattle.netlist.specs.Calls.{bytesRule, probesRule}
-use Rattle.evaluation.specs.Refusing.{refusal, OverFirst}
-use Rattle.evaluation.proofs.Marking.{drop-turn}
+use Rattle.semantics.specs.Calls.{bytesRule, probesRule}
+use Rattle.evaluation.specs.Internal.Refusing.{refusal, OverFirst}
+use Rattle.simulation.proofs.Marking.{drop-turn}
 
 -- a rule of lists that goes on behind a place
 abbrev pub Passed : (ℕ → List ℕ → Judgement) → List ℕ → ℕ → Type 0
@@ -56,5 +56,5 @@ unfolding bytesRule
 all-pass [] i h = refl
 all-pass (b ∷ bs) i h = rw (le-leb b 1 (h 0 (omega arith))) (all-pass bs (suc i) (λ x l. h (suc x) (omega arith)))
 
-pub over-none : (bytes : List ℕ) → ((x : ℕ) → x < length bytes → nth bytes x ≤ 1) → OverFirst bytes (length bytes)
-over-none bytes h = record { is = λ i. all-pass bytes i h ∙ sym (ap (λ b. cond b (refuse 18 0 (i + length bytes)) pass) (le-ltb (length bytes) (length bytes) (omega arith))) }
+pub overwrite-none : (bytes : List ℕ) → ((x : ℕ) → x < length bytes → nth bytes x ≤ 1) → OverFirst bytes (length bytes)
+overwrite-none bytes h = record { is = λ i. all-pass bytes i h ∙ sym (ap (λ b. cond b (refuse 18 0 (i + length bytes)) pass) (le-ltb (length bytes) (length bytes) (omega arith))) }

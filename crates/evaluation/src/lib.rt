@@ -4,25 +4,21 @@ ghost use mathlib.Core.List.{[], _∷_};
 ghost use Prim.Native.Nat.{_≤_, min};
 ghost use lib.ListN.{length};
 ghost use Rattle.circuit.specs.Answer.{refused as refusedAnswer};
-ghost use Rattle.checker.specs.Said.{said};
-ghost use Rattle.netlist.specs.Calls.{Accepts, circuitOf, written, callRule, callAnswer, callNotes, valueBytes, readingBytes};
-ghost use Rattle.netlist.specs.Values.{bits, valuesOf};
-ghost use Rattle.netlist.specs.Counts.{EqualCounts};
+ghost use Rattle.checker.specs.Answers.{answerOf};
+ghost use Rattle.semantics.specs.Calls.{Accepts, circuitOf, written, callRule, callAnswer, callNotes, valueBytes, readingBytes};
+ghost use Rattle.semantics.specs.Values.{bits, valuesOf};
+ghost use Rattle.semantics.specs.Counts.{EqualCounts};
 ghost use Rattle.secrecy.specs.Gadgets.{Computes};
-ghost use Rattle.evaluation.specs.Calling.{Judged};
+ghost use Rattle.evaluation.specs.Internal.Calling.{Judged};
 use checker::Verdict;
+use simulation::readings;
+use simulation::values;
 
-mod bytes;
-mod gadget;
-mod places;
-mod reach;
-mod readings;
 mod rules;
-mod values;
 
 // A refusal of the call, at a word.
 fn refusal(rule: usize, word: usize) -> Verdict
-    ensures { λ r. ⌜ said r ≡ refusedAnswer rule 0 word ⌝ }
+    ensures { λ r. ⌜ answerOf r ≡ refusedAnswer rule 0 word ⌝ }
 {
     Verdict::Refused {
         rule: rule,
@@ -84,7 +80,7 @@ pub fn evaluate(
     tape: &[u8],
     values: &mut [u8],
 ) -> Verdict
-    ensures answered { λ r. ⌜ said r ≡ callAnswer (now (table .entry)) (now (notes .entry)) (now (shares .entry)) (now (tape .entry)) (now (values .entry) ∷ []) [] ⌝ }
+    ensures answered { λ r. ⌜ answerOf r ≡ callAnswer (now (table .entry)) (now (notes .entry)) (now (shares .entry)) (now (tape .entry)) (now (values .entry) ∷ []) [] ⌝ }
     ensures noted { λ _. ⌜ now (notes .exit) ≡ callNotes (now (table .entry)) (now (notes .entry)) (now (shares .entry)) (now (tape .entry)) ⌝ }
     ensures valued { λ _. ⌜ now (values .exit) ≡ written (callRule (now (table .entry)) (now (notes .entry)) (now (shares .entry)) (now (tape .entry)) (now (values .entry) ∷ []) [])
         (valueBytes (now (table .entry)) (now (notes .entry)) (now (shares .entry)) (now (tape .entry))) (now (values .entry)) ⌝ }
@@ -124,7 +120,7 @@ pub fn read_probes(
     probes: &[u16],
     reading: &mut [u8],
 ) -> Verdict
-    ensures answered { λ r. ⌜ said r ≡ callAnswer (now (table .entry)) (now (notes .entry)) (now (shares .entry)) (now (tape .entry)) (now (values .entry) ∷ now (reading .entry) ∷ []) (now (probes .entry)) ⌝ }
+    ensures answered { λ r. ⌜ answerOf r ≡ callAnswer (now (table .entry)) (now (notes .entry)) (now (shares .entry)) (now (tape .entry)) (now (values .entry) ∷ now (reading .entry) ∷ []) (now (probes .entry)) ⌝ }
     ensures noted { λ _. ⌜ now (notes .exit) ≡ callNotes (now (table .entry)) (now (notes .entry)) (now (shares .entry)) (now (tape .entry)) ⌝ }
     ensures valued { λ _. ⌜ now (values .exit) ≡ written (callRule (now (table .entry)) (now (notes .entry)) (now (shares .entry)) (now (tape .entry)) (now (values .entry) ∷ now (reading .entry) ∷ []) (now (probes .entry)))
         (valueBytes (now (table .entry)) (now (notes .entry)) (now (shares .entry)) (now (tape .entry))) (now (values .entry)) ⌝ }

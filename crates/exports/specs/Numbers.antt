@@ -21,7 +21,7 @@ abbrev pub third : Answer → ℕ
 third (accepted wires randoms latency) = latency
 third (refused rule frame word) = 0
 
-pub record Told (answer : Answer) (r a b c : ℕ) : Type 0 where
+pub record AnswerIs (answer : Answer) (r a b c : ℕ) : Type 0 where
   pub result-is : r ≡ result answer
   pub first-is : a ≡ first answer
   pub second-is : b ≡ second answer
@@ -40,7 +40,7 @@ abbrev pub textSecond : TextAnswer → ℕ
 textSecond (read count) = 0
 textSecond (unread rule line word) = word
 
-pub record TextTold (answer : TextAnswer) (r a b : ℕ) : Type 0 where
+pub record TextAnswerIs (answer : TextAnswer) (r a b : ℕ) : Type 0 where
   pub result-is : r ≡ textResult answer
   pub first-is : a ≡ textFirst answer
   pub second-is : b ≡ textSecond answer

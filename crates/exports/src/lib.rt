@@ -6,17 +6,17 @@ ghost use mathlib.Core.List.{[], _∷_};
 ghost use lib.ListN.{length};
 ghost use Rattle.circuit.specs.Rules.{checked};
 ghost use Rattle.circuit.specs.Answer.{verdictOf, notesAfter};
-ghost use Rattle.netlist.specs.Calls.{written, callRule, callAnswer, callNotes, valueBytes, readingBytes};
+ghost use Rattle.semantics.specs.Calls.{written, callRule, callAnswer, callNotes, valueBytes, readingBytes};
 ghost use Rattle.text.specs.Reader.{readText};
 ghost use Rattle.text.specs.Answer.{textAnswerOf, tableAfter};
-ghost use Rattle.checker.specs.Said.{said};
-ghost use Rattle.exports.specs.Numbers.{Told, TextTold};
+ghost use Rattle.checker.specs.Answers.{answerOf};
+ghost use Rattle.exports.specs.Numbers.{AnswerIs, TextAnswerIs};
 use checker::Verdict;
 use text::TextVerdict;
 
 // Puts a verdict's numbers where the caller wants them, and answers its result.
 fn put(verdict: Verdict, a: &mut u64, b: &mut u64, c: &mut u64) -> u64
-    ensures answered { λ r. ⌜ Told (said verdict) r (now (a .exit)) (now (b .exit)) (now (c .exit)) ⌝ }
+    ensures answered { λ r. ⌜ AnswerIs (answerOf verdict) r (now (a .exit)) (now (b .exit)) (now (c .exit)) ⌝ }
 {
     match verdict {
         Verdict::Accepted {
@@ -48,7 +48,7 @@ pub extern "C" fn masked_check(
     b: &mut u64,
     c: &mut u64,
 ) -> u64
-    ensures answered { λ r. ⌜ Told (verdictOf (now (table .entry)) (length (now (notes .entry)))) r (now (a .exit)) (now (b .exit)) (now (c .exit)) ⌝ }
+    ensures answered { λ r. ⌜ AnswerIs (verdictOf (now (table .entry)) (length (now (notes .entry)))) r (now (a .exit)) (now (b .exit)) (now (c .exit)) ⌝ }
     ensures noted { λ _. ⌜ now (notes .exit) ≡ notesAfter (checked (now (table .entry)) (length (now (notes .entry))) .circuit) (now (notes .entry)) ⌝ }
 {
     let verdict = checker::check(table, notes);
@@ -58,7 +58,7 @@ pub extern "C" fn masked_check(
 // text::read
 #[no_mangle]
 pub extern "C" fn masked_read_text(text: &[u8], table: &mut [u16], a: &mut u64, b: &mut u64) -> u64
-    ensures answered { λ r. ⌜ TextTold (textAnswerOf (now (text .entry)) (length (now (table .entry)))) r (now (a .exit)) (now (b .exit)) ⌝ }
+    ensures answered { λ r. ⌜ TextAnswerIs (textAnswerOf (now (text .entry)) (length (now (table .entry)))) r (now (a .exit)) (now (b .exit)) ⌝ }
     ensures stored { λ _. ⌜ now (table .exit) ≡ tableAfter (readText (now (text .entry)) (length (now (table .entry)))) (now (table .entry)) ⌝ }
 {
     let verdict = text::read(text, table);
@@ -88,7 +88,7 @@ pub extern "C" fn masked_evaluate(
     b: &mut u64,
     c: &mut u64,
 ) -> u64
-    ensures answered { λ r. ⌜ Told (callAnswer (now (table .entry)) (now (notes .entry)) (now (shares .entry)) (now (tape .entry)) (now (values .entry) ∷ []) []) r (now (a .exit)) (now (b .exit)) (now (c .exit)) ⌝ }
+    ensures answered { λ r. ⌜ AnswerIs (callAnswer (now (table .entry)) (now (notes .entry)) (now (shares .entry)) (now (tape .entry)) (now (values .entry) ∷ []) []) r (now (a .exit)) (now (b .exit)) (now (c .exit)) ⌝ }
     ensures noted { λ _. ⌜ now (notes .exit) ≡ callNotes (now (table .entry)) (now (notes .entry)) (now (shares .entry)) (now (tape .entry)) ⌝ }
     ensures valued { λ _. ⌜ now (values .exit) ≡ written (callRule (now (table .entry)) (now (notes .entry)) (now (shares .entry)) (now (tape .entry)) (now (values .entry) ∷ []) [])
         (valueBytes (now (table .entry)) (now (notes .entry)) (now (shares .entry)) (now (tape .entry))) (now (values .entry)) ⌝ }
@@ -111,7 +111,7 @@ pub extern "C" fn masked_read_probes(
     b: &mut u64,
     c: &mut u64,
 ) -> u64
-    ensures answered { λ r. ⌜ Told (callAnswer (now (table .entry)) (now (notes .entry)) (now (shares .entry)) (now (tape .entry)) (now (values .entry) ∷ now (reading .entry) ∷ []) (now (probes .entry))) r (now (a .exit)) (now (b .exit)) (now (c .exit)) ⌝ }
+    ensures answered { λ r. ⌜ AnswerIs (callAnswer (now (table .entry)) (now (notes .entry)) (now (shares .entry)) (now (tape .entry)) (now (values .entry) ∷ now (reading .entry) ∷ []) (now (probes .entry))) r (now (a .exit)) (now (b .exit)) (now (c .exit)) ⌝ }
     ensures noted { λ _. ⌜ now (notes .exit) ≡ callNotes (now (table .entry)) (now (notes .entry)) (now (shares .entry)) (now (tape .entry)) ⌝ }
     ensures valued { λ _. ⌜ now (values .exit) ≡ written (callRule (now (table .entry)) (now (notes .entry)) (now (shares .entry)) (now (tape .entry)) (now (values .entry) ∷ now (reading .entry) ∷ []) (now (probes .entry)))
         (valueBytes (now (table .entry)) (now (notes .entry)) (now (shares .entry)) (now (tape .entry))) (now (values .entry)) ⌝ }

@@ -6,7 +6,7 @@ use native.Mathlib.Numerals.{add-one}
 use native.Mathlib.Omega.{arith}
 use lib.ListN.{length, set, drop, getD, length-append}
 use lib.Seq.{sets, sets-eq, length-sets, drop-cons, drop-length}
-use Rattle.circuit.specs.Lists.{over}
+use Rattle.circuit.specs.Lists.{overwrite}
 
 -- two runs are one
 pub one-run : (l : List ℕ) (i : ℕ) (xs ys : List ℕ) → sets (sets l i xs) (i + length xs) ys ≡ sets l i (xs ++ ys)
@@ -26,7 +26,7 @@ pub run-done : (l : List ℕ) (at i : ℕ) (xs : List ℕ) → i ≡ length xs �
 run-done l at i xs e = ap (λ (r : List ℕ). sets l (at + i) r) (ap (λ (k : ℕ). drop k xs) e ∙ drop-length xs)
 
 -- a run from the start leaves the rest of the buffer
-pub from-start : (l xs : List ℕ) → length xs ≤ length l → sets l 0 xs ≡ over xs l
+pub from-start : (l xs : List ℕ) → length xs ≤ length l → sets l 0 xs ≡ overwrite xs l
 from-start l xs h =
     let e : 0 + length xs ≡ length xs = omega arith in
     sets-eq xs l 0 (omega arith) ∙ ap (λ (k : ℕ). xs ++ drop k l) e

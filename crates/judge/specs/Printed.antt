@@ -5,7 +5,7 @@ use mathlib.Core.List.{List, [], _∷_, _++_}
 use Prim.Native.Nat.{ℕ, zero, suc, _+_, _/_, _%_}
 use lib.Dec.{ltb}
 use lib.ListN.{length}
-use Rattle.circuit.specs.Lists.{over}
+use Rattle.circuit.specs.Lists.{overwrite}
 use Rattle.circuit.specs.Answer.{Answer, accepted, refused}
 
 -- the byte of a digit 0 to 9
@@ -61,4 +61,4 @@ lineOf (refused rule frames words) = line refusedRule rule frame frames word wor
 -- a buffer that held `old`, once some bytes are written at its start: the rest is untouched, and their number is given
 pub record Written (bytes old : List ℕ) (given : ℕ) (new : List ℕ) : Type 0 where
   pub size : given ≡ length bytes
-  pub buffer : new ≡ over bytes old
+  pub buffer : new ≡ overwrite bytes old

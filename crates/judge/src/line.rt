@@ -3,7 +3,7 @@ ghost use mathlib.Core.Path.{_≡_};
 ghost use Prim.Native.Nat.{_+_, _≤_};
 ghost use lib.ListN.{length};
 ghost use lib.Seq.{sets};
-ghost use Rattle.checker.specs.Said.{said};
+ghost use Rattle.checker.specs.Answers.{answerOf};
 ghost use Rattle.judge.specs.Printed.{decimal, field, line, lineOf, Written};
 use checker::Verdict;
 
@@ -60,7 +60,7 @@ fn put_line(a: &[u8], x: usize, b: &[u8], y: usize, c: &[u8], z: usize, out: &mu
 // Writes the line of a verdict at the start of the buffer, and gives its length. The longest line has 93 bytes.
 pub(crate) fn write(verdict: Verdict, out: &mut [u8]) -> usize
     requires { ⌜ 93 ≤ length (now out) ⌝ }
-    ensures { λ r. ⌜ Written (lineOf (said verdict)) (now (out .entry)) r (now (out .exit)) ⌝ }
+    ensures { λ r. ⌜ Written (lineOf (answerOf verdict)) (now (out .entry)) r (now (out .exit)) ⌝ }
 {
     match verdict {
         Verdict::Accepted {

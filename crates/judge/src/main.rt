@@ -1,7 +1,7 @@
 // Judges the circuit whose text stands on standard input, and prints one line.
 ghost use mathlib.Core.Path.{_≡_};
 ghost use lib.ListN.{length};
-ghost use Rattle.checker.specs.Said.{said};
+ghost use Rattle.checker.specs.Answers.{answerOf};
 ghost use Rattle.judge.specs.Judged.{judgedText};
 
 mod line;
@@ -13,7 +13,7 @@ use text::TextVerdict;
 
 // A text read into the table, and the words found checked. A refusal by the reader gives its line as the frame.
 fn judge(text: &[u8], table: &mut [u16], notes: &mut [u16]) -> Verdict
-    ensures { λ r. ⌜ said r ≡ judgedText (now (text .entry)) (length (now (table .entry))) (length (now (notes .entry))) ⌝ }
+    ensures { λ r. ⌜ answerOf r ≡ judgedText (now (text .entry)) (length (now (table .entry))) (length (now (notes .entry))) ⌝ }
 {
     let read = text::read(text, table);
     match read {

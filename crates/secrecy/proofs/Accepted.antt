@@ -10,24 +10,24 @@ use Rattle.circuit.specs.Circuit.{Circuit, empty}
 use Rattle.circuit.specs.Rules.{pass, checked}
 use Rattle.circuit.specs.Composition.{Frame, frame, AllFit, build}
 use Rattle.circuit.proofs.Exact.{sound}
-use Rattle.netlist.specs.Values.{valuesOf}
-use Rattle.netlist.specs.Counts.{EqualCounts}
+use Rattle.semantics.specs.Values.{valuesOf}
+use Rattle.semantics.specs.Counts.{EqualCounts}
 use Rattle.secrecy.specs.Deciding.{Deciding}
 use Rattle.secrecy.specs.Gadgets.{added, output, Computes}
-use Rattle.secrecy.proofs.Theorems.{theoremA, theoremB, theoremC, theoremC-REF}
+use Rattle.secrecy.proofs.Theorems.{share-indices-of, equal-counts-of, product-of, refresh-of}
 
 module _ (table : List ℕ) (room : ℕ) (accepted : checked table room .judgement ≡ pass) where
-  -- Theorem A
+  -- a few share indices decide
   pub share-indices : (probes start : List ℕ) → Deciding (checked table room .circuit) probes start
   share-indices probes start = let a = sound table room accepted in
-      subst (λ (k : Circuit). Deciding k probes start) (sym (a .circuit-is)) (theoremA (a .d) (a .fs) (a .fit) probes start)
+      subst (λ (k : Circuit). Deciding k probes start) (sym (a .circuit-is)) (share-indices-of (a .d) (a .fs) (a .fit) probes start)
 
-  -- Theorem B
+  -- demand 3
   pub equal-counts : (probes : List ℕ) → EqualCounts (checked table room .circuit) probes
   equal-counts probes = let a = sound table room accepted in
-      subst (λ (k : Circuit). EqualCounts k probes) (sym (a .circuit-is)) (theoremB (a .d) (a .fs) (a .fit) probes)
+      subst (λ (k : Circuit). EqualCounts k probes) (sym (a .circuit-is)) (equal-counts-of (a .d) (a .fs) (a .fit) probes)
 
-  -- Theorem C
+  -- products and refreshes
   pub gadgets-compute : (shares tape : List Bool) → Computes table (valuesOf (checked table room .circuit .wires) shares tape)
   gadgets-compute shares tape = let a = sound table room accepted in
       subst (λ (k : Circuit). Computes table (valuesOf (k .wires) shares tape)) (sym (a .circuit-is)) (record {
@@ -46,10 +46,10 @@ module _ (table : List ℕ) (room : ℕ) (accepted : checked table room .judgeme
           → added d (output d before (inAND d)) (valued d fs) ≡ (added d (λ i. nth ops (1 + i)) (valued d fs) && added d (λ i. nth ops (1 + d + i)) (valued d fs))
       products d fs fit before after ops e =
           subst (λ (gs : List Frame). added d (output d before (inAND d)) (valued d gs) ≡ (added d (λ i. nth ops (1 + i)) (valued d gs) && added d (λ i. nth ops (1 + d + i)) (valued d gs))) (sym e)
-          (theoremC d before ops after shares tape (subst (AllFit (empty d)) e fit))
+          (product-of d before ops after shares tape (subst (AllFit (empty d)) e fit))
 
       refreshes : (d : ℕ) (fs : List Frame) → AllFit (empty d) fs → (before after : List Frame) (ops : List ℕ) → fs ≡ before ++ (frame REF ops ∷ after)
           → added d (output d before (inREF d)) (valued d fs) ≡ added d (λ i. nth ops (1 + i)) (valued d fs)
       refreshes d fs fit before after ops e =
           subst (λ (gs : List Frame). added d (output d before (inREF d)) (valued d gs) ≡ added d (λ i. nth ops (1 + i)) (valued d gs)) (sym e)
-          (theoremC-REF d before ops after shares tape (subst (AllFit (empty d)) e fit))
+          (refresh-of d before ops after shares tape (subst (AllFit (empty d)) e fit))

@@ -7,7 +7,7 @@ use Prim.Native.Nat.{ℕ, _+_, _≤_, _<_}
 use native.Mathlib.Omega.{arith}
 use lib.ListN.{length}
 use lib.Dec.{ltb}
-use Rattle.circuit.specs.Lists.{_⊕_, each}
+use Rattle.circuit.specs.Lists.{_⊕_, concatMap}
 use Rattle.circuit.specs.Wires.{named, inner}
 use Rattle.circuit.specs.Gadgets.{Part, r, R, B, m, M, u, U, v, V′, w, W, c, labels, above, others, sorted, delay, inAND}
 use Rattle.circuit.proofs.Base.{no-flip, cases, ltb-other, In, Has, has-left, every-append, every-map, AllFrom}
@@ -17,7 +17,7 @@ use Rattle.secrecy.proofs.Taken.{seen-both}
 use Rattle.secrecy.proofs.Coupled.{Values, undecided, Shift, Agree, Early}
 use Rattle.secrecy.proofs.Same.{Two, Same, settle, carry}
 use Rattle.secrecy.proofs.Flips.{delta, delta-swap, delta-none, delta-half, delta-u, delta-w, delta-agree}
-use Rattle.secrecy.proofs.Sites.{Site, number, gateOf, entry, lift, Known, Good, entriesAt, out, ins, out-ins, touched, Told, PartFact, OutFact, look, good, early-at}
+use Rattle.secrecy.proofs.Sites.{Site, number, gateOf, entry, lift, Known, Good, entriesAt, out, ins, out-ins, touched, ProbedRole, PartFact, OutFact, look, good, early-at}
 
 -- an AND of d shares, from the wire `first` on
 module _ (isProbed : ℕ → Bool) (d first : ℕ) (a b : ℕ → ℕ) (start end : ℕ) (behind : List ℕ) where
@@ -37,7 +37,7 @@ module _ (isProbed : ℕ → Bool) (d first : ℕ) (a b : ℕ → ℕ) (start en
   swap i j f f′ = delta-swap (ins site) (out site) (touched site true) a b i j f f′
 
   -- a probed wire that is no w and no W: the bit is not flipped
-  quiet : (f f′ : Values) (i j : ℕ) → Told site (pair false i j) → flip i j f f′ ≡ false
+  quiet : (f f′ : Values) (i j : ℕ) → ProbedRole site (pair false i j) → flip i j f f′ ≡ false
   unfolding ins touched
   quiet f f′ i j t = delta-none (ins site) (out site) (touched site true) a b f f′ i j (t .one) (t .two) (seen-both isProbed i j (out site) first (map role (inAND d)) (t .hit))
 
@@ -95,16 +95,16 @@ module _ (isProbed : ℕ → Bool) (d first : ℕ) (a b : ℕ → ℕ) (start en
     M-same x i l h q = carry h refl refl (m-same (wire (m i)) i l (fact (is-m i l)) q, tt)
 
     -- u, U, v and V, probed
-    u-same : (x i j : ℕ) → Pair d i j → Seen x (u i j) → Told site (pair false i j) → Same T x
+    u-same : (x i j : ℕ) → Pair d i j → Seen x (u i j) → ProbedRole site (pair false i j) → Same T x
     u-same x i j o h t = carry h refl refl (sa i (o .fst) (t .one), (Rs i j o (quiet f f′ i j t), tt))
 
-    U-same : (x i j : ℕ) → Pair d i j → Seen x (U i j) → Told site (pair false i j) → Same T x
+    U-same : (x i j : ℕ) → Pair d i j → Seen x (U i j) → ProbedRole site (pair false i j) → Same T x
     U-same x i j o h t = carry h refl refl (u-same (wire (u i j)) i j o (fact (is-u i j o)) t, tt)
 
-    v-same : (x i j : ℕ) → Pair d i j → Seen x (v i j) → Told site (pair false j i) → Same T x
+    v-same : (x i j : ℕ) → Pair d i j → Seen x (v i j) → ProbedRole site (pair false j i) → Same T x
     v-same x i j o h t = carry h refl refl (sb j (o .snd) (t .one), (rs i j o (swap i j f f′ ∙ quiet f f′ j i t), tt))
 
-    V-same : (x i j : ℕ) → Pair d i j → Seen x (V′ i j) → Told site (pair false j i) → Same T x
+    V-same : (x i j : ℕ) → Pair d i j → Seen x (V′ i j) → ProbedRole site (pair false j i) → Same T x
     V-same x i j o h t = carry h refl refl (v-same (wire (v i j)) i j o (fact (is-v i j o)) t, tt)
 
     -- w and W, probed: V is restored
@@ -114,15 +114,15 @@ module _ (isProbed : ℕ → Bool) (d first : ℕ) (a b : ℕ → ℕ) (start en
     V-right : (x i j : ℕ) → Pair d i j → Seen x (V′ i j) → f′ x ≡ (f′ (b j) ⊕ (f (ρ i j) ⊕ D i j))
     V-right x i j o h = h .bits .right refl ∙ (fact (is-v i j o)) .bits .right refl ∙ ap (λ z. f′ (b j) ⊕ z) (no-flip (f′ (ρ i j)) ∙ ρ-flip i j o)
 
-    V-half : (x i j : ℕ) → Pair d i j → Seen x (V′ i j) → Told site (pair true i j) → Same T x
+    V-half : (x i j : ℕ) → Pair d i j → Seen x (V′ i j) → ProbedRole site (pair true i j) → Same T x
     V-half x i j o h t = settle h
         (V-left x i j o h ∙ delta-half (ins site) (out site) (touched site true) a b f f′ i j (f (ρ i j)) (λ q. (sb j (o .snd) q) .valued) (t .one) (t .two) (t .hit) ∙ sym (V-right x i j o h))
         (λ z. absurd (true≢false z))
 
-    w-same : (x i j : ℕ) → Pair d i j → Seen x (w i j) → Told site (pair true i j) → Same T x
+    w-same : (x i j : ℕ) → Pair d i j → Seen x (w i j) → ProbedRole site (pair true i j) → Same T x
     w-same x i j o h t = carry h refl refl (sa i (o .fst) (t .one), (V-half (wire (V′ i j)) i j o (fact (is-V i j o)) t, tt))
 
-    W-same : (x i j : ℕ) → Pair d i j → Seen x (W i j) → Told site (pair true i j) → Same T x
+    W-same : (x i j : ℕ) → Pair d i j → Seen x (W i j) → ProbedRole site (pair true i j) → Same T x
     W-same x i j o h t = carry h refl refl (w-same (wire (w i j)) i j o (fact (is-w i j o)) t, tt)
 
     -- the registers that a seen output adds up
@@ -159,7 +159,7 @@ module _ (isProbed : ℕ → Bool) (d first : ℕ) (a b : ℕ → ℕ) (start en
         )
 
     -- a probed inner wire, whichever it is
-    inner-same : (x : ℕ) (p : Part) → InAND d p → Seen x p → Told site (role p) → Same T x
+    inner-same : (x : ℕ) (p : Part) → InAND d p → Seen x p → ProbedRole site (role p) → Same T x
     inner-same x _ (is-r i j o l) h t = r-same x i j h (quiet f f′ i j t)
     inner-same x _ (is-R i j o l) h t = R-same x i j o l h (quiet f f′ i j t)
     inner-same x _ (is-B i l) h t = B-same x i l h t
@@ -192,7 +192,7 @@ module _ (isProbed : ℕ → Bool) (d first : ℕ) (a b : ℕ → ℕ) (start en
         delta-agree (ins site) (out site) (touched site true) a b i j f g f′ g′ (h (a i) (omega arith)) (h (a j) (omega arith)) (h (b i) (omega arith)) (h (b j) (omega arith)) (h′ (b i) (omega arith)) (h′ (b j) (omega arith))
 
     made1 : Before Q [] (sec1 d)
-    made1 = before-each Q [] (labels d) (λ i. each (above d i) (cell1 i)) (λ i h pre k. before-each Q pre (above d i) (cell1 i) (λ j h′ more k′.
+    made1 = before-each Q [] (labels d) (λ i. concatMap (above d i) (cell1 i)) (λ i h pre k. before-each Q pre (above d i) (cell1 i) (λ j h′ more k′.
         let (o, l) = above-pair d i j h h′ in (
           (λ x n g. record { low = tt; decided = pairs i j x n o }),
           ((λ x n g. record { low = (g (r i j) (inl refl), tt); decided = pairs i j x n o }), tt),
@@ -209,7 +209,7 @@ module _ (isProbed : ℕ → Bool) (d first : ℕ) (a b : ℕ → ℕ) (start en
         ))
 
     made3 : (pre : List Part) → More Q (sec1 d) pre → Before Q pre (sec3 d)
-    made3 pre up = before-each Q pre (labels d) (λ i. each (others d i) (cell3 i)) (λ i h more k. before-each Q more (others d i) (cell3 i) (λ j h′ most k′.
+    made3 pre up = before-each Q pre (labels d) (λ i. concatMap (others d i) (cell3 i)) (λ i h more k. before-each Q more (others d i) (cell3 i) (λ j h′ most k′.
         let o = others-pair d i j (label-lt d i h) h′ in
         let hr : Has (sorted r i j) most = k′ (sorted r i j) (k (sorted r i j) (up (sorted r i j) (sorted-at (λ i j p. Has p (sec1 d)) r d i j o (λ i j o l. has1 d (r i j) i j o l (inl refl)) (λ x z. z)))) in
         let hR : Has (sorted R i j) most = k′ (sorted R i j) (k (sorted R i j) (up (sorted R i j) (sorted-at (λ i j p. Has p (sec1 d)) R d i j o (λ i j o l. has1 d (R i j) i j o l (inr (inl refl))) (λ x z. z)))) in (

@@ -6,13 +6,13 @@ use Prim.Native.Nat.{ℕ, suc, _+_, _<_}
 use native.Mathlib.Omega.{arith}
 use lib.ListN.{length, length-append, List·getD-append}
 use lib.Seq.{getD-append-seam}
-use Rattle.circuit.specs.Lists.{_⊕_, each}
-use Rattle.circuit.specs.Wires.{Gate, input, constant, random, reg, inverse, sum, product, gated, Wire}
+use Rattle.circuit.specs.Lists.{_⊕_, concatMap}
+use Rattle.circuit.specs.Wires.{Gate, input, constant, random, reg, inverse, sum, product, andNot, Wire}
 use Rattle.circuit.proofs.Base.{Every, every-imp, AllFrom}
-use Rattle.netlist.specs.Values.{at, total, value, isRandom, valuesFrom}
-use Rattle.netlist.specs.Probes.{isStop, operands, reads, readBy, stopsFrom}
+use Rattle.semantics.specs.Values.{at, xorSum, value, isRandom, valuesFrom}
+use Rattle.semantics.specs.Probes.{isStop, operands, reads, readBy, stopsFrom}
 use Rattle.secrecy.proofs.Sums.{sumBits, sum-swap}
-use Rattle.netlist.proofs.Randoms.{randomsIn}
+use Rattle.semantics.proofs.Randoms.{randomsIn}
 
 -- the values of wires by their numbers
 abbrev pub Values : Type 0
@@ -62,7 +62,7 @@ module _ (sh sh′ : List Bool) where
     one (inverse x) p δ ss ih v v′ h = ih _ _ (λ g g′ r. h g g′ (_, _, plain (inverse x) δ (at v) (at v′) refl, r))
     one (sum xs) p δ ss ih v v′ h = ih _ _ (λ g g′ r. h g g′ (_, _, plain (sum xs) δ (at v) (at v′) refl, r))
     one (product x y) p δ ss ih v v′ h = ih _ _ (λ g g′ r. h g g′ (_, _, plain (product x y) δ (at v) (at v′) refl, r))
-    one (gated x y) p δ ss ih v v′ h = ih _ _ (λ g g′ r. h g g′ (_, _, plain (gated x y) δ (at v) (at v′) refl, r))
+    one (andNot x y) p δ ss ih v v′ h = ih _ _ (λ g g′ r. h g g′ (_, _, plain (andNot x y) δ (at v) (at v′) refl, r))
 
     -- if F and F′ agree at the end of every walk, their sums are equal
     pub couple : (ss : List Step) → Fair ss
@@ -95,11 +95,11 @@ isInput (reg x) = false
 isInput (inverse x) = false
 isInput (sum xs) = false
 isInput (product x y) = false
-isInput (gated x y) = false
+isInput (andNot x y) = false
 
-total-same : (f w : Values) (xs : List ℕ) → Every (λ y. f y ≡ w y) xs → total xs f ≡ total xs w
-total-same f w [] h = refl
-total-same f w (x ∷ xs) h = ap₂ (λ p q. p ⊕ q) (h .0) (total-same f w xs (h .1))
+xorSum-same : (f w : Values) (xs : List ℕ) → Every (λ y. f y ≡ w y) xs → xorSum xs f ≡ xorSum xs w
+xorSum-same f w [] h = refl
+xorSum-same f w (x ∷ xs) h = ap₂ (λ p q. p ⊕ q) (h .0) (xorSum-same f w xs (h .1))
 
 pub value-same : (g : Gate) (f w : Values) (sh sh′ : List Bool) → (isInput g ≡ true → sh ≡ sh′) → Every (λ y. f y ≡ w y) (operands g) → value g f sh [] ≡ value g w sh′ []
 value-same (input n) f w sh sh′ e h = ap (λ l. at l n) (e refl)
@@ -107,9 +107,9 @@ value-same (constant b) f w sh sh′ e h = refl
 value-same random f w sh sh′ e h = refl
 value-same (reg x) f w sh sh′ e h = h .0
 value-same (inverse x) f w sh sh′ e h = ap not (h .0)
-value-same (sum xs) f w sh sh′ e h = total-same f w xs h
+value-same (sum xs) f w sh sh′ e h = xorSum-same f w xs h
 value-same (product x y) f w sh sh′ e h = ap₂ (λ p q. p && q) (h .0) (h .1 .0)
-value-same (gated x y) f w sh sh′ e h = ap₂ (λ p q. not p && q) (h .0) (h .1 .0)
+value-same (andNot x y) f w sh sh′ e h = ap₂ (λ p q. not p && q) (h .0) (h .1 .0)
 
 -- the values at the end: each wire's bits are to the final values what they were to the values below it
 module _ (sh sh′ : List Bool) where
@@ -152,9 +152,9 @@ module _ (sh sh′ : List Bool) where
       )
 
 -- the same of what probes read
-each-agree : (x : ℕ) (xs : List ℕ) (f w : ℕ → List ℕ) → Every (λ y. y < x) xs → Agree x f w → each xs f ≡ each xs w
-each-agree x [] f w h a = refl
-each-agree x (y ∷ xs) f w h a = ap₂ (λ p q. p ++ q) (a y (h .0)) (each-agree x xs f w (h .1) a)
+concatMap-agree : (x : ℕ) (xs : List ℕ) (f w : ℕ → List ℕ) → Every (λ y. y < x) xs → Agree x f w → concatMap xs f ≡ concatMap xs w
+concatMap-agree x [] f w h a = refl
+concatMap-agree x (y ∷ xs) f w h a = ap₂ (λ p q. p ++ q) (a y (h .0)) (concatMap-agree x xs f w (h .1) a)
 
 stops-left : (ws : List Wire) (rs : List (List ℕ)) → Agree (length rs) (readBy rs) (readBy (stopsFrom rs ws))
 stops-left [] rs y h = refl
@@ -169,6 +169,6 @@ stops-settled (w ∷ ws) rs h =
     let n = reads (length rs) g (readBy rs) in
     let z : length (rs ++ (n ∷ [])) ≡ suc (length rs) = simp length-append (omega arith) in (
       sym (stops-left ws (rs ++ (n ∷ [])) (length rs) (omega arith)) ∙ getD-append-seam rs n [] []
-          ∙ ap (λ l. cond (isStop g) (length rs ∷ []) l) (each-agree (length rs) (operands g) (readBy rs) (readBy (stopsFrom rs (w ∷ ws))) (h .0) (stops-left (w ∷ ws) rs)),
+          ∙ ap (λ l. cond (isStop g) (length rs ∷ []) l) (concatMap-agree (length rs) (operands g) (readBy rs) (readBy (stopsFrom rs (w ∷ ws))) (h .0) (stops-left (w ∷ ws) rs)),
       rw z at (stops-settled ws (rs ++ (n ∷ [])) (rw z (h .1))),
     )

@@ -6,12 +6,12 @@ use Prim.Native.Nat.{ℕ, zero, suc, _+_, _<_}
 use native.Mathlib.Omega.{arith}
 use lib.ListN.{length, drop, length-map}
 use Rattle.circuit.specs.Lists.{range}
-use Rattle.circuit.specs.Wires.{Gate, input, constant, random, reg, inverse, sum, product, gated, Wire, _placed_, named, inner}
+use Rattle.circuit.specs.Wires.{Gate, input, constant, random, reg, inverse, sum, product, andNot, Wire, _placed_, named, inner}
 use Rattle.circuit.specs.Gadgets.{Part, labels, gate, delay, index, gadget}
 use Rattle.circuit.specs.Circuit.{Circuit, size, empty, made}
 use Rattle.circuit.proofs.Base.{no-flip, AllFrom, all-left, all-right, all-imp, all-map, all-unmap}
 use Rattle.circuit.specs.Composition.{Frame, AllFit, build}
-use Rattle.netlist.specs.Values.{at, value, isRandom, valuesFrom, valuesOf}
+use Rattle.semantics.specs.Values.{at, value, isRandom, valuesFrom, valuesOf}
 use Rattle.secrecy.proofs.Coupled.{Values, Step, wireOf, Run, Early, Low, Settled, settled}
 use Rattle.secrecy.proofs.Whole.{step, steps, steps-wires, early}
 
@@ -24,7 +24,7 @@ value-tape (reg x) f sh t e = refl
 value-tape (inverse x) f sh t e = refl
 value-tape (sum xs) f sh t e = refl
 value-tape (product x y) f sh t e = refl
-value-tape (gated x y) f sh t e = refl
+value-tape (andNot x y) f sh t e = refl
 
 -- a step that is never flipped
 abbrev calm : Wire → Step

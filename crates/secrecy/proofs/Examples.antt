@@ -1,4 +1,4 @@
--- The theorems are not empty: circuit A of document 01 is accepted and theorem B holds of it, and where a rule is broken, or as
+-- The theorems are not empty: circuit A of document 01 is accepted and the equal counts hold of it, and where a rule is broken, or as
 -- many wires are probed as there are shares, the counts differ. All computed.
 use mathlib.Core.Path.{_≡_, refl, sym, _∙_}
 use mathlib.Core.Bool.{true, false}
@@ -14,9 +14,9 @@ use Rattle.circuit.specs.Kinds.{IN, XOR, AND, OUT, kindOf, shape}
 use Rattle.circuit.specs.Circuit.{Circuit, place, empty, newStage, made, extend}
 use Rattle.circuit.specs.Rules.{pass, wordsRule, frameRule, frames, headRule, checked}
 use Rattle.circuit.specs.Composition.{Frame, Row, fit-IN, fit-AND, fit-OUT, AllFit, done, next, build, frame}
-use Rattle.netlist.specs.Probes.{stops, sheet}
-use Rattle.netlist.specs.Counts.{pairsFor, EqualCounts}
-use Rattle.secrecy.proofs.Theorems.{theoremB}
+use Rattle.semantics.specs.Probes.{stops, sheet}
+use Rattle.semantics.specs.Counts.{pairsFor, EqualCounts}
+use Rattle.secrecy.proofs.Theorems.{equal-counts-of}
 
 -- circuit A: its table and its frames
 abbrev tableA : List ℕ
@@ -61,7 +61,7 @@ fitsA =
 
 -- one probe on A, wherever it stands, tells nothing of the secret bits
 secretA : (probe : ℕ) → EqualCounts (checked tableA notesRoom .circuit) (probe ∷ [])
-secretA probe = rw circuitA (theoremB 2 framesA fitsA (probe ∷ []))
+secretA probe = rw circuitA (equal-counts-of 2 framesA fitsA (probe ∷ []))
 
 -- the reading in which wires 0 and 1 are read, and both are 1
 abbrev ones : List ℕ

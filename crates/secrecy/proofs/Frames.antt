@@ -13,7 +13,7 @@ use Rattle.circuit.specs.Circuit.{Circuit, size, place, labelOf, stageShown, is
 use Rattle.circuit.proofs.Base.{In, in-head, every-of, AllFrom, all-zip, all-map, all-unmap, all-of, map-two}
 use Rattle.circuit.proofs.Parts.{label-lt}
 use Rattle.circuit.specs.Composition.{Fits, fit-IN, fit-CON, fit-XOR, fit-NOT, fit-REG, fit-AND, fit-REF, fit-OUT}
-use Rattle.netlist.specs.Values.{at}
+use Rattle.semantics.specs.Values.{at}
 use Rattle.secrecy.proofs.Roles.{Role, lone}
 use Rattle.secrecy.proofs.Taken.{taken, taken-sub, chosen, Chosen}
 use Rattle.secrecy.proofs.Coupled.{undecided, Shift, Early}

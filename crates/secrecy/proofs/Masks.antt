@@ -10,8 +10,8 @@ use lib.Seq.{getD-append-add}
 use borrow.Author.Tests.{eqb-false, ne-eqb}
 use Rattle.circuit.specs.Lists.{_⊕_}
 use Rattle.circuit.proofs.Base.{no-flip, xor-comm, xor-assoc}
-use Rattle.netlist.specs.Values.{at}
-use Rattle.netlist.specs.Counts.{alike, parity, secretsOf}
+use Rattle.semantics.specs.Values.{at}
+use Rattle.semantics.specs.Counts.{alike, parity, secretsOf}
 use Rattle.secrecy.proofs.Sums.{flipped}
 
 pub flipped-at : (x : ℕ) (bs ms : List Bool) → at ms x ≡ false → at (flipped bs ms) x ≡ at bs x

@@ -15,9 +15,9 @@ use Rattle.circuit.specs.Circuit.{Circuit, size, place, stageShown, newStage, e
 use Rattle.circuit.proofs.Base.{cases, no-flip, ltb-other, AllFrom}
 use Rattle.circuit.proofs.Parts.{index-at, Pair, other, label-lt, others-pair, InAND, is-R, is-B, is-m, is-M, is-u, is-U, is-v, is-V, is-w, is-W, and-has, added, ref-has}
 use Rattle.circuit.specs.Composition.{Frame, AllFit, build, frame}
-use Rattle.netlist.specs.Values.{at, total, value, isRandom, valuesOf}
+use Rattle.semantics.specs.Values.{at, xorSum, value, isRandom, valuesOf}
 use Rattle.secrecy.proofs.Coupled.{Values}
-use Rattle.secrecy.proofs.Totals.{total-ext, total-append, total-map, output, multiplied, refreshed}
+use Rattle.secrecy.proofs.Totals.{xorSum-ext, xorSum-append, xorSum-map, output, multiplied, refreshed}
 use Rattle.secrecy.proofs.Equations.{Meets, gateAt, made-meets, inner-meets, outer-meets}
 
 -- r(i,j) and r(j,i) are one wire
@@ -64,12 +64,12 @@ module _ (d first : ℕ) (a b : ℕ → ℕ) (f : Values) (sh : List Bool) where
     c-is i l =
         let us = map (λ j. wire (U i j)) (others d i) in
         let ws = map (λ j. wire (W i j)) (others d i) in
-        outs i l refl ∙ ap₂ (λ p q. p ⊕ q) (M-is i l) (total-append f us ws ∙ ap₂ (λ p q. p ⊕ q)
-        (total-map f (λ j. wire (U i j)) (others d i) ∙ total-ext _ (λ j. not (f (a i)) && ρ i j) (others d i) (λ j k. U-is i j (others-pair d i j l k)))
-        (total-map f (λ j. wire (W i j)) (others d i) ∙ total-ext _ (λ j. f (a i) && (f (b j) ⊕ ρ i j)) (others d i) (λ j k. W-is i j (others-pair d i j l k))))
+        outs i l refl ∙ ap₂ (λ p q. p ⊕ q) (M-is i l) (xorSum-append f us ws ∙ ap₂ (λ p q. p ⊕ q)
+        (xorSum-map f (λ j. wire (U i j)) (others d i) ∙ xorSum-ext _ (λ j. not (f (a i)) && ρ i j) (others d i) (λ j k. U-is i j (others-pair d i j l k)))
+        (xorSum-map f (λ j. wire (W i j)) (others d i) ∙ xorSum-ext _ (λ j. f (a i) && (f (b j) ⊕ ρ i j)) (others d i) (λ j k. W-is i j (others-pair d i j l k))))
 
-    and-adds : total (labels d) (λ i. f (first + length (inAND d) + i)) ≡ (total (labels d) (λ i. f (a i)) && total (labels d) (λ i. f (b i)))
-    and-adds = total-ext _ (output d ρ ρ-swap (λ i. f (a i)) (λ i. f (b i))) (labels d) (λ i h. c-is i (label-lt d i h))
+    and-adds : xorSum (labels d) (λ i. f (first + length (inAND d) + i)) ≡ (xorSum (labels d) (λ i. f (a i)) && xorSum (labels d) (λ i. f (b i)))
+    and-adds = xorSum-ext _ (output d ρ ρ-swap (λ i. f (a i)) (λ i. f (b i))) (labels d) (λ i h. c-is i (label-lt d i h))
         ∙ multiplied d ρ ρ-swap (λ i. f (a i)) (λ i. f (b i))
 
 -- REF, from the wire `first` on, whose wires meet their equations
@@ -85,12 +85,12 @@ module _ (d first : ℕ) (a : ℕ → ℕ) (f : Values) (sh : List Bool) where
   fresh i j = f (refWire (sorted r i j))
 
   module _ (inside : AllFrom (λ x p. Meets f sh x (refGate p)) first (inREF d)) (outs : (i : ℕ) → i < d → Meets f sh (first + length (inREF d) + i) (refGate (S i))) where
-    S-is : (i : ℕ) → i < d → f (first + length (inREF d) + i) ≡ (f (a i) ⊕ total (others d i) (fresh i))
+    S-is : (i : ℕ) → i < d → f (first + length (inREF d) + i) ≡ (f (a i) ⊕ xorSum (others d i) (fresh i))
     S-is i l = outs i l refl ∙ index-at (λ x p. Meets f sh x (refGate p)) first (inREF d) (s i) (ref-has d (added i l)) inside refl
-        ∙ ap (λ z. f (a i) ⊕ z) (total-map f (λ j. refWire (sorted r i j)) (others d i))
+        ∙ ap (λ z. f (a i) ⊕ z) (xorSum-map f (λ j. refWire (sorted r i j)) (others d i))
 
-    ref-adds : total (labels d) (λ i. f (first + length (inREF d) + i)) ≡ total (labels d) (λ i. f (a i))
-    ref-adds = total-ext _ (λ i. f (a i) ⊕ total (others d i) (fresh i)) (labels d) (λ i h. S-is i (label-lt d i h))
+    ref-adds : xorSum (labels d) (λ i. f (first + length (inREF d) + i)) ≡ xorSum (labels d) (λ i. f (a i))
+    ref-adds = xorSum-ext _ (λ i. f (a i) ⊕ xorSum (others d i) (fresh i)) (labels d) (λ i h. S-is i (label-lt d i h))
         ∙ refreshed d fresh (λ i j e. ap (λ p. f (refWire p)) (sorted-swap r i j e)) (λ i. f (a i))
 
 -- a frame in a circuit, k the circuit before it
@@ -100,8 +100,8 @@ module _ (d : ℕ) (fs : List Frame) (ops : List ℕ) (gs : List Frame) (shares 
 
   pub and-product : AllFit (empty d) (fs ++ (frame AND ops ∷ gs))
       → let f : Values = at (valuesOf (build (empty d) (fs ++ (frame AND ops ∷ gs)) .wires) shares tape) in
-      total (labels (k .d)) (λ i. f (size k + length (inAND (k .d)) + i))
-      ≡ (total (labels (k .d)) (λ i. f (nth ops (1 + i))) && total (labels (k .d)) (λ i. f (nth ops (1 + k .d + i))))
+      xorSum (labels (k .d)) (λ i. f (size k + length (inAND (k .d)) + i))
+      ≡ (xorSum (labels (k .d)) (λ i. f (nth ops (1 + i))) && xorSum (labels (k .d)) (λ i. f (nth ops (1 + k .d + i))))
   unfolding made
   and-product fit =
       let f : Values = at (valuesOf (build (empty d) (fs ++ (frame AND ops ∷ gs)) .wires) shares tape) in
@@ -115,7 +115,7 @@ module _ (d : ℕ) (fs : List Frame) (ops : List ℕ) (gs : List Frame) (shares 
 
   pub ref-sum : AllFit (empty d) (fs ++ (frame REF ops ∷ gs))
       → let f : Values = at (valuesOf (build (empty d) (fs ++ (frame REF ops ∷ gs)) .wires) shares tape) in
-      total (labels (k .d)) (λ i. f (size k + length (inREF (k .d)) + i)) ≡ total (labels (k .d)) (λ i. f (nth ops (1 + i)))
+      xorSum (labels (k .d)) (λ i. f (size k + length (inREF (k .d)) + i)) ≡ xorSum (labels (k .d)) (λ i. f (nth ops (1 + i)))
   unfolding made
   ref-sum fit =
       let f : Values = at (valuesOf (build (empty d) (fs ++ (frame REF ops ∷ gs)) .wires) shares tape) in

@@ -6,7 +6,7 @@ use mathlib.Core.Logic.{inr}
 use Prim.Native.Nat.{ℕ, _+_, _≤_, _<_}
 use native.Mathlib.Omega.{arith}
 use lib.ListN.{length}
-use Rattle.circuit.specs.Lists.{each}
+use Rattle.circuit.specs.Lists.{concatMap}
 use Rattle.circuit.specs.Wires.{named, inner}
 use Rattle.circuit.specs.Gadgets.{Part, r, s, S, labels, above, others, sorted, delay, inREF}
 use Rattle.circuit.proofs.Base.{no-flip, In, in-head, in-tail, Has, every-map, AllFrom}
@@ -14,7 +14,7 @@ use Rattle.circuit.proofs.Parts.{index-lt, Before, before-append, before-each, 
 use Rattle.secrecy.proofs.Roles.{Role, lone, role}
 use Rattle.secrecy.proofs.Coupled.{undecided, Shift, Early}
 use Rattle.secrecy.proofs.Same.{Two, Same, settle, carry}
-use Rattle.secrecy.proofs.Sites.{Site, number, gateOf, entry, lift, Known, Good, entriesAt, out, ins, out-ins, Told, PartFact, OutFact, look, good, early-at}
+use Rattle.secrecy.proofs.Sites.{Site, number, gateOf, entry, lift, Known, Good, entriesAt, out, ins, out-ins, ProbedRole, PartFact, OutFact, look, good, early-at}
 
 -- no bit is flipped
 abbrev pub still : Role → Shift
@@ -46,7 +46,7 @@ module _ (isProbed : ℕ → Bool) (d first : ℕ) (a : ℕ → ℕ) (start end 
           (λ j z. sorted-at (λ i j p. Same T (number refsite p)) r d i j (others-pair d i j l z) (λ i j o l. r-same (number refsite (r i j)) i j (fact (fresh i j o l))) (λ x h. h)),
     )
 
-    inner-same : (x : ℕ) (p : Part) → InREF d p → Seen x p → Told refsite (role p) → Same T x
+    inner-same : (x : ℕ) (p : Part) → InREF d p → Seen x p → ProbedRole refsite (role p) → Same T x
     inner-same x _ (fresh i j o l) h t = r-same x i j h
     inner-same x _ (added i l) h t = s-same x i l h t
 
@@ -62,7 +62,7 @@ module _ (isProbed : ℕ → Bool) (d first : ℕ) (a : ℕ → ℕ) (start end 
     Q = Ready (λ x p. Early x (lift still (entry (gateOf refsite p) (inner (start + delay p)) (role p)))) first (inREF d)
 
     made1 : Before Q [] (fresh1 d)
-    made1 = before-each Q [] (labels d) (λ i. each (above d i) (λ j. r i j ∷ [])) (λ i h pre k. before-each Q pre (above d i) (λ j. r i j ∷ []) (λ j h′ more k′.
+    made1 = before-each Q [] (labels d) (λ i. concatMap (above d i) (λ j. r i j ∷ [])) (λ i h pre k. before-each Q pre (above d i) (λ j. r i j ∷ []) (λ j h′ more k′.
         ((λ x n g. record { low = tt; decided = undecided x }), tt)))
 
     made2 : (is : List ℕ) (pre : List Part) → ((i : ℕ) → In i is → i < d) → More Q (fresh1 d) pre → Before Q pre (map s is)

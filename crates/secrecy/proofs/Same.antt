@@ -5,11 +5,11 @@ use mathlib.Core.List.{List, [], _∷_}
 use Prim.Native.Nat.{ℕ}
 use lib.Dec.{eqb}
 use borrow.Author.Tests.{eqb-true}
-use Rattle.circuit.specs.Lists.{each}
+use Rattle.circuit.specs.Lists.{concatMap}
 use Rattle.circuit.specs.Wires.{Gate}
 use Rattle.circuit.proofs.Base.{cases, clash, or-cases, In, in-each, Every, every-imp, every-in}
-use Rattle.netlist.specs.Values.{isRandom}
-use Rattle.netlist.specs.Probes.{isStop, operands, reads}
+use Rattle.semantics.specs.Values.{isRandom}
+use Rattle.semantics.specs.Probes.{isStop, operands, reads}
 use Rattle.secrecy.proofs.Coupled.{Values, Shift, Bits, isInput, value-same}
 
 -- two evaluations, and what probes read
@@ -35,9 +35,9 @@ pub settle : {T : Two} {g : Gate} {δ : Shift} {x : ℕ} → Fact T g δ x → T
 settle {T} {g} {δ} {x} h e ops = record {
   valued = e;
   stopped = λ s i. cases (isStop g)
-      (λ k. let i′ : In s (cond (isStop g) (x ∷ []) (each (operands g) (T .stops))) = subst (In s) (h .reading) i in
+      (λ k. let i′ : In s (cond (isStop g) (x ∷ []) (concatMap (operands g) (T .stops))) = subst (In s) (h .reading) i in
       let z : s ≡ x = or-cases (eqb s x) false (rw k at i′) (eqb-true s x) (λ q. absurd (false≢true q)) in rw z e)
-      (λ k. let i′ : In s (cond (isStop g) (x ∷ []) (each (operands g) (T .stops))) = subst (In s) (h .reading) i in
+      (λ k. let i′ : In s (cond (isStop g) (x ∷ []) (concatMap (operands g) (T .stops))) = subst (In s) (h .reading) i in
       in-each s (T .stops) (operands g) (rw k at i′) (λ y p q. (every-in (Same T) (operands g) (ops k) y p) .stopped s q));
 }
 

@@ -9,11 +9,11 @@ use borrow.Author.Tests.{eqb-true}
 use Rattle.circuit.specs.Lists.{mem}
 use Rattle.circuit.specs.Circuit.{Circuit}
 use Rattle.circuit.proofs.Base.{cases, clash, In}
-use Rattle.netlist.specs.Values.{bits, valuesOf}
-use Rattle.netlist.specs.Probes.{stops, sheet, readingOf}
-use Rattle.netlist.specs.Counts.{sumOver, alike, secretsOf, pairsFor, EqualCounts}
+use Rattle.semantics.specs.Values.{bits, valuesOf}
+use Rattle.semantics.specs.Probes.{stops, sheet, readingOf}
+use Rattle.semantics.specs.Counts.{sumOver, alike, secretsOf, pairsFor, EqualCounts}
 use Rattle.secrecy.specs.Deciding.{tapesFor, Deciding}
-use Rattle.secrecy.proofs.Sums.{sumBits, over-bits, over-if, sum-same, flipped, sum-flipped}
+use Rattle.secrecy.proofs.Sums.{sumBits, overwrite-bits, overwrite-if, sum-same, flipped, sum-flipped}
 use Rattle.secrecy.proofs.FreeLabel.{free}
 use Rattle.secrecy.proofs.Masks.{flipped-at, flipped-length, mask, mask-at, secrets-flipped, alike-flipped}
 
@@ -30,15 +30,15 @@ module _ (k : Circuit) (probes : List ℕ) (reading : List ℕ) where
   by-sharing secrets =
       let right : List Bool → Bool = λ shares. alike Bool·beq (secretsOf (k .d) (k .inputs) shares) secrets in
       let reads : List Bool → List ℕ → Bool = λ shares tape. alike eqb (readingOf (k .wires) probes shares (bits tape)) reading in
-      over-bits (k .inputs * k .d) (λ shares. sumOver (k .randoms) (λ tape. cond (right shares && reads shares tape) 1 0))
+      overwrite-bits (k .inputs * k .d) (λ shares. sumOver (k .randoms) (λ tape. cond (right shares && reads shares tape) 1 0))
       ∙ sum-same (k .inputs * k .d) (λ shares. sumOver (k .randoms) (λ tape. cond (right shares && reads shares tape) 1 0)) (ofSharing secrets) (λ shares n.
-      over-if (right shares) (k .randoms) (reads shares)
+      overwrite-if (right shares) (k .randoms) (reads shares)
       ∙ ap (λ read. cond (right shares) (sumOver (k .randoms) (λ tape. cond (alike eqb (sheet read (valuesOf (k .wires) shares (bits tape))) reading) 1 0)) 0)
       (sym (append-nil (stops (k .wires) probes))))
 
 -- where share indices decide, and one of d is free, the secret bits do not show
-pub equal-counts : (k : Circuit) (probes : List ℕ) → Deciding k probes [] → EqualCounts k probes
-equal-counts k probes D few one other l l′ reading =
+pub equal-from-indices : (k : Circuit) (probes : List ℕ) → Deciding k probes [] → EqualCounts k probes
+equal-from-indices k probes D few one other l l′ reading =
     let d = k .d in
     let n = k .inputs in
     let J = D .indices in

@@ -116,18 +116,18 @@ module _ (here : Site) where
     pub hit : touched x p q ≡ true
 
   -- the same of a wire of any role
-  abbrev pub Told : Role → Type 0
-  Told (lone i) = In i ins
-  Told (pair x p q) = Pick x p q
+  abbrev pub ProbedRole : Role → Type 0
+  ProbedRole (lone i) = In i ins
+  ProbedRole (pair x p q) = Pick x p q
 
-  tell : (o : Role) → Chosen out ins o → ((x : Bool) (p q : ℕ) → o ≡ pair x p q → touched x p q ≡ true) → Told o
+  tell : (o : Role) → Chosen out ins o → ((x : Bool) (p q : ℕ) → o ≡ pair x p q → touched x p q ≡ true) → ProbedRole o
   tell (lone i) h k = h
   tell (pair x p q) h k = record { one = h .0; two = h .1; hit = k x p q refl }
 
-  told : AllFrom (λ x p. isProbed x ≡ true → Told (role p)) first inside
+  told : AllFrom (λ x p. isProbed x ≡ true → ProbedRole (role p)) first inside
   unfolding ins touched
-  told = all-unmap (λ x o. isProbed x ≡ true → Told o) role first inside
-      (all-zip (λ x o. isProbed x ≡ true → Chosen out ins o) (λ x o. isProbed x ≡ true → (y : Bool) (p q : ℕ) → o ≡ pair y p q → touched y p q ≡ true) (λ x o. isProbed x ≡ true → Told o)
+  told = all-unmap (λ x o. isProbed x ≡ true → ProbedRole o) role first inside
+      (all-zip (λ x o. isProbed x ≡ true → Chosen out ins o) (λ x o. isProbed x ≡ true → (y : Bool) (p q : ℕ) → o ≡ pair y p q → touched y p q ≡ true) (λ x o. isProbed x ≡ true → ProbedRole o)
       (λ x o h k p. tell o (h p) (k p)) first (map role inside) (chosen isProbed out first (map role inside)) (seen-all isProbed first (map role inside)))
 
   outside : AllFrom (λ x i. isProbed x ≡ true → In i out) (first + length inside) (labels d)
@@ -152,7 +152,7 @@ module _ (here : Site) where
 
     -- where every inner part and every output look the same if they must, so does every wire of the gadget
     pub good : (Ok : Part → Type 0) → Every Ok inside
-        → ((x : ℕ) (p : Part) → Ok p → PartFact x p → Told (role p) → Same T x)
+        → ((x : ℕ) (p : Part) → Ok p → PartFact x p → ProbedRole (role p) → Same T x)
         → ((x i : ℕ) → i < d → OutFact x i → In i out → Same T x)
         → AllFrom (Known T δ) first entriesAt → AllFrom (Good T isProbed behind) first entriesAt
     unfolding entriesAt
@@ -165,9 +165,9 @@ module _ (here : Site) where
         let e : first + length xs ≡ n = ap (λ k. first + k) (length-map inside innerEntry) in
         let hx = all-unmap K innerEntry first inside (all-left K first xs ys h) in
         let hy = all-unmap K outerEntry n (labels d) (subst (λ (k : ℕ). AllFrom K k ys) e (all-right K first xs ys h)) in
-        let both = all-zip PartFact (λ x p. isProbed x ≡ true → Told (role p)) (λ x p. PartFact x p × (isProbed x ≡ true → Told (role p))) (λ x p f g. (f, g)) first inside hx told in
+        let both = all-zip PartFact (λ x p. isProbed x ≡ true → ProbedRole (role p)) (λ x p. PartFact x p × (isProbed x ≡ true → ProbedRole (role p))) (λ x p f g. (f, g)) first inside hx told in
         let okx = all-of (λ x p. Ok p) Ok first inside (λ x p l o. o) ok in
-        let gx = all-zip (λ x p. Ok p) (λ x p. PartFact x p × (isProbed x ≡ true → Told (role p))) (λ x p. G x (innerEntry p)) (λ x p o f. record { probed = λ q. inn x p o (f .0) (f .1 q); shown = λ l t z i. hidden z }) first inside okx both in
+        let gx = all-zip (λ x p. Ok p) (λ x p. PartFact x p × (isProbed x ≡ true → ProbedRole (role p))) (λ x p. G x (innerEntry p)) (λ x p o f. record { probed = λ q. inn x p o (f .0) (f .1 q); shown = λ l t z i. hidden z }) first inside okx both in
         let both2 = all-zip OutFact (λ x i. isProbed x ≡ true → In i out) (λ x i. OutFact x i × (isProbed x ≡ true → In i out)) (λ x p f g. (f, g)) n (labels d) hy outside in
         let oky = all-of (λ x i. i < d) (λ i. i < d) n (labels d) (λ x p l o. o) labels-lt in
         let gy = all-zip (λ x i. i < d) (λ x i. OutFact x i × (isProbed x ≡ true → In i out)) (λ x i. G x (outerEntry i))

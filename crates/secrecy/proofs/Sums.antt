@@ -6,8 +6,8 @@ use Prim.Native.Nat.{ℕ, zero, suc, _+_}
 use native.Mathlib.Omega.{arith}
 use lib.ListN.{length}
 use Rattle.circuit.specs.Lists.{_⊕_}
-use Rattle.netlist.specs.Values.{bits}
-use Rattle.netlist.specs.Counts.{sumOver}
+use Rattle.semantics.specs.Values.{bits}
+use Rattle.semantics.specs.Counts.{sumOver}
 
 -- the sum over all lists of n bits
 abbrev pub sumBits : ℕ → (List Bool → ℕ) → ℕ
@@ -15,18 +15,18 @@ sumBits zero f = f []
 sumBits (suc n) f = sumBits n (λ t. f (false ∷ t)) + sumBits n (λ t. f (true ∷ t))
 
 -- summing over bytes is summing over the bits that they stand for
-pub over-bits : (n : ℕ) (f : List Bool → ℕ) → sumOver n (λ bs. f (bits bs)) ≡ sumBits n f
-over-bits zero f = refl
-over-bits (suc n) f = ap₂ _+_ (over-bits n (λ t. f (false ∷ t))) (over-bits n (λ t. f (true ∷ t)))
+pub overwrite-bits : (n : ℕ) (f : List Bool → ℕ) → sumOver n (λ bs. f (bits bs)) ≡ sumBits n f
+overwrite-bits zero f = refl
+overwrite-bits (suc n) f = ap₂ _+_ (overwrite-bits n (λ t. f (false ∷ t))) (overwrite-bits n (λ t. f (true ∷ t)))
 
 -- a condition that does not depend on the list
-over-none : (n : ℕ) → sumOver n (λ t. 0) ≡ 0
-over-none zero = refl
-over-none (suc n) = omega (arith, over-none n)
+overwrite-none : (n : ℕ) → sumOver n (λ t. 0) ≡ 0
+overwrite-none zero = refl
+overwrite-none (suc n) = omega (arith, overwrite-none n)
 
-pub over-if : (b : Bool) (n : ℕ) (f : List ℕ → Bool) → sumOver n (λ t. cond (b && f t) 1 0) ≡ cond b (sumOver n (λ t. cond (f t) 1 0)) 0
-over-if true n f = refl
-over-if false n f = over-none n
+pub overwrite-if : (b : Bool) (n : ℕ) (f : List ℕ → Bool) → sumOver n (λ t. cond (b && f t) 1 0) ≡ cond b (sumOver n (λ t. cond (f t) 1 0)) 0
+overwrite-if true n f = refl
+overwrite-if false n f = overwrite-none n
 
 -- terms that are equal for lists of n bits
 pub sum-same : (n : ℕ) (f g : List Bool → ℕ) → ((t : List Bool) → length t ≡ n → f t ≡ g t) → sumBits n f ≡ sumBits n g

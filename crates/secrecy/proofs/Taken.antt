@@ -11,7 +11,7 @@ use lib.Dec.{eqb}
 use borrow.Author.Tests.{eqb-true}
 use Rattle.circuit.specs.Lists.{mem}
 use Rattle.circuit.proofs.Base.{cases, or-left, or-right, or-cases, and-left, and-right, and-both, In, Sub, in-head, in-tail, AllFrom, all-imp}
-use Rattle.netlist.specs.Counts.{different}
+use Rattle.semantics.specs.Counts.{countDistinct}
 use Rattle.secrecy.proofs.Roles.{Role, lone, pair, same-role}
 
 -- the share indices c after a wire with role r, probed or not: a pair adds its second where its first is there
@@ -164,7 +164,7 @@ count-none : (n : ℕ) (rs : List Role) → count (λ x. false) n rs ≡ 0
 count-none n [] = refl
 count-none n (r ∷ rs) = count-none (suc n) rs
 
-pub count-different : (ps : List ℕ) (n : ℕ) (rs : List Role) → count (λ x. mem x ps) n rs ≤ different ps
+pub count-different : (ps : List ℕ) (n : ℕ) (rs : List Role) → count (λ x. mem x ps) n rs ≤ countDistinct ps
 count-different [] n rs = omega (arith, count-none n rs)
 count-different (p ∷ ps) n rs = cases (mem p ps)
     (λ e. rw e (omega (arith, count-different ps n rs, count-imp (λ x. eqb x p || mem x ps) (λ x. mem x ps) (λ x h. or-cases (eqb x p) (mem x ps) h (λ k. rw (eqb-true x p k) e) (λ k. k)) n rs)))

@@ -8,18 +8,18 @@ use native.Mathlib.Decide.{decLt}
 use lib.ListN.{length, length-append, length-map, List·getD-eq-default}
 use lib.Dec.{eqb}
 use Rattle.circuit.specs.Limits.{wireLimit}
-use Rattle.circuit.specs.Lists.{mem, each, range}
+use Rattle.circuit.specs.Lists.{mem, concatMap, range}
 use Rattle.circuit.specs.Wires.{Wire}
 use Rattle.circuit.specs.Circuit.{empty}
 use Rattle.circuit.specs.Composition.{Frame, build, AllFit}
 use Rattle.circuit.proofs.Base.{cases, In, Sub, in-append, in-each, Every, AllFrom, all-imp, all-zip, all-map, all-unmap}
-use Rattle.netlist.specs.Counts.{alike, different}
-use Rattle.netlist.specs.Values.{at, byte, valuesOf}
-use Rattle.netlist.specs.Probes.{operands, reads, readBy, stopsFrom, stops, sheet}
+use Rattle.semantics.specs.Counts.{alike, countDistinct}
+use Rattle.semantics.specs.Values.{at, byte, valuesOf}
+use Rattle.semantics.specs.Probes.{operands, reads, readBy, stopsFrom, stops, sheet}
 use Rattle.secrecy.specs.Deciding.{AgreeAt, NamedIn, tapesFor}
-use Rattle.secrecy.proofs.Sums.{sumBits, over-bits}
+use Rattle.secrecy.proofs.Sums.{sumBits, overwrite-bits}
 use Rattle.secrecy.proofs.Whole.{front, steps, steps-wires, roles, front-sub, front-length, early, Sure, Seen, static}
-use Rattle.netlist.proofs.Randoms.{randomsIn, build-randoms}
+use Rattle.semantics.proofs.Randoms.{randomsIn, build-randoms}
 use Rattle.secrecy.proofs.Taken.{count-different}
 use Rattle.secrecy.proofs.Coupled.{Step, wireOf, Run, couple, Early, Settled, settled, stops-settled}
 use Rattle.secrecy.proofs.Same.{Two, Same}
@@ -59,7 +59,7 @@ module _ (d : ℕ) (fs : List Frame) (probes start : List ℕ) where
   unfolding indices
   indices-sub = front-sub isProbed start (empty d) fs
 
-  pub indices-length : length indices ≤ length start + different probes
+  pub indices-length : length indices ≤ length start + countDistinct probes
   unfolding indices
   indices-length = omega (arith, front-length isProbed start (empty d) fs, count-different probes 0 (roles isProbed start (empty d) fs))
 
@@ -93,7 +93,7 @@ module _ (d : ℕ) (fs : List Frame) (probes start : List ℕ) where
     unfolding indices stops
     alike-reads g g′ r x h =
         let (a, b) = static isProbed start (two g g′) indices fit same (λ i q. q) (λ y l t z q. hidden z) (sure g g′ r) in
-        in-append x (each probes readAt) besides h
+        in-append x (concatMap probes readAt) besides h
         (λ q. in-each x readAt probes q (λ p i k. elim (decLt p (length ss)) [
           | yes l ↦ (let (s, z) = all-at (Seen isProbed start (two g g′) indices) 0 p ss a l in (subst (λ (y : ℕ). isProbed y ≡ true → Same (two g g′) y) (omega arith) z i) .stopped x k)
           | no l ↦ (let e : readAt p ≡ [] = List·getD-eq-default (stopsFrom [] ws) [] (omega (arith, stops-length ws [], length-map ss wireOf)) in absurd (false≢true (rw e at k)))
@@ -109,7 +109,7 @@ module _ (d : ℕ) (fs : List Frame) (probes start : List ℕ) where
         let G : List Bool → List Bool → ℕ = λ shares tape. cond (alike eqb (sheet (stops (k .wires) probes ++ besides) (valuesOf (k .wires) shares tape)) reading) 1 0 in
         let e : k .wires ≡ ws = steps-wires isProbed start (empty d) fs in
         let z = couple sh sh′ F F ss [] [] (λ g g′ r. ap (λ l. cond (alike eqb l reading) 1 0) (sheet-same (stops ws probes ++ besides) g g′ (alike-reads g g′ r))) in
-        over-bits (k .randoms) (G sh)
+        overwrite-bits (k .randoms) (G sh)
         ∙ rw (← build-randoms (empty d) fs refl) (subst (λ (us : List Wire). sumBits (randomsIn us) (λ t. cond (alike eqb (sheet (stops us probes ++ besides) (valuesOf us sh t)) reading) 1 0)
         ≡ sumBits (randomsIn us) (λ t. cond (alike eqb (sheet (stops us probes ++ besides) (valuesOf us sh′ t)) reading) 1 0)) (sym e) z)
-        ∙ sym (over-bits (k .randoms) (G sh′))
+        ∙ sym (overwrite-bits (k .randoms) (G sh′))

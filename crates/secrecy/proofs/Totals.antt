@@ -6,11 +6,11 @@ use Prim.Native.Nat.{ℕ, zero, suc, _+_, _≤_, _<_}
 use native.Mathlib.Omega.{arith}
 use lib.Dec.{eqb}
 use borrow.Author.Tests.{eqb-true}
-use Rattle.circuit.specs.Lists.{_⊕_, range, keep}
+use Rattle.circuit.specs.Lists.{_⊕_, range, filter}
 use Rattle.circuit.specs.Gadgets.{labels, others}
 use Rattle.circuit.proofs.Base.{no-flip, xor-self, xor-comm, xor-assoc, ne-lt, cases, lt-ne, eqb-refl, eqb-sym, In, in-head, in-tail}
 use Rattle.circuit.proofs.Parts.{label-lt}
-use Rattle.netlist.specs.Values.{total}
+use Rattle.semantics.specs.Values.{xorSum}
 
 -- (a + b) + (e + h) = (a + e) + (b + h)
 xor-middle : (a b e h : Bool) → ((a ⊕ b) ⊕ (e ⊕ h)) ≡ ((a ⊕ e) ⊕ (b ⊕ h))
@@ -26,86 +26,86 @@ xor-and true true false = refl
 xor-and true false true = refl
 xor-and true false false = refl
 
-pub total-ext : (f g : ℕ → Bool) (xs : List ℕ) → ((i : ℕ) → In i xs → f i ≡ g i) → total xs f ≡ total xs g
-total-ext f g [] h = refl
-total-ext f g (x ∷ xs) h = ap₂ (λ p q. p ⊕ q) (h x (in-head x xs)) (total-ext f g xs (λ i k. h i (in-tail i x xs k)))
+pub xorSum-ext : (f g : ℕ → Bool) (xs : List ℕ) → ((i : ℕ) → In i xs → f i ≡ g i) → xorSum xs f ≡ xorSum xs g
+xorSum-ext f g [] h = refl
+xorSum-ext f g (x ∷ xs) h = ap₂ (λ p q. p ⊕ q) (h x (in-head x xs)) (xorSum-ext f g xs (λ i k. h i (in-tail i x xs k)))
 
-total-none : (xs : List ℕ) → total xs (λ i. false) ≡ false
-total-none [] = refl
-total-none (x ∷ xs) = total-none xs
+xorSum-none : (xs : List ℕ) → xorSum xs (λ i. false) ≡ false
+xorSum-none [] = refl
+xorSum-none (x ∷ xs) = xorSum-none xs
 
-pub total-xor : (f g : ℕ → Bool) (xs : List ℕ) → total xs (λ i. f i ⊕ g i) ≡ (total xs f ⊕ total xs g)
-total-xor f g [] = refl
-total-xor f g (x ∷ xs) = ap (λ z. (f x ⊕ g x) ⊕ z) (total-xor f g xs) ∙ xor-middle (f x) (g x) (total xs f) (total xs g)
+pub xorSum-xor : (f g : ℕ → Bool) (xs : List ℕ) → xorSum xs (λ i. f i ⊕ g i) ≡ (xorSum xs f ⊕ xorSum xs g)
+xorSum-xor f g [] = refl
+xorSum-xor f g (x ∷ xs) = ap (λ z. (f x ⊕ g x) ⊕ z) (xorSum-xor f g xs) ∙ xor-middle (f x) (g x) (xorSum xs f) (xorSum xs g)
 
-total-and : (a : Bool) (f : ℕ → Bool) (xs : List ℕ) → total xs (λ i. a && f i) ≡ (a && total xs f)
-total-and true f xs = refl
-total-and false f xs = total-none xs
+xorSum-and : (a : Bool) (f : ℕ → Bool) (xs : List ℕ) → xorSum xs (λ i. a && f i) ≡ (a && xorSum xs f)
+xorSum-and true f xs = refl
+xorSum-and false f xs = xorSum-none xs
 
-and-total : (f : ℕ → Bool) (a : Bool) (xs : List ℕ) → total xs (λ i. f i && a) ≡ (total xs f && a)
+and-total : (f : ℕ → Bool) (a : Bool) (xs : List ℕ) → xorSum xs (λ i. f i && a) ≡ (xorSum xs f && a)
 and-total f a [] = refl
-and-total f a (x ∷ xs) = ap (λ z. (f x && a) ⊕ z) (and-total f a xs) ∙ sym (xor-and (f x) (total xs f) a)
+and-total f a (x ∷ xs) = ap (λ z. (f x && a) ⊕ z) (and-total f a xs) ∙ sym (xor-and (f x) (xorSum xs f) a)
 
-pub total-append : (f : ℕ → Bool) (xs ys : List ℕ) → total (xs ++ ys) f ≡ (total xs f ⊕ total ys f)
-total-append f [] ys = refl
-total-append f (x ∷ xs) ys = ap (λ z. f x ⊕ z) (total-append f xs ys) ∙ sym (xor-assoc (f x) (total xs f) (total ys f))
+pub xorSum-append : (f : ℕ → Bool) (xs ys : List ℕ) → xorSum (xs ++ ys) f ≡ (xorSum xs f ⊕ xorSum ys f)
+xorSum-append f [] ys = refl
+xorSum-append f (x ∷ xs) ys = ap (λ z. f x ⊕ z) (xorSum-append f xs ys) ∙ sym (xor-assoc (f x) (xorSum xs f) (xorSum ys f))
 
-pub total-map : (f : ℕ → Bool) (g : ℕ → ℕ) (xs : List ℕ) → total (map g xs) f ≡ total xs (λ i. f (g i))
-total-map f g [] = refl
-total-map f g (x ∷ xs) = ap (λ z. f (g x) ⊕ z) (total-map f g xs)
+pub xorSum-map : (f : ℕ → Bool) (g : ℕ → ℕ) (xs : List ℕ) → xorSum (map g xs) f ≡ xorSum xs (λ i. f (g i))
+xorSum-map f g [] = refl
+xorSum-map f g (x ∷ xs) = ap (λ z. f (g x) ⊕ z) (xorSum-map f g xs)
 
-total-keep : (p f : ℕ → Bool) (xs : List ℕ) → total (keep p xs) f ≡ total xs (λ i. p i && f i)
-total-keep p f [] = refl
-total-keep p f (x ∷ xs) = cases (p x) (λ e. rw e (ap (λ z. f x ⊕ z) (total-keep p f xs))) (λ e. rw e (total-keep p f xs))
+xorSum-keep : (p f : ℕ → Bool) (xs : List ℕ) → xorSum (filter p xs) f ≡ xorSum xs (λ i. p i && f i)
+xorSum-keep p f [] = refl
+xorSum-keep p f (x ∷ xs) = cases (p x) (λ e. rw e (ap (λ z. f x ⊕ z) (xorSum-keep p f xs))) (λ e. rw e (xorSum-keep p f xs))
 
 -- one term of a sum, and the others
-total-miss : (f : ℕ → Bool) (i n k : ℕ) → i < n → total (range n k) (λ j. eqb i j && f j) ≡ false
-total-miss f i n zero h = refl
-total-miss f i n (suc k) h = rw (lt-ne i n h) (total-miss f i (suc n) k (omega arith))
+xorSum-miss : (f : ℕ → Bool) (i n k : ℕ) → i < n → xorSum (range n k) (λ j. eqb i j && f j) ≡ false
+xorSum-miss f i n zero h = refl
+xorSum-miss f i n (suc k) h = rw (lt-ne i n h) (xorSum-miss f i (suc n) k (omega arith))
 
-total-one : (f : ℕ → Bool) (i n k : ℕ) → n ≤ i → i < n + k → total (range n k) (λ j. eqb i j && f j) ≡ f i
-total-one f i n zero h l = absurd (omega arith)
-total-one f i n (suc k) h l = cases (eqb i n)
-    (λ e. rw e (ap₂ (λ p q. p ⊕ q) (ap f (sym (eqb-true i n e))) (total-miss f i (suc n) k (let z = eqb-true i n e in omega arith)) ∙ no-flip (f i)))
-    (λ e. rw e (total-one f i (suc n) k (ne-lt i n e h) (omega arith)))
+xorSum-one : (f : ℕ → Bool) (i n k : ℕ) → n ≤ i → i < n + k → xorSum (range n k) (λ j. eqb i j && f j) ≡ f i
+xorSum-one f i n zero h l = absurd (omega arith)
+xorSum-one f i n (suc k) h l = cases (eqb i n)
+    (λ e. rw e (ap₂ (λ p q. p ⊕ q) (ap f (sym (eqb-true i n e))) (xorSum-miss f i (suc n) k (let z = eqb-true i n e in omega arith)) ∙ no-flip (f i)))
+    (λ e. rw e (xorSum-one f i (suc n) k (ne-lt i n e h) (omega arith)))
 
-total-others : (d i : ℕ) (f : ℕ → Bool) → i < d → (f i ⊕ total (others d i) f) ≡ total (labels d) f
-total-others d i f l =
+xorSum-others : (d i : ℕ) (f : ℕ → Bool) → i < d → (f i ⊕ xorSum (others d i) f) ≡ xorSum (labels d) f
+xorSum-others d i f l =
     let ne : ℕ → Bool = λ j. not (eqb i j) in
-    ap₂ (λ p q. p ⊕ q) (sym (total-one f i 0 d (omega arith) (omega arith))) (total-keep ne f (labels d))
-    ∙ sym (total-xor (λ j. eqb i j && f j) (λ j. ne j && f j) (labels d))
-    ∙ total-ext _ f (labels d) (λ j h. split (eqb i j) (f j))
+    ap₂ (λ p q. p ⊕ q) (sym (xorSum-one f i 0 d (omega arith) (omega arith))) (xorSum-keep ne f (labels d))
+    ∙ sym (xorSum-xor (λ j. eqb i j && f j) (λ j. ne j && f j) (labels d))
+    ∙ xorSum-ext _ f (labels d) (λ j h. split (eqb i j) (f j))
   where
     split : (p q : Bool) → ((p && q) ⊕ (not p && q)) ≡ q
     split true q = no-flip q
     split false q = refl
 
 -- a symmetric sum over all i and j ≠ i is 0
-total-symmetric : (t : ℕ → ℕ → Bool) → ((i : ℕ) → t i i ≡ false) → ((i j : ℕ) → t i j ≡ t j i) → (n k : ℕ) → total (range n k) (λ i. total (range n k) (t i)) ≡ false
-total-symmetric t z y n zero = refl
-total-symmetric t z y n (suc k) =
+xorSum-symmetric : (t : ℕ → ℕ → Bool) → ((i : ℕ) → t i i ≡ false) → ((i j : ℕ) → t i j ≡ t j i) → (n k : ℕ) → xorSum (range n k) (λ i. xorSum (range n k) (t i)) ≡ false
+xorSum-symmetric t z y n zero = refl
+xorSum-symmetric t z y n (suc k) =
     let xs = range (suc n) k in
     ap₂ (λ p q. p ⊕ q)
-    (ap (λ b. b ⊕ total xs (t n)) (z n))
-    (total-xor (λ i. t i n) (λ i. total xs (t i)) xs ∙ ap₂ (λ p q. p ⊕ q) (total-ext (λ i. t i n) (t n) xs (λ i h. y i n)) (total-symmetric t z y (suc n) k) ∙ no-flip (total xs (t n)))
-    ∙ xor-self (total xs (t n))
+    (ap (λ b. b ⊕ xorSum xs (t n)) (z n))
+    (xorSum-xor (λ i. t i n) (λ i. xorSum xs (t i)) xs ∙ ap₂ (λ p q. p ⊕ q) (xorSum-ext (λ i. t i n) (t n) xs (λ i h. y i n)) (xorSum-symmetric t z y (suc n) k) ∙ no-flip (xorSum xs (t n)))
+    ∙ xor-self (xorSum xs (t n))
 
 -- bits t(i,j) = t(j,i) for each two labels
 module _ (d : ℕ) (t : ℕ → ℕ → Bool) (same : (i j : ℕ) → eqb i j ≡ false → t i j ≡ t j i) where
-  cancel : total (labels d) (λ i. total (others d i) (t i)) ≡ false
+  cancel : xorSum (labels d) (λ i. xorSum (others d i) (t i)) ≡ false
   cancel =
       let off : ℕ → ℕ → Bool = λ i j. not (eqb i j) && t i j in
-      total-ext _ (λ i. total (labels d) (off i)) (labels d) (λ i h. total-keep (λ j. not (eqb i j)) (t i) (labels d))
-      ∙ total-symmetric off (λ i. rw (eqb-refl i)) (λ i j. cases (eqb i j) (λ e. rw (e, eqb-sym j i, e)) (λ e. rw (e, eqb-sym j i, e) (same i j e))) 0 d
+      xorSum-ext _ (λ i. xorSum (labels d) (off i)) (labels d) (λ i h. xorSum-keep (λ j. not (eqb i j)) (t i) (labels d))
+      ∙ xorSum-symmetric off (λ i. rw (eqb-refl i)) (λ i j. cases (eqb i j) (λ e. rw (e, eqb-sym j i, e)) (λ e. rw (e, eqb-sym j i, e) (same i j e))) 0 d
 
   -- REF: x(i) + the sum of the t(i,j) over j ≠ i
-  pub refreshed : (x : ℕ → Bool) → total (labels d) (λ i. x i ⊕ total (others d i) (t i)) ≡ total (labels d) x
-  refreshed x = total-xor x (λ i. total (others d i) (t i)) (labels d) ∙ ap (λ z. total (labels d) x ⊕ z) cancel ∙ no-flip (total (labels d) x)
+  pub refreshed : (x : ℕ → Bool) → xorSum (labels d) (λ i. x i ⊕ xorSum (others d i) (t i)) ≡ xorSum (labels d) x
+  refreshed x = xorSum-xor x (λ i. xorSum (others d i) (t i)) (labels d) ∙ ap (λ z. xorSum (labels d) x ⊕ z) cancel ∙ no-flip (xorSum (labels d) x)
 
   -- AND: x(i)·y(i) + the sums over j ≠ i of (not x(i))·t(i,j) and of x(i)·(y(j) + t(i,j))
   module _ (x y : ℕ → Bool) where
     abbrev pub output : ℕ → Bool
-    output i = (x i && y i) ⊕ (total (others d i) (λ j. not (x i) && t i j) ⊕ total (others d i) (λ j. x i && (y j ⊕ t i j)))
+    output i = (x i && y i) ⊕ (xorSum (others d i) (λ j. not (x i) && t i j) ⊕ xorSum (others d i) (λ j. x i && (y j ⊕ t i j)))
 
     gather : (p q z : Bool) → ((not p && z) ⊕ (p && (q ⊕ z))) ≡ (z ⊕ (p && q))
     gather true true true = refl
@@ -115,16 +115,16 @@ module _ (d : ℕ) (t : ℕ → ℕ → Bool) (same : (i j : ℕ) → eqb i j �
     gather false q true = refl
     gather false q false = refl
 
-    row : (i : ℕ) → i < d → output i ≡ (total (others d i) (t i) ⊕ (x i && total (labels d) y))
+    row : (i : ℕ) → i < d → output i ≡ (xorSum (others d i) (t i) ⊕ (x i && xorSum (labels d) y))
     row i l =
         let f : ℕ → Bool = λ j. x i && y j in
         ap (λ z. (x i && y i) ⊕ z)
-        (sym (total-xor (λ j. not (x i) && t i j) (λ j. x i && (y j ⊕ t i j)) (others d i))
-        ∙ total-ext _ (λ j. t i j ⊕ f j) (others d i) (λ j h. gather (x i) (y j) (t i j)) ∙ total-xor (t i) f (others d i))
-        ∙ xor-swap (x i && y i) (total (others d i) (t i)) (total (others d i) f)
-        ∙ ap (λ z. total (others d i) (t i) ⊕ z) (total-others d i f l ∙ total-and (x i) y (labels d))
+        (sym (xorSum-xor (λ j. not (x i) && t i j) (λ j. x i && (y j ⊕ t i j)) (others d i))
+        ∙ xorSum-ext _ (λ j. t i j ⊕ f j) (others d i) (λ j h. gather (x i) (y j) (t i j)) ∙ xorSum-xor (t i) f (others d i))
+        ∙ xor-swap (x i && y i) (xorSum (others d i) (t i)) (xorSum (others d i) f)
+        ∙ ap (λ z. xorSum (others d i) (t i) ⊕ z) (xorSum-others d i f l ∙ xorSum-and (x i) y (labels d))
 
-    pub multiplied : total (labels d) output ≡ (total (labels d) x && total (labels d) y)
-    multiplied = total-ext output (λ i. total (others d i) (t i) ⊕ (x i && total (labels d) y)) (labels d) (λ i h. row i (label-lt d i h))
-        ∙ total-xor (λ i. total (others d i) (t i)) (λ i. x i && total (labels d) y) (labels d)
-        ∙ ap₂ (λ p q. p ⊕ q) cancel (and-total x (total (labels d) y) (labels d))
+    pub multiplied : xorSum (labels d) output ≡ (xorSum (labels d) x && xorSum (labels d) y)
+    multiplied = xorSum-ext output (λ i. xorSum (others d i) (t i) ⊕ (x i && xorSum (labels d) y)) (labels d) (λ i h. row i (label-lt d i h))
+        ∙ xorSum-xor (λ i. xorSum (others d i) (t i)) (λ i. x i && xorSum (labels d) y) (labels d)
+        ∙ ap₂ (λ p q. p ⊕ q) cancel (and-total x (xorSum (labels d) y) (labels d))

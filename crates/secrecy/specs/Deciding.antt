@@ -1,4 +1,4 @@
--- Theorem A's statement: a few share indices decide how often a reading arises.
+-- The statement on share indices: a few share indices decide how often a reading arises.
 use mathlib.Core.Path.{_≡_}
 use mathlib.Core.Bool.{Bool, true, cond}
 use mathlib.Core.List.{List, _++_}
@@ -8,9 +8,9 @@ use lib.ListN.{length}
 use Rattle.circuit.specs.Lists.{mem}
 use Rattle.circuit.specs.Wires.{named}
 use Rattle.circuit.specs.Circuit.{Circuit, place}
-use Rattle.netlist.specs.Values.{bits, at, valuesOf}
-use Rattle.netlist.specs.Probes.{stops, sheet}
-use Rattle.netlist.specs.Counts.{sumOver, alike, different}
+use Rattle.semantics.specs.Values.{bits, at, valuesOf}
+use Rattle.semantics.specs.Probes.{stops, sheet}
+use Rattle.semantics.specs.Counts.{sumOver, alike, countDistinct}
 
 -- the number of tapes from which a reading arises, where the shares are given, and the wires `besides` are read beside what
 -- the probes read
@@ -34,7 +34,7 @@ pub record NamedIn (k : Circuit) (labels : List ℕ) (x : ℕ) : Type 0 where
 pub record Deciding (k : Circuit) (probes start : List ℕ) : Type 0 where
   pub indices : List ℕ
   pub from : (i : ℕ) → mem i start ≡ true → mem i indices ≡ true
-  pub few : length indices ≤ length start + different probes
+  pub few : length indices ≤ length start + countDistinct probes
   pub decide : (besides : List ℕ) → ((x : ℕ) → mem x besides ≡ true → NamedIn k start x)
       → (one other : List Bool) → AgreeAt (k .d) indices one other
       → (reading : List ℕ) → tapesFor k probes besides one reading ≡ tapesFor k probes besides other reading

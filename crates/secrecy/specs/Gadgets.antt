@@ -1,4 +1,4 @@
--- Theorem C's statement: the gadgets of an accepted table compute what they are named for.
+-- The statement on products: the gadgets of an accepted table compute what they are named for.
 use mathlib.Core.Path.{_≡_}
 use mathlib.Core.Bool.{Bool, _&&_}
 use mathlib.Core.List.{List, _∷_, _++_, map}
@@ -9,11 +9,11 @@ use Rattle.circuit.specs.Gadgets.{Part, labels, inAND, inREF}
 use Rattle.circuit.specs.Kinds.{AND, REF}
 use Rattle.circuit.specs.Circuit.{size, empty}
 use Rattle.circuit.specs.Composition.{Frame, frame, AllFit, build, wordsOf}
-use Rattle.netlist.specs.Values.{at, total}
+use Rattle.semantics.specs.Values.{at, xorSum}
 
 -- the sum modulo 2 of the values of d wires
 abbrev pub added : (d : ℕ) (wire : ℕ → ℕ) (values : List Bool) → Bool
-added d wire values = total (map wire (labels d)) (at values)
+added d wire values = xorSum (map wire (labels d)) (at values)
 
 -- the i-th output of a gadget behind the frames `before`, whose inner parts are these
 abbrev pub output : (d : ℕ) (before : List Frame) (inside : List Part) → ℕ → ℕ

@@ -1,3 +1,3 @@
--- What theorems A and C say. Theorem B's statement, `EqualCounts`, stands beside the meaning of circuits.
+-- What the theorems on share indices and products say. That on equal counts, `EqualCounts`, stands beside the meaning of circuits.
 pub mod Deciding
 pub mod Gadgets

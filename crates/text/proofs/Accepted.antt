@@ -8,7 +8,7 @@ use lib.Dec.{leb, eqb}
 use lib.ListN.{length, length-append}
 use borrow.Author.Tests.{eqb-true, leb-true}
 use Rattle.circuit.specs.Limits.{tableLimit}
-use Rattle.circuit.specs.Lists.{nth, each}
+use Rattle.circuit.specs.Lists.{nth, concatMap}
 use Rattle.circuit.specs.Kinds.{kindOf, words}
 use Rattle.circuit.specs.Rules.{Judgement, pass, refuse, need, _then_}
 use Rattle.circuit.proofs.Base.{and-left, and-right, Every}
@@ -40,7 +40,7 @@ pub record AcceptedText (text found : List ℕ) : Type 0 where
   pub least : 2 ≤ d
   pub most : d ≤ 8
   pub frames : Every (FrameLine d) later
-  pub exact : found ≡ each (linesOf text) wordsOf
+  pub exact : found ≡ concatMap (linesOf text) wordsOf
   pub short : length found ≤ tableLimit
 
 formed-line : (n : ℕ) (l : Line) → formRule n l ≡ pass → Formed l
@@ -71,7 +71,7 @@ onward-pass (refuse rule n w) found rest h = let z : _≡_ {A = ℕ} 0 1 = cc in
 -- the lines after the first
 record Lines (d : ℕ) (found : List ℕ) (ls : List Line) (read : Read) : Type 0 where
   pub frames : Every (FrameLine d) ls
-  pub exact : read .found ≡ found ++ each ls wordsOf
+  pub exact : read .found ≡ found ++ concatMap ls wordsOf
   pub short : length (read .found) ≤ tableLimit
 
 lines-pass : (room d n : ℕ) (found : List ℕ) (ls : List Line) → length found ≤ tableLimit
@@ -89,7 +89,7 @@ lines-pass room d n found (l ∷ ls) s h =
     subst (λ (x : Read). Lines d found (l ∷ ls) x) (sym (p .1))
     (record {
       frames = (frame-line-passes d n l (q .0), r .frames);
-      exact = r .exact ∙ append-assoc found (wordsOf l) (each ls wordsOf);
+      exact = r .exact ∙ append-assoc found (wordsOf l) (concatMap ls wordsOf);
       short = r .short;
     })
 
@@ -111,7 +111,7 @@ all-pass room text (l ∷ ls) f h =
     let q = both-pass (headLineRule l) (roomRule room 0 (length ws)) (p .0) in
     let form = both-pass (formRule 0 l) (headRule then orderRule) (q .0) in
     let two = then-pass (eqb (length ws) 2 && eqb (nth ws 0) 0) 3 0 0 orderRule (form .1) in
-    let order = need-pass (leb 2 d && leb d 8) 4 0 1 (two .1) in
+    let shareCount = need-pass (leb 2 d && leb d 8) 4 0 1 (two .1) in
     let r = lines-pass room d 1 ws ls (room-passes room 0 (length ws) (q .1) .1) (sym (ap (λ (x : Read). x .judgement) (p .1)) ∙ h) in
     subst (λ (x : Read). AcceptedText text (x .found)) (sym (p .1))
     (record {
@@ -122,10 +122,10 @@ all-pass room text (l ∷ ls) f h =
       form = formed-line 0 l (form .0);
       head = two-words ws (eqb-true (length ws) 2 (and-left (eqb (length ws) 2) (eqb (nth ws 0) 0) (two .0)))
           (eqb-true (nth ws 0) 0 (and-right (eqb (length ws) 2) (eqb (nth ws 0) 0) (two .0)));
-      least = leb-true 2 d (and-left (leb 2 d) (leb d 8) order);
-      most = leb-true d 8 (and-right (leb 2 d) (leb d 8) order);
+      least = leb-true 2 d (and-left (leb 2 d) (leb d 8) shareCount);
+      most = leb-true d 8 (and-right (leb 2 d) (leb d 8) shareCount);
       frames = r .frames;
-      exact = r .exact ∙ ap (λ (x : List Line). each x wordsOf) (sym f);
+      exact = r .exact ∙ ap (λ (x : List Line). concatMap x wordsOf) (sym f);
       short = r .short;
     })
 

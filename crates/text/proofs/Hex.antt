@@ -10,7 +10,7 @@ use lib.Seq.{drop-cons}
 use borrow.Author.Tests.{leb-true, le-leb, lt-leb}
 use Rattle.circuit.proofs.Base.{cases, and-left, and-right}
 use Rattle.text.specs.Lines.{isDecimal, isLetter, isDigit, digit, areDigits, word}
-use Rattle.text.specs.Scan.{digitCode, upperCode, valueOf, valueIn}
+use Rattle.text.specs.Internal.Scan.{digitCode, upperCode, valueOf, valueIn}
 
 digit-small : (b : ℕ) → isDigit b ≡ true → digit b ≤ 15
 digit-small b h = cases (isDecimal b)

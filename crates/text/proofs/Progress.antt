@@ -15,7 +15,7 @@ use Rattle.circuit.proofs.Base.{and-left, and-right}
 use Rattle.text.specs.Lines.{linesOf}
 use Rattle.text.specs.Reader.{onward, frameLines, readText, roomRule}
 use Rattle.text.specs.Answer.{tableAfter}
-use Rattle.text.specs.Scan.{valueIn, countFrom, wordsAt, ruled, headByCount, frameByCount}
+use Rattle.text.specs.Internal.Scan.{valueIn, countFrom, wordsAt, ruled, headByCount, frameByCount}
 use Rattle.text.proofs.Reading.{then-pass, need-pass, words-length, stop, frame-line, head-line, line-fits}
 
 -- at the head of the loop: the answer is that of the lines from here on, and the table is touched only up to `stored`

@@ -9,7 +9,7 @@ use borrow.Author.Tests.{lt-ltb}
 use Rattle.circuit.specs.Rules.{Judgement, pass, need, _then_}
 use Rattle.text.specs.Lines.{Line, linesOf, areWords}
 use Rattle.text.specs.Reader.{Read, onward, wordsOf, frameLines, allLines, readText}
-use Rattle.text.specs.Scan.{valueIn, countFrom, wordsAt, headByCount, frameByCount}
+use Rattle.text.specs.Internal.Scan.{valueIn, countFrom, wordsAt, headByCount, frameByCount}
 use Rattle.text.proofs.Splitting.{firstLine, afterLine, lines-split, Told, unformed, formed, told}
 
 -- judgements that pass

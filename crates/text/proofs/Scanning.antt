@@ -12,11 +12,11 @@ use Rattle.circuit.proofs.Base.{cases}
 use Rattle.circuit.proofs.Sizes.{labels-map}
 use Rattle.circuit.specs.Limits.{tableLimit}
 use Rattle.circuit.specs.Circuit.{empty}
-use Rattle.circuit.specs.Kinds.{Kind, HEAD, IN, CON, XOR, NOT, REG, AND, REF, OUT, order, share, before, row, shape, kindOf, words}
+use Rattle.circuit.specs.Kinds.{Kind, HEAD, IN, CON, XOR, NOT, REG, AND, REF, OUT, shareCount, share, before, row, shape, kindOf, words}
 use Rattle.circuit.specs.Rules.{Judgement, pass, refuse, need, _then_, wordRule}
 use Rattle.text.specs.Lines.{lineFeed, space, areDigits}
 use Rattle.text.specs.Reader.{roomRule}
-use Rattle.text.specs.Scan.{valueIn, countFrom, behindLine, wordsAt, limitOf, ruled, headWord, headByCount, frameByCount}
+use Rattle.text.specs.Internal.Scan.{valueIn, countFrom, behindLine, wordsAt, limitOf, ruled, headWord, headByCount, frameByCount}
 use Rattle.text.proofs.Hex.{five}
 
 short-count : (n : ℕ) (bytes : List ℕ) → length bytes < 5 → countFrom n bytes ≡ 0
@@ -93,7 +93,7 @@ limit-least room stored h k = cases (leb room tableLimit) (λ e. rw e h) (λ e. 
 pub same-head : (room size count kind d : ℕ) → headByCount (limitOf room) size count kind d ≡ headByCount room size count kind d
 same-head room size count kind d =
     ap (λ (j : Judgement). need (ltb 0 size) 3 0 0
-    then (need (ltb 0 count) 20 0 0 then need (eqb count 2 && eqb kind 0) 3 0 0 then wordRule (empty 0) 0 [] order 1 d)
+    then (need (ltb 0 count) 20 0 0 then need (eqb count 2 && eqb kind 0) 3 0 0 then wordRule (empty 0) 0 [] shareCount 1 d)
     then j) (same-room room 0 count)
 
 pub same-frame : (room d n stored kind count : ℕ) → frameByCount (limitOf room) d n stored kind count ≡ frameByCount room d n stored kind count

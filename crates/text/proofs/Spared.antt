@@ -9,9 +9,9 @@ use lib.Dec.{leb, ltb, eqb}
 use lib.ListN.{length, take, length-append}
 use borrow.Author.Tests.{le-leb}
 use Rattle.circuit.specs.Limits.{tableLimit, notesRoom, stageLimit, wireLimit}
-use Rattle.circuit.specs.Lists.{nth, each}
+use Rattle.circuit.specs.Lists.{nth, concatMap}
 use Rattle.circuit.specs.Gadgets.{labels}
-use Rattle.circuit.specs.Kinds.{Kind, HEAD, IN, CON, XOR, NOT, REG, AND, REF, OUT, kindOf, WordRule, order, label, value, stage, random, like, share, before, row, shape, words}
+use Rattle.circuit.specs.Kinds.{Kind, HEAD, IN, CON, XOR, NOT, REG, AND, REF, OUT, kindOf, WordRule, shareCount, label, value, stage, random, like, share, before, row, shape, words}
 use Rattle.circuit.specs.Circuit.{Circuit, size, empty, place, labelOf, stageShown, newStage, extend}
 use Rattle.circuit.specs.Rules.{Judgement, pass, refuse, need, _then_, isNamed, wireRule, wordRule, wordsRule, frameRule, Checked, onward, frames, headRule, checked}
 use Rattle.circuit.proofs.Base.{Every, every-map, every-append}
@@ -38,7 +38,7 @@ past-onward (refuse rule f w) k rest p q = p
 
 -- the rule of d stands on HEAD alone
 abbrev NotOrder : WordRule → Type 0
-NotOrder order = ⊥
+NotOrder shareCount = ⊥
 NotOrder label = Unit {0}
 NotOrder value = Unit {0}
 NotOrder stage = Unit {0}
@@ -105,7 +105,7 @@ module _ (k : Circuit) (f : ℕ) (ops : List ℕ) where
       (past-then (need labelRight 10 f w) (need stageRight 11 f w) (past-need labelRight 10 f w (omega arith)) (past-need stageRight 11 f w (omega arith))))
 
   past-word : (r : WordRule) (w x : ℕ) → NotOrder r → PastSix (wordRule k f ops r w x)
-  past-word order w x h = absurd h
+  past-word shareCount w x h = absurd h
   past-word label w x h = past-need (ltb x (k .d)) 7 f w (omega arith)
   past-word value w x h = past-need (leb x 1) 7 f w (omega arith)
   past-word stage w x h = past-need (leb x stageLimit) 7 f w (omega arith)
@@ -127,12 +127,12 @@ past-frame k f x rest h l n =
     let kind = kindOf x in
     let ops = take (words (k .d) kind) rest in
     let stageRule = need (leb (newStage k ops kind) stageLimit) 13 f 0 in
-    let sizeRule = need (leb (size k + shape (k .d) kind .makes) wireLimit) 14 f 0 in
+    let sizeRule = need (leb (size k + shape (k .d) kind .wires) wireLimit) 14 f 0 in
     rw (le-leb 1 x h, le-leb x 8 l, le-leb (words (k .d) kind) (length rest) n)
     (past-then (wordsRule k f ops 1 (shape (k .d) kind .rules) ops) (stageRule then sizeRule)
     (past-words k f ops 1 (shape (k .d) kind .rules) ops (no-order (k .d) kind (not-head x h l)))
     (past-then stageRule sizeRule (past-need (leb (newStage k ops kind) stageLimit) 13 f 0 (omega arith))
-    (past-need (leb (size k + shape (k .d) kind .makes) wireLimit) 14 f 0 (omega arith))))
+    (past-need (leb (size k + shape (k .d) kind .wires) wireLimit) 14 f 0 (omega arith))))
 
 -- the words of a frame that is judged are passed over
 passed-over : (k : Circuit) (f : ℕ) (ops rest : List ℕ) → frames k f (length ops) (ops ++ rest) ≡ frames k f 0 rest
@@ -154,12 +154,12 @@ past-line k f (x ∷ ops) rest h l n next =
     (past-frame k f x (ops ++ rest) h l (simp length-append (omega arith)))
     (subst (λ (r : Checked). PastSix (r .judgement)) (sym further) (next k′ refl))
 
-past-lines : (ls : List Line) (d : ℕ) → Every (FrameLine d) ls → (k : Circuit) (f : ℕ) → k .d ≡ d → PastSix (frames k f 0 (each ls wordsOf) .judgement)
+past-lines : (ls : List Line) (d : ℕ) → Every (FrameLine d) ls → (k : Circuit) (f : ℕ) → k .d ≡ d → PastSix (frames k f 0 (concatMap ls wordsOf) .judgement)
 unfolding frames
 past-lines [] d h k f e = tt
 past-lines (l ∷ ls) d h k f e =
     let g = h .0 in
-    past-line k f (wordsOf l) (each ls wordsOf) (g .least) (g .most)
+    past-line k f (wordsOf l) (concatMap ls wordsOf) (g .least) (g .most)
     (g .count ∙ ap (λ (m : ℕ). suc (words m (kindOf (nth (wordsOf l) 0)))) (sym e))
     (λ k′ e′. past-lines ls d (h .1) k′ (suc f) (e′ ∙ e))
 
@@ -174,9 +174,9 @@ pub spared : (text : List ℕ) (room notes : ℕ) → readText text room .judgem
     → PastSix (checked (readText text room .found) notes .judgement)
 spared text room notes h n =
     let a = text-accepted text room h in
-    let rest = each (a .later) wordsOf in
+    let rest = concatMap (a .later) wordsOf in
     let table : readText text room .found ≡ 0 ∷ a .d ∷ rest
-    = a .exact ∙ ap (λ (ls : List Line). each ls wordsOf) (a .lines) ∙ ap (λ (ws : List ℕ). ws ++ rest) (a .head) in
+    = a .exact ∙ ap (λ (ls : List Line). concatMap ls wordsOf) (a .lines) ∙ ap (λ (ws : List ℕ). ws ++ rest) (a .head) in
     subst (λ (t : List ℕ). PastSix (checked t notes .judgement)) (sym table)
     (past-table (a .d) rest notes n (a .least) (a .most) (subst (λ (t : List ℕ). length t ≤ tableLimit) table (a .short))
     (past-lines (a .later) (a .d) (a .frames) (empty (a .d)) 1 refl))

@@ -9,7 +9,7 @@ use lib.ListN.{length, drop}
 use borrow.Author.Tests.{eqb-true, ne-eqb}
 use Rattle.circuit.proofs.Base.{cases, and-left, and-right}
 use Rattle.text.specs.Lines.{lineFeed, space, isDigit, areDigits, word, Line, line, grow, linesOf, areWords, wordsOn}
-use Rattle.text.specs.Scan.{valueIn, countFrom, wordsAt}
+use Rattle.text.specs.Internal.Scan.{valueIn, countFrom, wordsAt}
 use Rattle.text.proofs.Hex.{word-value}
 
 pub firstLine : List ℕ → Line

@@ -8,7 +8,7 @@ use lib.Dec.{ltb, eqb}
 use lib.ListN.{length, getD}
 use borrow.Author.Tests.{eqb-true, lt-ltb, le-ltb}
 use Rattle.circuit.proofs.Base.{and-left, and-right}
-use Rattle.text.specs.Scan.{digitCode, upperCode, codeTable}
+use Rattle.text.specs.Internal.Scan.{digitCode, upperCode, codeTable}
 
 -- whether a test passes at each entry and its place, counted from i
 abbrev pub every : (ℕ → ℕ → Bool) → ℕ → List ℕ → Bool
@@ -21,8 +21,8 @@ entry f (x ∷ xs) i t zero h = subst (λ (m : ℕ). f m x ≡ true) (omega arit
 entry f (x ∷ xs) i t (suc k) h =
     subst (λ (m : ℕ). f m (getD xs k 0) ≡ true) (omega arith) (entry f xs (suc i) (and-right (f i x) (every f (suc i) xs) t) k (omega arith))
 
-pub each-entry : (f : ℕ → ℕ → Bool) (xs : List ℕ) → every f 0 xs ≡ true → (k : ℕ) → k < length xs → f k (getD xs k 0) ≡ true
-each-entry f xs t k h = subst (λ (m : ℕ). f m (getD xs k 0) ≡ true) (omega arith) (entry f xs 0 t k h)
+pub concatMap-entry : (f : ℕ → ℕ → Bool) (xs : List ℕ) → every f 0 xs ≡ true → (k : ℕ) → k < length xs → f k (getD xs k 0) ≡ true
+concatMap-entry f xs t k h = subst (λ (m : ℕ). f m (getD xs k 0) ≡ true) (omega arith) (entry f xs 0 t k h)
 
 -- the codes of a byte
 codeAt : ℕ → ℕ
@@ -33,7 +33,7 @@ right k x = eqb x (codeAt k)
 
 code-entry : (k : ℕ) → k < 512 → getD codeTable k 0 ≡ codeAt k
 unfolding right codeAt codeTable digitCode upperCode
-code-entry k h = eqb-true (getD codeTable k 0) (codeAt k) (each-entry right codeTable refl k h)
+code-entry k h = eqb-true (getD codeTable k 0) (codeAt k) (concatMap-entry right codeTable refl k h)
 
 pub digit-entry : (b : ℕ) → b < 256 → getD codeTable b 0 ≡ digitCode b
 unfolding codeAt

@@ -6,7 +6,7 @@ use lib.Dec.{leb, eqb}
 use lib.ListN.{length}
 use Rattle.circuit.specs.Limits.{tableLimit}
 use Rattle.circuit.specs.Lists.{nth}
-use Rattle.circuit.specs.Kinds.{kindOf, words, order}
+use Rattle.circuit.specs.Kinds.{kindOf, words, shareCount}
 use Rattle.circuit.specs.Circuit.{empty}
 use Rattle.circuit.specs.Rules.{Judgement, pass, refuse, need, _then_, wordRule}
 use Rattle.text.specs.Lines.{Line, linesOf, areWords, wordsOn}
@@ -31,7 +31,7 @@ formRule n l = need (l .ended && areWords (l .content)) 20 n 0
 abbrev pub headLineRule : Line → Judgement
 headLineRule l = formRule 0 l
     then need (eqb (length (wordsOf l)) 2 && eqb (nth (wordsOf l) 0) 0) 3 0 0
-    then wordRule (empty 0) 0 [] order 1 (nth (wordsOf l) 1)
+    then wordRule (empty 0) 0 [] shareCount 1 (nth (wordsOf l) 1)
 
 -- a later line, once d is known: 5, its kind; 6, the kind's number of words
 abbrev pub frameLineRule : (d n : ℕ) → Line → Judgement

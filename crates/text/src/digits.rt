@@ -3,7 +3,7 @@ ghost use mathlib.Core.Path.{_≡_};
 ghost use Prim.Native.Nat.{_+_, _≤_};
 ghost use lib.ListN.{length, getD, drop};
 ghost use Rattle.text.specs.Lines.{areDigits};
-ghost use Rattle.text.specs.Scan.{digitCode, upperCode, codeTable, valueIn};
+ghost use Rattle.text.specs.Internal.Scan.{digitCode, upperCode, codeTable, valueIn};
 
 // By a byte, the value of a digit 0-9A-F, and 63 for another byte, which is more than four digits have together; then, by a
 // byte again, sixteen times the value of a digit, and 0 for another byte.

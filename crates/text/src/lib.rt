@@ -2,8 +2,8 @@
 ghost use mathlib.Core.Path.{_≡_};
 ghost use lib.ListN.{length};
 ghost use Rattle.text.specs.Reader.{readText};
-ghost use Rattle.text.specs.Answer.{said, textAnswerOf, tableAfter};
-ghost use Rattle.text.specs.Scan.{codeTable};
+ghost use Rattle.text.specs.Answer.{textAnswer, textAnswerOf, tableAfter};
+ghost use Rattle.text.specs.Internal.Scan.{codeTable};
 
 mod digits;
 mod line;
@@ -24,7 +24,7 @@ pub enum TextVerdict {
 
 // The text read line by line. A line's words are stored once it breaks no rule.
 pub fn read(text: &[u8], table: &mut [u16]) -> TextVerdict
-    ensures answered { λ r. ⌜ said r ≡ textAnswerOf (now (text .entry)) (length (now (table .entry))) ⌝ }
+    ensures answered { λ r. ⌜ textAnswer r ≡ textAnswerOf (now (text .entry)) (length (now (table .entry))) ⌝ }
     ensures stored { λ _. ⌜ now (table .exit) ≡ tableAfter (readText (now (text .entry)) (length (now (table .entry)))) (now (table .entry)) ⌝ }
 {
     let codes = digits::codes();
@@ -34,7 +34,7 @@ pub fn read(text: &[u8], table: &mut [u16]) -> TextVerdict
 // The same, by the codes of the bytes.
 fn read_by(codes: &[u8; 512], text: &[u8], table: &mut [u16]) -> TextVerdict
     requires { ⌜ now codes ≡ codeTable ⌝ }
-    ensures answered { λ r. ⌜ said r ≡ textAnswerOf (now (text .entry)) (length (now (table .entry))) ⌝ }
+    ensures answered { λ r. ⌜ textAnswer r ≡ textAnswerOf (now (text .entry)) (length (now (table .entry))) ⌝ }
     ensures stored { λ _. ⌜ now (table .exit) ≡ tableAfter (readText (now (text .entry)) (length (now (table .entry)))) (now (table .entry)) ⌝ }
 {
     let room = rules::limit(table.len());

@@ -3,7 +3,7 @@ ghost use mathlib.Core.Path.{_≡_};
 ghost use Prim.Native.Nat.{_+_, _*_, _-_, _/_, _≤_};
 ghost use lib.ListN.{length, drop};
 ghost use lib.Seq.{sets};
-ghost use Rattle.text.specs.Scan.{codeTable, countFrom, behindLine, wordsAt};
+ghost use Rattle.text.specs.Internal.Scan.{codeTable, countFrom, behindLine, wordsAt};
 use super::digits;
 
 // The place behind the line at a place; 0 where the line is not of the form. Each word is four digits and a byte behind them,

@@ -3,10 +3,10 @@ ghost use mathlib.Core.Path.{_≡_};
 ghost use Prim.Native.Nat.{ℕ, _+_, _*_, _≤_};
 ghost use lib.ListN.{length, drop};
 ghost use Rattle.text.specs.Reader.{roomRule};
-ghost use Rattle.text.specs.Scan.{codeTable, limitOf, ruled, headWord, countFrom, behindLine, valueIn, headByCount, frameByCount};
+ghost use Rattle.text.specs.Internal.Scan.{codeTable, limitOf, ruled, headWord, countFrom, behindLine, valueIn, headByCount, frameByCount};
 use super::digits;
 use super::line;
-use checker::kinds;
+use frames::kinds;
 
 // How many words are stored at most: as many as the table has room for, and 8,192.
 pub(crate) fn limit(room: usize) -> usize

@@ -8,10 +8,10 @@ use Rattle.circuit.specs.Lists.{nth}
 use Rattle.circuit.specs.Rules.{checked}
 use Rattle.circuit.specs.Answer.{accepted, refused, answer, verdictOf}
 use Rattle.checker.specs.declared.Verdict.{Verdict}
-use Rattle.checker.specs.Said.{said, inputsAre}
+use Rattle.checker.specs.Answers.{answerOf, inputsAre}
 use Rattle.evaluation.proofs.judge.Statement.{statement}
 use Rattle.evaluation.proofs.judge.Tie as tie
-use Rattle.evaluation.specs.Refusing.{MissingFirst}
+use Rattle.evaluation.specs.Internal.Refusing.{MissingFirst}
 use Rattle.evaluation.proofs.Answering.{answer-pass, refused-first, headed, order-is, shares-few, rule15, rule16, rule17, rule18-shares, rule18-tape, rule19, all-pass}
 
 returns : tie.Need-returns
@@ -19,8 +19,8 @@ returns c =
     let a = c .before .before .before .before .before .before .before .before .before .before .before .args in
     let N = length (a .notes .now) in
     let e = c .enum-told .given in
-    let told : refused (e .0 .0) (e .0 .1 .0) (e .0 .1 .1 .0) ≡ verdictOf (a .table .now) N = sym (ap said (e .1)) ∙ c .before .before .before .before .check .ensures .0 in
-    record { answers = λ sheets h. ap said (e .1) ∙ refused-first (a .table .now) (a .notes .now) (a .shares .now) (a .tape .now) sheets (a .probes .now) told; noted = c .before .before .before .before .check .ensures .1 .0 }
+    let told : refused (e .0 .0) (e .0 .1 .0) (e .0 .1 .1 .0) ≡ verdictOf (a .table .now) N = sym (ap answerOf (e .1)) ∙ c .before .before .before .before .check .ensures .0 in
+    record { answers = λ sheets h. ap answerOf (e .1) ∙ refused-first (a .table .now) (a .notes .now) (a .shares .now) (a .tape .now) sheets (a .probes .now) told; noted = c .before .before .before .before .check .ensures .1 .0 }
 
 shared-slice-read-if1 : tie.Need-shared-slice-read-if1
 shared-slice-read-if1 c =
@@ -29,7 +29,7 @@ shared-slice-read-if1 c =
     let table = a .table .now in
     let v = c .before .before .verdict .given in
     let k = checked table N .circuit in
-    let told : accepted (v .0 .0) (v .0 .1 .0) (v .0 .1 .1 .0) ≡ verdictOf table N = sym (ap said (v .1)) ∙ c .before .before .before .before .before .before .check .ensures .0 in
+    let told : accepted (v .0 .0) (v .0 .1 .0) (v .0 .1 .1 .0) ≡ verdictOf table N = sym (ap answerOf (v .1)) ∙ c .before .before .before .before .before .before .check .ensures .0 in
     let (p, wires, randoms) = answer-pass k (checked table N .judgement) told in
     omega (arith, headed table N p)
 
@@ -43,7 +43,7 @@ mul-if1 c =
     let table = a .table .now in
     let v = c .before .before .verdict .given in
     let k = checked table N .circuit in
-    let told : accepted (v .0 .0) (v .0 .1 .0) (v .0 .1 .1 .0) ≡ verdictOf table N = sym (ap said (v .1)) ∙ c .before .before .before .before .before .before .check .ensures .0 in
+    let told : accepted (v .0 .0) (v .0 .1 .0) (v .0 .1 .1 .0) ≡ verdictOf table N = sym (ap answerOf (v .1)) ∙ c .before .before .before .before .before .before .check .ensures .0 in
     let (p, wires, randoms) = answer-pass k (checked table N .judgement) told in
     let inputs : v .0 .1 .1 .1 .0 ≡ k .inputs = subst (λ (r : Verdict). inputsAre r (k .inputs)) (v .1) (c .before .before .before .before .before .before .check .ensures .1 .1) in
     let asked : v .0 .1 .1 .1 .0 * nth table 1 ≡ k .inputs * k .d = ap₂ (λ x y. x * y) inputs (order-is table N p) in
@@ -56,7 +56,7 @@ returns-2 c =
     let table = a .table .now in
     let v = c .before .before .before .before .verdict .given in
     let k = checked table N .circuit in
-    let told : accepted (v .0 .0) (v .0 .1 .0) (v .0 .1 .1 .0) ≡ verdictOf table N = sym (ap said (v .1)) ∙ c .before .before .before .before .before .before .before .before .check .ensures .0 in
+    let told : accepted (v .0 .0) (v .0 .1 .0) (v .0 .1 .1 .0) ≡ verdictOf table N = sym (ap answerOf (v .1)) ∙ c .before .before .before .before .before .before .before .before .check .ensures .0 in
     let (p, wires, randoms) = answer-pass k (checked table N .judgement) told in
     let inputs : v .0 .1 .1 .1 .0 ≡ k .inputs = subst (λ (r : Verdict). inputsAre r (k .inputs)) (v .1) (c .before .before .before .before .before .before .before .before .check .ensures .1 .1) in
     let asked : v .0 .1 .1 .1 .0 * nth table 1 ≡ k .inputs * k .d = ap₂ (λ x y. x * y) inputs (order-is table N p) in
@@ -69,7 +69,7 @@ returns-3 c =
     let table = a .table .now in
     let v = c .before .before .before .before .before .verdict .given in
     let k = checked table N .circuit in
-    let told : accepted (v .0 .0) (v .0 .1 .0) (v .0 .1 .1 .0) ≡ verdictOf table N = sym (ap said (v .1)) ∙ c .before .before .before .before .before .before .before .before .before .check .ensures .0 in
+    let told : accepted (v .0 .0) (v .0 .1 .0) (v .0 .1 .1 .0) ≡ verdictOf table N = sym (ap answerOf (v .1)) ∙ c .before .before .before .before .before .before .before .before .before .check .ensures .0 in
     let (p, wires, randoms) = answer-pass k (checked table N .judgement) told in
     let inputs : v .0 .1 .1 .1 .0 ≡ k .inputs = subst (λ (r : Verdict). inputsAre r (k .inputs)) (v .1) (c .before .before .before .before .before .before .before .before .before .check .ensures .1 .1) in
     let asked : v .0 .1 .1 .1 .0 * nth table 1 ≡ k .inputs * k .d = ap₂ (λ x y. x * y) inputs (order-is table N p) in
@@ -83,7 +83,7 @@ returns-4 c =
     let table = a .table .now in
     let v = c .before .before .before .before .before .before .verdict .given in
     let k = checked table N .circuit in
-    let told : accepted (v .0 .0) (v .0 .1 .0) (v .0 .1 .1 .0) ≡ verdictOf table N = sym (ap said (v .1)) ∙ c .before .before .before .before .before .before .before .before .before .before .check .ensures .0 in
+    let told : accepted (v .0 .0) (v .0 .1 .0) (v .0 .1 .1 .0) ≡ verdictOf table N = sym (ap answerOf (v .1)) ∙ c .before .before .before .before .before .before .before .before .before .before .check .ensures .0 in
     let (p, wires, randoms) = answer-pass k (checked table N .judgement) told in
     let inputs : v .0 .1 .1 .1 .0 ≡ k .inputs = subst (λ (r : Verdict). inputsAre r (k .inputs)) (v .1) (c .before .before .before .before .before .before .before .before .before .before .check .ensures .1 .1) in
     let asked : v .0 .1 .1 .1 .0 * nth table 1 ≡ k .inputs * k .d = ap₂ (λ x y. x * y) inputs (order-is table N p) in
@@ -98,7 +98,7 @@ returns-5 c =
     let table = a .table .now in
     let v = c .before .before .before .before .before .before .before .before .verdict .given in
     let k = checked table N .circuit in
-    let told : accepted (v .0 .0) (v .0 .1 .0) (v .0 .1 .1 .0) ≡ verdictOf table N = sym (ap said (v .1)) ∙ c .before .before .before .before .before .before .before .before .before .before .before .before .check .ensures .0 in
+    let told : accepted (v .0 .0) (v .0 .1 .0) (v .0 .1 .1 .0) ≡ verdictOf table N = sym (ap answerOf (v .1)) ∙ c .before .before .before .before .before .before .before .before .before .before .before .before .check .ensures .0 in
     let (p, wires, randoms) = answer-pass k (checked table N .judgement) told in
     let inputs : v .0 .1 .1 .1 .0 ≡ k .inputs = subst (λ (r : Verdict). inputsAre r (k .inputs)) (v .1) (c .before .before .before .before .before .before .before .before .before .before .before .before .check .ensures .1 .1) in
     let asked : v .0 .1 .1 .1 .0 * nth table 1 ≡ k .inputs * k .d = ap₂ (λ x y. x * y) inputs (order-is table N p) in
@@ -116,7 +116,7 @@ returns-6 c =
     let table = a .table .now in
     let v = c .before .before .before .before .before .before .before .before .before .before .verdict .given in
     let k = checked table N .circuit in
-    let told : accepted (v .0 .0) (v .0 .1 .0) (v .0 .1 .1 .0) ≡ verdictOf table N = sym (ap said (v .1)) ∙ c .before .before .before .before .before .before .before .before .before .before .before .before .before .before .check .ensures .0 in
+    let told : accepted (v .0 .0) (v .0 .1 .0) (v .0 .1 .1 .0) ≡ verdictOf table N = sym (ap answerOf (v .1)) ∙ c .before .before .before .before .before .before .before .before .before .before .before .before .before .before .check .ensures .0 in
     let (p, wires, randoms) = answer-pass k (checked table N .judgement) told in
     let inputs : v .0 .1 .1 .1 .0 ≡ k .inputs = subst (λ (r : Verdict). inputsAre r (k .inputs)) (v .1) (c .before .before .before .before .before .before .before .before .before .before .before .before .before .before .check .ensures .1 .1) in
     let asked : v .0 .1 .1 .1 .0 * nth table 1 ≡ k .inputs * k .d = ap₂ (λ x y. x * y) inputs (order-is table N p) in
@@ -131,7 +131,7 @@ returns-7 c =
     let table = a .table .now in
     let v = c .before .before .before .before .before .before .before .before .before .before .before .before .verdict .given in
     let k = checked table N .circuit in
-    let told : accepted (v .0 .0) (v .0 .1 .0) (v .0 .1 .1 .0) ≡ verdictOf table N = sym (ap said (v .1)) ∙ c .before .before .before .before .before .before .before .before .before .before .before .before .before .before .before .before .check .ensures .0 in
+    let told : accepted (v .0 .0) (v .0 .1 .0) (v .0 .1 .1 .0) ≡ verdictOf table N = sym (ap answerOf (v .1)) ∙ c .before .before .before .before .before .before .before .before .before .before .before .before .before .before .before .before .check .ensures .0 in
     let (p, wires, randoms) = answer-pass k (checked table N .judgement) told in
     let inputs : v .0 .1 .1 .1 .0 ≡ k .inputs = subst (λ (r : Verdict). inputsAre r (k .inputs)) (v .1) (c .before .before .before .before .before .before .before .before .before .before .before .before .before .before .before .before .check .ensures .1 .1) in
     let asked : v .0 .1 .1 .1 .0 * nth table 1 ≡ k .inputs * k .d = ap₂ (λ x y. x * y) inputs (order-is table N p) in
@@ -146,7 +146,7 @@ returns-8 c =
     let table = a .table .now in
     let v = c .before .before .before .before .before .before .before .before .before .before .before .verdict .given in
     let k = checked table N .circuit in
-    let told : accepted (v .0 .0) (v .0 .1 .0) (v .0 .1 .1 .0) ≡ verdictOf table N = sym (ap said (v .1)) ∙ c .before .before .before .before .before .before .before .before .before .before .before .before .before .before .before .check .ensures .0 in
+    let told : accepted (v .0 .0) (v .0 .1 .0) (v .0 .1 .1 .0) ≡ verdictOf table N = sym (ap answerOf (v .1)) ∙ c .before .before .before .before .before .before .before .before .before .before .before .before .before .before .before .check .ensures .0 in
     let (p, wires, randoms) = answer-pass k (checked table N .judgement) told in
     let inputs : v .0 .1 .1 .1 .0 ≡ k .inputs = subst (λ (r : Verdict). inputsAre r (k .inputs)) (v .1) (c .before .before .before .before .before .before .before .before .before .before .before .before .before .before .before .check .ensures .1 .1) in
     let asked : v .0 .1 .1 .1 .0 * nth table 1 ≡ k .inputs * k .d = ap₂ (λ x y. x * y) inputs (order-is table N p) in

@@ -10,17 +10,17 @@ use Rattle.circuit.specs.Limits.{wireLimit}
 use Rattle.circuit.specs.Lists.{nth, mem}
 use Rattle.circuit.specs.Circuit.{isSet, size}
 use Rattle.circuit.proofs.Base.{In}
-use Rattle.netlist.specs.Values.{bits, valuesOf}
-use Rattle.netlist.specs.Probes.{stops}
-use Rattle.netlist.specs.Calls.{circuitOf, written, valueBytes, readingBytes}
+use Rattle.semantics.specs.Values.{bits, valuesOf}
+use Rattle.semantics.specs.Probes.{stops}
+use Rattle.semantics.specs.Calls.{circuitOf, written, valueBytes, readingBytes}
 use Rattle.secrecy.proofs.Accepted.{equal-counts}
-use Rattle.checker.specs.Said.{said}
-use Rattle.evaluation.specs.Calling.{Shortest}
+use Rattle.checker.specs.Answers.{answerOf}
+use Rattle.evaluation.specs.Internal.Calling.{Shortest}
 use Rattle.evaluation.proofs.read_probes.Statement.{statement}
 use Rattle.evaluation.proofs.read_probes.Tie as tie
 use Rattle.evaluation.proofs.Answering.{Passed, passed, left, two-sheets, sheet-room, probes-made, probe-made}
-use Rattle.evaluation.proofs.Evaluating.{values-length}
-use Rattle.evaluation.proofs.Showing.{marked-probes, reading-is, unmarked}
+use Rattle.simulation.proofs.Evaluating.{values-length}
+use Rattle.simulation.proofs.Showing.{marked-probes, reading-is, unmarked}
 
 -- behind the judgement: the two sheets, the shorter of which is as long as the code found
 abbrev start : tie.After-judge → tie.Start
@@ -104,7 +104,7 @@ returns-2 c =
     let p = passes v in
     let k = circuitOf (a .table .now) (a .notes .now) in
     let new = c .before .before .before .before .before .before .before .before .before .before .before .before .before .before .before .before .before .before .fill .ensures .is _ (p .shows .accepted) (p .shows .supplied) in (
-      sym (ap said (v .verdict .given .1)) ∙ j .answers (sheets (judged v)) (shorter (judged v)),
+      sym (ap answerOf (v .verdict .given .1)) ∙ j .answers (sheets (judged v)) (shorter (judged v)),
       (
         j .noted,
         (

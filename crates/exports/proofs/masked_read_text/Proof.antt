@@ -1,5 +1,5 @@
 use Rattle.exports.proofs.Telling.{text-moved, accepted-told, refused-told}
-use Rattle.text.specs.Answer.{said}
+use Rattle.text.specs.Answer.{textAnswer}
 use mathlib.Core.Path.{sym, ap, _∙_}
 use borrow.Author.Needs.{needs}
 use Rattle.exports.proofs.masked_read_text.Statement.{statement}
@@ -14,12 +14,12 @@ use Rattle.text.proofs.read.Reads as read-reads
 -- src/lib.rt:62:1
 -- src/lib.rt:62:1
 returns : tie.Need-returns
-returns c = (text-moved (sym (ap said (c .before .verdict .given .1)) ∙ c .before .before .before .before .before .read .ensures .0) (accepted-told (c .before .verdict .given .0 .0)), c .before .before .before .before .before .read .ensures .1)
+returns c = (text-moved (sym (ap textAnswer (c .before .verdict .given .1)) ∙ c .before .before .before .before .before .read .ensures .0) (accepted-told (c .before .verdict .given .0 .0)), c .before .before .before .before .before .read .ensures .1)
 
 -- src/lib.rt:62:1
 -- src/lib.rt:62:1
 returns-2 : tie.Need-returns-2
-returns-2 c = (text-moved (sym (ap said (c .before .verdict2 .given .1)) ∙ c .before .before .before .before .before .read .ensures .0) (refused-told (c .before .verdict2 .given .0 .0) (c .before .verdict2 .given .0 .1 .0) (c .before .verdict2 .given .0 .1 .1 .0)), c .before .before .before .before .before .read .ensures .1)
+returns-2 c = (text-moved (sym (ap textAnswer (c .before .verdict2 .given .1)) ∙ c .before .before .before .before .before .read .ensures .0) (refused-told (c .before .verdict2 .given .0 .0) (c .before .verdict2 .given .0 .1 .0) (c .before .verdict2 .given .0 .1 .1 .0)), c .before .before .before .before .before .read .ensures .1)
 
 pub masked-read-text-spec : {M : Type 1} → statement M
 masked-read-text-spec =

@@ -10,7 +10,7 @@ use denote.Ref.{now}
 use Rattle.circuit.specs.Rules.{Judgement, pass, refuse}
 use Rattle.text.specs.Reader.{readText}
 use Rattle.text.specs.Answer.{tableAfter}
-use Rattle.text.specs.Scan.{codeTable, valueIn, countFrom, wordsAt, limitOf, ruled, headWord, frameByCount}
+use Rattle.text.specs.Internal.Scan.{codeTable, valueIn, countFrom, wordsAt, limitOf, ruled, headWord, frameByCount}
 use Rattle.text.proofs.read_by.Tie as tie
 use Rattle.text.proofs.Reading.{stop}
 use Rattle.text.proofs.Scanning.{behind-some, store-turn, same-head, same-frame, limit-most, limit-least}
@@ -48,19 +48,19 @@ first-fits : (c : tie.Else1 Inv-loop μ-loop) → (10 ≤ length (text (c .befor
 first-fits c = head-fits (text (c .before)) (lent (c .before)) (length (lent (c .before))) (first-passes c)
 
 -- where the loop begins: d, and the table with the first line's words
-abbrev order : tie.After-value2 Inv-loop μ-loop → ℕ
-order c = c .before .value .result
+abbrev shareCount : tie.After-value2 Inv-loop μ-loop → ℕ
+shareCount c = c .before .value .result
 
 abbrev head : tie.After-value2 Inv-loop μ-loop → tie.After-head-rule Inv-loop μ-loop
 head c = c .before .before .before
 
 abbrev begun : tie.After-value2 Inv-loop μ-loop → List ℕ
-begun c = set (set (lent (head c)) 0 (c .value2 .result)) 1 (order c)
+begun c = set (set (lent (head c)) 0 (c .value2 .result)) 1 (shareCount c)
 
 begins : (c : tie.After-value2 Inv-loop μ-loop) → begun c ≡ sets (lent (head c)) 0 (wordsAt 2 (text (head c)))
 unfolding wordsAt
 begins c =
-    ap (λ (x : ℕ). set (set (lent (head c)) 0 x) 1 (order c)) (c .value2 .ensures)
+    ap (λ (x : ℕ). set (set (lent (head c)) 0 x) 1 (shareCount c)) (c .value2 .ensures)
     ∙ ap (λ (x : ℕ). set (set (lent (head c)) 0 (valueIn (text (head c)))) 1 x) (c .before .value .ensures)
 
 sized : (c : tie.After-value2 Inv-loop μ-loop) → length (begun c) ≡ length (lent (head c))
@@ -71,24 +71,24 @@ abbrev first : tie.At-loop Inv-loop μ-loop → tie.After-head-rule Inv-loop μ-
 first c = head (c .before)
 
 progress : (c : tie.At-loop Inv-loop μ-loop)
-    → Progress (text (first c)) (begun (c .before)) (length (lent (first c))) (order (c .before)) (c .loop .table) (c .loop .at) (c .loop .line) (c .loop .stored)
-progress c = subst (λ (n : ℕ). Progress (text (first c)) (begun (c .before)) n (order (c .before)) (c .loop .table) (c .loop .at) (c .loop .line) (c .loop .stored))
+    → Progress (text (first c)) (begun (c .before)) (length (lent (first c))) (shareCount (c .before)) (c .loop .table) (c .loop .at) (c .loop .line) (c .loop .stored)
+progress c = subst (λ (n : ℕ). Progress (text (first c)) (begun (c .before)) n (shareCount (c .before)) (c .loop .table) (c .loop .at) (c .loop .line) (c .loop .stored))
     (sized (c .before)) (c .loop .inv)
 
 -- the judgement on the line here
 abbrev here : tie.At-loop Inv-loop μ-loop → Judgement
 here c =
     let bytes = drop (c .loop .at) (text (first c)) in
-    frameByCount (length (lent (first c))) (order (c .before)) (c .loop .line) (c .loop .stored) (valueIn bytes) (countFrom 1 bytes)
+    frameByCount (length (lent (first c))) (shareCount (c .before)) (c .loop .line) (c .loop .stored) (valueIn bytes) (countFrom 1 bytes)
 
 judged : (c : tie.After-frame-rule Inv-loop μ-loop) → ruled (c .frame-rule .result) (c .before .before .before .loop .line) 0 ≡ here (c .before .before .before)
 judged c =
     let l = c .before .before .before in
     let bytes = drop (l .loop .at) (text (first l)) in
     let h : ruled (c .frame-rule .result) (l .loop .line) 0
-    ≡ frameByCount (limitOf (length (lent (first l)))) (order (l .before)) (l .loop .line) (l .loop .stored) (valueIn bytes) (countFrom 1 bytes)
+    ≡ frameByCount (limitOf (length (lent (first l)))) (shareCount (l .before)) (l .loop .line) (l .loop .stored) (valueIn bytes) (countFrom 1 bytes)
     = rw (first l .before .limit .ensures) at (c .frame-rule .ensures (l .loop .line)) in
-    h ∙ same-frame (length (lent (first l))) (order (l .before)) (l .loop .line) (l .loop .stored) (valueIn bytes) (countFrom 1 bytes)
+    h ∙ same-frame (length (lent (first l))) (shareCount (l .before)) (l .loop .line) (l .loop .stored) (valueIn bytes) (countFrom 1 bytes)
 
 passes : (c : tie.Else2 Inv-loop μ-loop) → pass ≡ here (c .before .before .before .before)
 passes c = rw (c .if2 .left) at (judged (c .before))
@@ -151,11 +151,11 @@ loop-holds c =
     let l = head c in
     let room = length (lent l) in
     let first-words = sets (lent l) 0 (wordsAt 2 (text l)) in
-    let p : Progress (text l) first-words room (order c) first-words 10 1 2
+    let p : Progress (text l) first-words room (shareCount c) first-words 10 1 2
     = subst (λ (n : ℕ). Progress (text l) first-words room n first-words 10 1 2) (sym (c .before .value .ensures))
     (start (text l) (lent l) room (first-passes (c .before .before)) refl) in
-    subst (λ (n : ℕ). Progress (text l) (begun c) n (order c) (begun c) 10 1 2) (sym (sized c))
-    (subst (λ (t : List ℕ). Progress (text l) t room (order c) t 10 1 2) (sym (begins c)) p)
+    subst (λ (n : ℕ). Progress (text l) (begun c) n (shareCount c) (begun c) 10 1 2) (sym (sized c))
+    (subst (λ (t : List ℕ). Progress (text l) t room (shareCount c) t 10 1 2) (sym (begins c)) p)
 
 end-requires : tie.Need-end-requires Inv-loop μ-loop
 end-requires c κs = (known (first (c .before)), omega arith)
@@ -231,7 +231,7 @@ loop-again c =
     ∙ ap (λ (x : ℕ). sets (set (k .table) (k .stored) (v .result)) (k .stored + 1) (wordsAt x (drop (k .at + 5) t))) m
     ∙ ap (λ (x : ℕ). sets (set (k .table) (k .stored) x) (k .stored + 1) (wordsAt (n - 1) (drop (k .at + 5) t))) (v .ensures)
     ∙ sym (store-turn (k .table) t (k .stored) n (k .at) (f .some)) in
-    let after : ℕ → List ℕ → ℕ → ℕ → Type 0 = λ room table at count. Progress t (begun (l .before)) room (order (l .before)) table at (k .line + 1) count in
+    let after : ℕ → List ℕ → ℕ → ℕ → Type 0 = λ room table at count. Progress t (begun (l .before)) room (shareCount (l .before)) table at (k .line + 1) count in
     let room = length (lent (first l)) in
     let next = turn _ _ _ _ _ _ _ _ (progress l) (p .before .before .before .loop-test .taken) (passes p) in
     let table = stored .last .1 .1 .1 .1 .0 in

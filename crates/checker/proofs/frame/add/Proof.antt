@@ -3,7 +3,7 @@ use mathlib.Core.Path.{ap, _∙_}
 use native.Mathlib.Omega.{arith}
 use borrow.Author.Needs.{needs}
 use denote.Ref.{now}
-use Rattle.checker.specs.Sheet.{noted, madeFrame}
+use Rattle.checker.specs.Internal.Sheet.{noted, madeFrame}
 use Rattle.checker.proofs.Adding.{frame-count, frame-uses, frame-brings, word-broken, stage-over, wires-over, frame-added}
 use Rattle.checker.proofs.frame.add.Statement.{statement}
 use Rattle.checker.proofs.frame.add.Tie as tie

@@ -4,9 +4,9 @@ use native.Mathlib.Omega.{arith}
 use borrow.Author.Needs.{needs}
 use denote.Ref.{now}
 use Rattle.circuit.specs.Lists.{nth}
-use Rattle.checker.specs.declared.walk.Frame.the-variants.{Gate}
-use Rattle.checker.specs.Sheet.{noted, rowAfter}
-use Rattle.checker.specs.Quick.{wordsOf}
+use Rattle.frames.specs.declared.walk.Frame.the-variants.{Gate}
+use Rattle.checker.specs.Internal.Sheet.{noted, rowAfter}
+use Rattle.checker.specs.Internal.Quick.{wordsOf}
 use Rattle.checker.proofs.Taking.{none-put, ops-length, grows, settled}
 use Rattle.checker.proofs.frame.take.Statement.{statement}
 use Rattle.checker.proofs.frame.take.Tie as tie

@@ -2,8 +2,8 @@
 use mathlib.Core.Path.{sym, subst, _∙_}
 use borrow.Author.Needs.{needs}
 use denote.Ref.{now}
-use Rattle.checker.specs.Sheet.{likeWire}
-use Rattle.checker.specs.Quick.{Nameable, Took}
+use Rattle.checker.specs.Internal.Sheet.{likeWire}
+use Rattle.checker.specs.Internal.Quick.{Nameable, Took}
 use Rattle.checker.proofs.Taking.{not-taken, nameable}
 use Rattle.checker.proofs.quick.copy.Statement.{statement}
 use Rattle.checker.proofs.quick.copy.Tie as tie

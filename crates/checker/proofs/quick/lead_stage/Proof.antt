@@ -1,7 +1,7 @@
 -- `checker::quick::lead_stage` meets its contract.
 use mathlib.Core.Path.{ap, _∙_}
 use borrow.Author.Needs.{needs}
-use Rattle.checker.specs.Sheet.{stageFound}
+use Rattle.checker.specs.Internal.Sheet.{stageFound}
 use Rattle.checker.proofs.quick.lead_stage.Statement.{statement}
 use Rattle.checker.proofs.quick.lead_stage.Tie as tie
 

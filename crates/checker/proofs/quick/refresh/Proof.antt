@@ -5,8 +5,8 @@ use native.Mathlib.Omega.{arith}
 use lib.ListN.{length}
 use borrow.Author.Needs.{needs}
 use denote.Ref.{now}
-use Rattle.checker.specs.Sheet.{noted}
-use Rattle.checker.specs.Quick.{Put}
+use Rattle.checker.specs.Internal.Sheet.{noted}
+use Rattle.checker.specs.Internal.Quick.{Put}
 use Rattle.checker.proofs.Taking.{not-taken, part-row}
 use Rattle.checker.proofs.quick.refresh.Statement.{statement}
 use Rattle.checker.proofs.quick.refresh.Tie as tie

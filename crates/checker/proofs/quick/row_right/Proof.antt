@@ -5,8 +5,8 @@ use lib.ListN.{length}
 use borrow.Author.Count.{below-more}
 use borrow.Author.Needs.{needs}
 use Rattle.circuit.specs.Lists.{nth}
-use Rattle.checker.specs.Sheet.{noted}
-use Rattle.checker.specs.Quick.{Right}
+use Rattle.checker.specs.Internal.Sheet.{noted}
+use Rattle.checker.specs.Internal.Quick.{Right}
 use Rattle.checker.proofs.Taking.{never}
 use Rattle.checker.proofs.quick.row_right.Statement.{statement}
 use Rattle.checker.proofs.quick.row_right.Tie as tie

@@ -3,8 +3,8 @@ use mathlib.Core.Path.{sym, subst, _∙_}
 use native.Mathlib.Omega.{arith}
 use borrow.Author.Needs.{needs}
 use denote.Ref.{now}
-use Rattle.checker.specs.Sheet.{noted, labelFound, stageFound, likeWire}
-use Rattle.checker.specs.Quick.{Right, Nameable, Took}
+use Rattle.checker.specs.Internal.Sheet.{noted, labelFound, stageFound, likeWire}
+use Rattle.checker.specs.Internal.Quick.{Right, Nameable, Took}
 use Rattle.checker.proofs.Taking.{not-taken, nameable, not-inner, put-there}
 use Rattle.checker.proofs.quick.xor.Statement.{statement}
 use Rattle.checker.proofs.quick.xor.Tie as tie

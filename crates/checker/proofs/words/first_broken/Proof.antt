@@ -8,7 +8,7 @@ use denote.Ref.{now}
 use Rattle.circuit.specs.Kinds.{shape}
 use Rattle.circuit.specs.Lists.{nth}
 use Rattle.circuit.specs.Rules.{_then_, wordsRule}
-use Rattle.checker.specs.Sheet.{noted, ruleOf, leadPlace, wordNumber, judged}
+use Rattle.checker.specs.Internal.Sheet.{noted, ruleOf, leadPlace, wordNumber, judged}
 use Rattle.checker.proofs.Numbers.{Reached, reached-start, reached-word, broken-ends, words-end}
 use Rattle.checker.proofs.words.first_broken.Statement.{statement}
 use Rattle.checker.proofs.words.first_broken.Tie as tie

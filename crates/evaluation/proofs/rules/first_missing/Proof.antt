@@ -5,7 +5,7 @@ use native.Mathlib.Omega.{arith}
 use lib.ListN.{length}
 use borrow.Author.Needs.{needs}
 use Rattle.circuit.specs.Circuit.{Circuit, size}
-use Rattle.netlist.specs.Calls.{probesRule}
+use Rattle.semantics.specs.Calls.{probesRule}
 use Rattle.evaluation.proofs.Refusals.{Passed, passed-start, probe-turn, probe-found, probe-end}
 use Rattle.evaluation.proofs.rules.first_missing.Statement.{statement}
 use Rattle.evaluation.proofs.rules.first_missing.Tie as tie

@@ -3,10 +3,10 @@ use Prim.Native.Nat.{_-_, _≤_}
 use native.Mathlib.Omega.{arith}
 use lib.ListN.{length}
 use borrow.Author.Needs.{needs}
-use Rattle.netlist.specs.Calls.{bytesRule}
+use Rattle.semantics.specs.Calls.{bytesRule}
 use Rattle.evaluation.proofs.rules.first_over.Statement.{statement}
 use Rattle.evaluation.proofs.rules.first_over.Tie as tie
-use Rattle.evaluation.proofs.Refusals.{Passed, passed-start, byte-turn, byte-found, byte-end, over-none}
+use Rattle.evaluation.proofs.Refusals.{Passed, passed-start, byte-turn, byte-found, byte-end, overwrite-none}
 
 abbrev Inv-loop : tie.InvT-loop
 Inv-loop bytes count i₀ i = (i ≤ length bytes) × Passed bytesRule bytes i
@@ -18,7 +18,7 @@ largest-requires : tie.Need-largest-requires Inv-loop μ-loop
 largest-requires c κs = omega arith
 
 returns : tie.Need-returns Inv-loop μ-loop
-returns c = over-none (c .before .before .before .args .bytes .now) (λ x l. omega (arith, c .before .largest .ensures .is x (omega arith) (omega arith)))
+returns c = overwrite-none (c .before .before .before .args .bytes .now) (λ x l. omega (arith, c .before .largest .ensures .is x (omega arith) (omega arith)))
 
 loop-holds : tie.Need-loop-holds Inv-loop μ-loop
 loop-holds c = (omega arith, passed-start bytesRule (c .before .before .before .args .bytes .now))

@@ -1,6 +1,6 @@
 -- `text::digits::codes` meets its contract: the constant is the definition's table.
 use mathlib.Core.Path.{refl}
-use Rattle.text.specs.Scan.{codeTable}
+use Rattle.text.specs.Internal.Scan.{codeTable}
 use Rattle.text.proofs.digits.codes.Tie as tie
 use Rattle.text.proofs.digits.codes.Statement.{statement}
 

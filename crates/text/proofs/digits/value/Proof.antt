@@ -2,7 +2,7 @@
 use native.Mathlib.Omega.{arith}
 use borrow.Author.Needs.{needs}
 use denote.Ref.{now}
-use Rattle.text.specs.Scan.{valueOf}
+use Rattle.text.specs.Internal.Scan.{valueOf}
 use Rattle.text.proofs.Hex.{value-at}
 use Rattle.text.proofs.digits.value.Statement.{statement}
 use Rattle.text.proofs.digits.value.Tie as tie

@@ -8,7 +8,7 @@ use lib.ListN.{length, drop, getD}
 use borrow.Author.Tests.{eq-eqb, ne-eqb, not-true, not-false}
 use denote.Ref.{now}
 use Rattle.text.specs.Lines.{lineFeed, space}
-use Rattle.text.specs.Scan.{countFrom}
+use Rattle.text.specs.Internal.Scan.{countFrom}
 use Rattle.text.proofs.line.end.Tie as tie
 use Rattle.text.proofs.Scanning.{count-turn, count-end, behind-some}
 use Rattle.text.proofs.line.end.Statement.{statement}

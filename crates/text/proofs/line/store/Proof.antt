@@ -6,7 +6,7 @@ use lib.ListN.{set, length, drop, length-set}
 use lib.Seq.{sets}
 use borrow.Author.Needs.{needs}
 use denote.Ref.{now}
-use Rattle.text.specs.Scan.{wordsAt}
+use Rattle.text.specs.Internal.Scan.{wordsAt}
 use Rattle.text.proofs.line.store.Tie as tie
 use Rattle.text.proofs.Scanning.{store-turn}
 use Rattle.text.proofs.line.store.Statement.{statement}

@@ -7,9 +7,9 @@ use borrow.Author.Tests.{eq-eqb, ne-eqb, lt-ltb, le-leb, lt-leb}
 use borrow.Author.Needs.{needs}
 use denote.Ref.{now}
 use Rattle.circuit.specs.Kinds.{words, kindOf}
-use Rattle.checker.specs.declared.kinds.Shape.{Shape}
+use Rattle.frames.specs.declared.kinds.Shape.{Shape}
 use Rattle.text.specs.Reader.{roomRule}
-use Rattle.text.specs.Scan.{countFrom, ruled}
+use Rattle.text.specs.Internal.Scan.{countFrom, ruled}
 use Rattle.text.proofs.rules.frame_rule.Tie as tie
 use Rattle.text.proofs.Reading.{line-fits}
 use Rattle.text.proofs.Scanning.{behind-none, behind-known, words-most}

@@ -7,7 +7,7 @@ use borrow.Author.Tests.{ne-eqb, lt-ltb, le-leb, lt-leb}
 use borrow.Author.Needs.{needs}
 use denote.Ref.{now}
 use Rattle.text.specs.Reader.{roomRule}
-use Rattle.text.specs.Scan.{countFrom, behindLine, ruled}
+use Rattle.text.specs.Internal.Scan.{countFrom, behindLine, ruled}
 use Rattle.text.proofs.rules.head_rule.Tie as tie
 use Rattle.text.proofs.Scanning.{behind-none, behind-known, room-word}
 use Rattle.text.proofs.Reading.{line-fits}

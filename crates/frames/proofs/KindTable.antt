@@ -1,0 +1,58 @@
+-- The kind table in numbers: how many words each kind has, and that its numbers fit.
+use mathlib.Core.Path.{_≡_, refl}
+use Prim.Native.Nat.{ℕ, zero, suc, _+_, _*_, _-_, _≤_, _<_}
+use native.Mathlib.Nat.{mul-le-mul}
+use native.Mathlib.Omega.{arith}
+use lib.ListN.{length, length-append}
+use Rattle.circuit.proofs.Sizes.{labels-map}
+use Rattle.circuit.specs.Kinds.{WordRule, share, before, row, HEAD, AND, REF, OUT, kindOf, shape, words}
+use Rattle.frames.specs.declared.kinds.Kind.{Kind as KindCode}
+use Rattle.frames.specs.declared.kinds.Form.{Form}
+use Rattle.frames.specs.declared.kinds.Shape.{Shape as ShapeCode}
+
+pub row-length : (rule : ℕ → ℕ → WordRule) (place d : ℕ) → length (row rule place d) ≡ d
+row-length rule place d = labels-map d (λ i. rule i place)
+
+pub words-AND : (d : ℕ) → words d AND ≡ 1 + d + d
+unfolding shape
+words-AND d = omega (arith, length-append (row share 1 d) (row before 1 d), row-length share 1 d, row-length before 1 d)
+
+pub words-REF : (d : ℕ) → words d REF ≡ 1 + d
+unfolding shape
+words-REF d = omega (arith, row-length share 1 d)
+
+pub words-OUT : (d : ℕ) → words d OUT ≡ d
+unfolding shape
+words-OUT d = row-length share 0 d
+
+-- d(d−1) as the code computes it
+pub ordered : (d : ℕ) → d * d - d ≡ d * (d - 1)
+ordered zero = refl
+ordered (suc d) = let e : suc d - 1 ≡ d = omega arith in rw e (omega arith)
+
+pub square-least : (d : ℕ) → d ≤ d * d
+square-least zero = omega arith
+square-least (suc d) = omega arith
+
+pub square-most : (d : ℕ) → d < 65536 → d * d < 4294967296
+square-most d h = omega (arith, mul-le-mul {n₁ = d} {m₁ = d} {n₂ = 65535} {m₂ = 65535} (omega arith) (omega arith))
+
+-- a word other than 1 to 8 is answered as HEAD
+pub no-kind : (word : ℕ) → (word ≡ 1 → ⊥) → (word ≡ 2 → ⊥) → (word ≡ 3 → ⊥) → (word ≡ 4 → ⊥) → (word ≡ 5 → ⊥) → (word ≡ 6 → ⊥) → (word ≡ 7 → ⊥) → (word ≡ 8 → ⊥) → kindOf word ≡ HEAD
+unfolding kindOf
+no-kind zero h1 h2 h3 h4 h5 h6 h7 h8 = refl
+no-kind (suc zero) h1 h2 h3 h4 h5 h6 h7 h8 = absurd (h1 refl)
+no-kind (suc (suc zero)) h1 h2 h3 h4 h5 h6 h7 h8 = absurd (h2 refl)
+no-kind (suc (suc (suc zero))) h1 h2 h3 h4 h5 h6 h7 h8 = absurd (h3 refl)
+no-kind (suc (suc (suc (suc zero)))) h1 h2 h3 h4 h5 h6 h7 h8 = absurd (h4 refl)
+no-kind (suc (suc (suc (suc (suc zero))))) h1 h2 h3 h4 h5 h6 h7 h8 = absurd (h5 refl)
+no-kind (suc (suc (suc (suc (suc (suc zero)))))) h1 h2 h3 h4 h5 h6 h7 h8 = absurd (h6 refl)
+no-kind (suc (suc (suc (suc (suc (suc (suc zero))))))) h1 h2 h3 h4 h5 h6 h7 h8 = absurd (h7 refl)
+no-kind (suc (suc (suc (suc (suc (suc (suc (suc zero)))))))) h1 h2 h3 h4 h5 h6 h7 h8 = absurd (h8 refl)
+no-kind (suc (suc (suc (suc (suc (suc (suc (suc (suc n))))))))) h1 h2 h3 h4 h5 h6 h7 h8 = refl
+
+-- what the code holds of a kind, number by number
+pub same-shape : (kind : KindCode) (form : Form) {w w′ m m′ u u′ b : ℕ} → w ≡ w′ → m ≡ m′ → u ≡ u′
+    → _≡_ {A = ShapeCode} (record { kind = kind; form = form; words = w; wires = m; randoms = u; inputs = b })
+    (record { kind = kind; form = form; words = w′; wires = m′; randoms = u′; inputs = b })
+same-shape kind form {b = b} e f g = λ i. record { kind = kind; form = form; words = e i; wires = f i; randoms = g i; inputs = b }

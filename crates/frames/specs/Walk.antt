@@ -1,0 +1,91 @@
+-- What the walk over the frames of a table answers, by the kind table and rules 5 and 6.
+use mathlib.Core.Bool.{cond, _&&_}
+use mathlib.Core.List.{List}
+use Prim.Native.Nat.{ℕ, _+_}
+use lib.Dec.{leb, ltb}
+use lib.ListN.{length, take, drop}
+use Rattle.circuit.specs.Lists.{nth}
+use Rattle.circuit.specs.Kinds.{Kind, HEAD, IN, CON, XOR, NOT, REG, AND, REF, OUT, kindOf, shape, words}
+use Rattle.frames.specs.declared.kinds.Kind.{Kind as KindCode}
+use Rattle.frames.specs.declared.kinds.Kind.the-variants.{Head, In, Con, Xor, Not, Reg, And, Ref, Out}
+use Rattle.frames.specs.declared.kinds.Form.{Form}
+use Rattle.frames.specs.declared.kinds.Form.the-variants.{ShareCount, Stage, Constant, Wires, Gadget, Row}
+use Rattle.frames.specs.declared.kinds.Shape.{Shape as ShapeCode}
+use Rattle.frames.specs.declared.walk.Gate.the-variants as gate
+use Rattle.frames.specs.declared.walk.Frame.{Frame}
+use Rattle.frames.specs.declared.walk.Frame.the-variants as frame
+use Rattle.frames.specs.declared.walk.Framed.{Framed}
+use Rattle.frames.specs.declared.walk.Framed.the-variants.{Whole, Short}
+use Rattle.frames.specs.declared.walk.Walk.{Walk}
+use Rattle.frames.specs.declared.walk.Step.{Step}
+use Rattle.frames.specs.declared.walk.Step.the-variants.{Next, Refused, End}
+
+-- the code's name of a kind, and the form of the words after it
+abbrev pub kindCode : Kind → KindCode
+kindCode HEAD = Head
+kindCode IN = In
+kindCode CON = Con
+kindCode XOR = Xor
+kindCode NOT = Not
+kindCode REG = Reg
+kindCode AND = And
+kindCode REF = Ref
+kindCode OUT = Out
+
+abbrev pub formOf : Kind → Form
+formOf HEAD = ShareCount
+formOf IN = Stage
+formOf CON = Constant
+formOf XOR = Wires
+formOf NOT = Wires
+formOf REG = Wires
+formOf AND = Gadget
+formOf REF = Gadget
+formOf OUT = Row
+
+-- what a kind decides, as the code holds it
+abbrev pub shapeCode : ℕ → Kind → ShapeCode
+shapeCode d kind = record {
+  kind = kindCode kind;
+  form = formOf kind;
+  words = words d kind;
+  wires = shape d kind .wires;
+  randoms = shape d kind .randoms;
+  inputs = shape d kind .inputs;
+}
+
+-- a frame, as the code holds it: a gate with its words, or a gadget
+abbrev pub frameCode : KindCode → List ℕ → Frame
+frameCode Head ops = frame.Gate gate.Out
+frameCode In ops = frame.Gate (gate.In (nth ops 0))
+frameCode Con ops = frame.Gate (gate.Con (nth ops 0) (nth ops 1) (nth ops 2))
+frameCode Xor ops = frame.Gate (gate.Xor (nth ops 0) (nth ops 1))
+frameCode Not ops = frame.Gate (gate.Not (nth ops 0))
+frameCode Reg ops = frame.Gate (gate.Reg (nth ops 0))
+frameCode And ops = frame.And
+frameCode Ref ops = frame.Ref
+frameCode Out ops = frame.Gate gate.Out
+
+-- a frame of so many words, of which the table has what is left of it
+abbrev pub framedBy : Frame → (count : ℕ) (rest : List ℕ) → Framed
+framedBy fr n rest = cond (leb n (length rest)) (Whole fr) Short
+
+-- the words after the kind word at a place of the table, as far as the table goes
+abbrev pub operandsAt : List ℕ → (d at : ℕ) → List ℕ
+operandsAt table d at = take (words d (kindOf (nth table at))) (drop (at + 1) table)
+
+-- the walk behind a frame
+abbrev pub behind : (d at count : ℕ) → Walk
+behind d at count = record { d = d; at = at + 1 + count }
+
+-- what stands at a place of the table: its end; 5, no kind; 6, too few words; or a frame
+abbrev pub stepAt : List ℕ → (d at : ℕ) → Step
+stepAt table d at =
+    let kind = kindOf (nth table at) in
+    cond (ltb at (length table))
+    (cond (leb 1 (nth table at) && leb (nth table at) 8)
+    (cond (leb (words d kind) (length (drop (at + 1) table)))
+    (Next (frameCode (kindCode kind) (operandsAt table d at)) (shapeCode d kind) (behind d at (words d kind)))
+    (Refused 6))
+    (Refused 5))
+    End

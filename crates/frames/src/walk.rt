@@ -1,0 +1,176 @@
+// The walk over the frames of a table.
+ghost use mathlib.Core.Path.{_≡_};
+ghost use Rattle.circuit.specs.Lists.{nth};
+ghost use Rattle.frames.specs.Walk.{frameCode, framedBy, operandsAt, stepAt};
+use super::kinds;
+use kinds::Kind;
+use kinds::Shape;
+
+// A gate, with its words. OUT's stay in the table.
+pub enum Gate {
+    In { stage: u16 },
+    Con { label: u16, value: u16, stage: u16 },
+    Xor { first: u16, second: u16 },
+    Not { wire: u16 },
+    Reg { wire: u16 },
+    Out,
+}
+
+// A frame is a gate or a gadget; a gadget's words stay in the table.
+pub enum Frame {
+    Gate(Gate),
+    And,
+    Ref,
+}
+
+// The state of a walk: the number of shares, and where in the table the next frame begins.
+pub struct Walk {
+    pub d: u16,
+    pub at: usize,
+}
+
+// What stands at a walk's place: a whole frame, with what its kind decides and the walk behind it; the rule that the words
+// there break, 5 or 6; or the table's end.
+pub enum Step {
+    Next {
+        frame: Frame,
+        shape: Shape,
+        walk: Walk,
+    },
+    Refused {
+        rule: usize,
+    },
+    End,
+}
+
+// The word at a place of a part of the table; 0 past its end.
+pub fn word_at(words: &[u16], i: usize) -> u16
+    ensures { λ r. ⌜ r ≡ nth (now (words .entry)) i ⌝ }
+{
+    if i < words.len() { words[i] } else { 0 }
+}
+
+// A frame whose words the table has, or one in which the table ends.
+pub enum Framed {
+    Whole(Frame),
+    Short,
+}
+
+// A frame of so many words after the kind, `rest` being the table after the kind word.
+fn whole(frame: Frame, words: usize, rest: &[u16]) -> Framed
+    ensures { λ r. ⌜ r ≡ framedBy frame words (now (rest .entry)) ⌝ }
+{
+    if rest.len() < words {
+        Framed::Short
+    } else {
+        Framed::Whole(frame)
+    }
+}
+
+// The frame of a kind, from the table after the kind word. (No HEAD comes here: rule 5 refuses it before.) Each kind asks for
+// its words by itself, so that the compiler leads each from the kind's decision straight to what the frame is taken for.
+fn frame_of(kind: Kind, words: usize, rest: &[u16]) -> Framed
+    ensures { λ r. ⌜ r ≡ framedBy (frameCode kind (now (rest .entry))) words (now (rest .entry)) ⌝ }
+{
+    match kind {
+        Kind::In => whole(
+            Frame::Gate(Gate::In {
+                stage: word_at(rest, 0),
+            }),
+            words,
+            rest,
+        ),
+        Kind::Con => whole(
+            Frame::Gate(Gate::Con {
+                label: word_at(rest, 0),
+                value: word_at(rest, 1),
+                stage: word_at(rest, 2),
+            }),
+            words,
+            rest,
+        ),
+        Kind::Xor => whole(
+            Frame::Gate(Gate::Xor {
+                first: word_at(rest, 0),
+                second: word_at(rest, 1),
+            }),
+            words,
+            rest,
+        ),
+        Kind::Not => whole(
+            Frame::Gate(Gate::Not {
+                wire: word_at(rest, 0),
+            }),
+            words,
+            rest,
+        ),
+        Kind::Reg => whole(
+            Frame::Gate(Gate::Reg {
+                wire: word_at(rest, 0),
+            }),
+            words,
+            rest,
+        ),
+        Kind::And => whole(Frame::And, words, rest),
+        Kind::Ref => whole(Frame::Ref, words, rest),
+        Kind::Out => whole(Frame::Gate(Gate::Out), words, rest),
+        Kind::Head => whole(Frame::Gate(Gate::Out), words, rest),
+    }
+}
+
+impl Walk {
+    // The words after the kind word at the walk's place, as a part of the table, as far as the table goes.
+    pub fn operands(self, table: &[u16]) -> &[u16]
+        ensures { λ r. ⌜ now r ≡ operandsAt (now (table .entry)) (self .d) (self .at) ⌝ }
+    {
+        let at = self.at;
+        let n = table.len();
+        if n <= at {
+            return &table[n..n];
+        }
+        let shape = kinds::decide(table[at], self.d);
+        let words = shape.words;
+        let start = at + 1;
+        if n - start < words {
+            return &table[start..n];
+        }
+        let end = start + words;
+        &table[start..end]
+    }
+
+    // The frame at the walk's place, and the walk behind it.
+    pub fn step(self, table: &[u16]) -> Step
+        ensures { λ r. ⌜ r ≡ stepAt (now (table .entry)) (self .d) (self .at) ⌝ }
+    {
+        let at = self.at;
+        let d = self.d;
+        if table.len() <= at {
+            return Step::End;
+        }
+        let word = table[at];
+        if word < 1 {
+            return Step::Refused { rule: 5 };
+        }
+        if 8 < word {
+            return Step::Refused { rule: 5 };
+        }
+        let start = at + 1;
+        let n = table.len();
+        let rest = &table[start..n];
+        let shape = kinds::decide(word, d);
+        let kind = shape.kind;
+        let words = shape.words;
+        let framed = frame_of(kind, words, rest);
+        match framed {
+            Framed::Short => Step::Refused { rule: 6 },
+            Framed::Whole(frame) => {
+                let end = start + words;
+                Step::Next {
+                    frame: frame,
+                    shape: shape,
+                    walk: Walk { d: d, at: end },
+                }
+            }
+        }
+    }
+}

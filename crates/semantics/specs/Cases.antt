@@ -1,0 +1,62 @@
+-- Document 01, "Circuits to hold against it": the cases marked *, as one table.
+use mathlib.Core.Path.{_≡_}
+use mathlib.Core.List.{List, [], _∷_, _++_}
+use Prim.Native.Nat.{ℕ}
+use lib.ListN.{replicate}
+use Rattle.circuit.specs.Limits.{wireLimit, notesRoom}
+use Rattle.circuit.specs.Rules.{pass}
+use Rattle.circuit.specs.Answer.{Answer, accepted, refused, verdictOf}
+use Rattle.semantics.specs.Calls.{callRule, valueBytes, readingBytes}
+
+-- a table with its answer; an evaluation with all its values; a reading with all its bytes
+pub data Case : Type 0 where
+  judged : (table : List ℕ) → Answer → Case
+  evaluates : (table shares tape values : List ℕ) → Case
+  reads : (table shares tape probes reading : List ℕ) → Case
+
+-- notes and a sheet of the least length that is asked
+abbrev pub notes : List ℕ
+notes = replicate notesRoom 0
+
+abbrev pub room : List ℕ
+room = replicate wireLimit 0
+
+-- what a case says
+abbrev pub Right : Case → Type 0
+Right (judged table a) = verdictOf table notesRoom ≡ a
+Right (evaluates table shares tape values) =
+    (callRule table notes shares tape (room ∷ []) [] ≡ pass) × (valueBytes table notes shares tape ≡ values)
+Right (reads table shares tape probes reading) =
+    (callRule table notes shares tape (room ∷ room ∷ []) probes ≡ pass) × (readingBytes table notes shares tape probes ≡ reading)
+
+-- circuit A, with the stages of its INs, the words of its AND and of its OUT
+abbrev circuitA : (first second : ℕ) (product outputs : List ℕ) → List ℕ
+circuitA first second product outputs = (0 ∷ 2 ∷ 1 ∷ first ∷ 1 ∷ second ∷ 6 ∷ []) ++ product ++ (8 ∷ outputs)
+
+abbrev A : List ℕ
+A = circuitA 1 0 (0 ∷ 0 ∷ 1 ∷ 2 ∷ 3 ∷ []) (0x18 ∷ 0x19 ∷ [])
+
+abbrev sharesA : List ℕ
+sharesA = 1 ∷ 0 ∷ 1 ∷ 1 ∷ []
+
+abbrev tapeA : List ℕ
+tapeA = 1 ∷ []
+
+-- the starred cases
+unfoldable pub cases : List Case
+cases = evaluates A sharesA tapeA ((1 ∷ 0 ∷ 1 ∷ 1 ∷ []) ++ (1 ∷ 1 ∷ []) ++ (1 ∷ 1 ∷ 1 ∷ 1 ∷ 0 ∷ 0 ∷ []) ++ (0 ∷ 0 ∷ 0 ∷ 0 ∷ 0 ∷ 0 ∷ []) ++ (1 ∷ 1 ∷ 0 ∷ 0 ∷ 0 ∷ 0 ∷ []) ++ (1 ∷ 1 ∷ []))  -- A1
+    ∷ reads A sharesA tapeA (24 ∷ []) (replicate 8 2 ++ (1 ∷ []) ++ replicate 4 2 ++ (0 ∷ []) ++ replicate 3 2 ++ (0 ∷ []) ++ replicate 8174 2)  -- A2
+    ∷ reads A sharesA tapeA (14 ∷ []) (replicate 3 2 ++ (1 ∷ 1 ∷ []) ++ replicate 8187 2)  -- A3
+    ∷ reads A sharesA tapeA (16 ∷ []) ((1 ∷ []) ++ replicate 14 2 ++ (0 ∷ []) ++ replicate 8176 2)  -- A4
+    ∷ judged A (accepted 26 1 2)
+    ∷ judged (circuitA 0 0 (0 ∷ 0 ∷ 1 ∷ 2 ∷ 3 ∷ []) (0x18 ∷ 0x19 ∷ [])) (refused 11 3 4)  -- A5
+    ∷ judged (circuitA 1 0 (0 ∷ 1 ∷ 0 ∷ 2 ∷ 3 ∷ []) (0x18 ∷ 0x19 ∷ [])) (refused 10 3 2)  -- A6
+    ∷ judged (circuitA 1 0 (0 ∷ 0 ∷ 1 ∷ 2 ∷ 3 ∷ []) (0x17 ∷ 0x19 ∷ [])) (refused 9 4 1)  -- A7
+    ∷ judged (circuitA 1 0 (0 ∷ 0 ∷ 1 ∷ 2 ∷ 3 ∷ []) (0x1A ∷ 0x19 ∷ [])) (refused 8 4 1)
+    ∷ judged (circuitA 1 0 (1 ∷ 0 ∷ 1 ∷ 2 ∷ 3 ∷ []) (0x18 ∷ 0x19 ∷ [])) (refused 12 3 1)  -- A8
+    ∷ judged (0 ∷ 2 ∷ []) (accepted 0 0 0)  -- B
+    ∷ judged (0 ∷ 1 ∷ []) (refused 4 0 1)
+    ∷ judged (0 ∷ 9 ∷ []) (refused 4 0 1)
+    ∷ judged (0 ∷ 2 ∷ 1 ∷ 0xFF ∷ 5 ∷ 0 ∷ []) (refused 13 2 0)  -- C
+    ∷ judged (0 ∷ 2 ∷ 1 ∷ 0xFE ∷ 5 ∷ 0 ∷ []) (accepted 3 0 0)
+    ∷ []

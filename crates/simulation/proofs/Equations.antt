@@ -1,0 +1,145 @@
+-- The values of AND's and REF's wires, from those of the wires that they take and the tape.
+use mathlib.Core.Path.{_≡_, sym, ap, ap₂, subst, _∙_}
+use mathlib.Core.Bool.{false, not, _&&_}
+use mathlib.Core.List.{List, [], _∷_, map}
+use Prim.Native.Nat.{ℕ, zero, suc, _+_, _*_, _-_, _≤_, _<_}
+use native.Mathlib.Omega.{arith}
+use lib.ListN.{length, take, drop}
+use lib.Dec.{eqb}
+use lib.Seq.{getD-drop}
+use borrow.Author.Tests.{eqb-false}
+use Rattle.circuit.specs.Lists.{_⊕_, nth}
+use Rattle.circuit.specs.Wires.{Gate, random, reg, sum, product, andNot, Wire}
+use Rattle.circuit.specs.Gadgets.{others}
+use Rattle.circuit.specs.Kinds.{pairs}
+use Rattle.circuit.specs.Circuit.{isSet}
+use Rattle.circuit.proofs.Base.{no-flip, In}
+use Rattle.circuit.proofs.Parts.{others-pair}
+use Rattle.circuit.proofs.Sizes.{pairs-twice}
+use Rattle.semantics.specs.Values.{bits, at, xorSum, value, isRandom, valuesOf}
+use Rattle.semantics.proofs.Randoms.{randomsIn}
+use Rattle.secrecy.proofs.Totals.{xorSum-ext, xorSum-append, xorSum-map, xorSum-xor}
+use Rattle.simulation.specs.Internal.Places.{pairSite, pairAt, ownAt, cellAt, outAt, maskAt, sumAt, heldAt}
+use Rattle.simulation.specs.Internal.Gates.{gateAt, AndGates, RefGates}
+use Rattle.simulation.specs.Internal.Filling.{Values, Copied, Drawn, Owned, RowCrossed, crossingAt, Multiplied, AndValues, Masked, Held, RefValues}
+use Rattle.simulation.proofs.Bits.{bits-at}
+use Rattle.simulation.proofs.Sites.{pair-lt}
+use Rattle.simulation.proofs.Rows.{own-early, cell-room}
+use Rattle.simulation.proofs.Solving.{OrderedFrom, solved, rank-random, rank-other}
+
+tape-at : (tape : List ℕ) (n : ℕ) → at (drop n (bits tape)) 0 ≡ isSet (nth tape n)
+tape-at tape n = let e : n + 0 ≡ n = omega arith in getD-drop n (bits tape) 0 false ∙ ap (at (bits tape)) e ∙ bits-at tape n
+
+-- different shares, where the one is among the others of the other
+apart : (d i j : ℕ) → i < d → In j (others d i) → (j < d) × (j ≡ i → ⊥)
+apart d i j l h = let o = others-pair d i j l h in (o .snd, λ e. ne-of i j (o .apart) e)
+  where
+    ne-of : (i j : ℕ) → eqb i j ≡ false → j ≡ i → ⊥
+    ne-of i j h e = eqb-false i j h (sym e)
+
+module _ (ws : List Wire) (shares tape : List ℕ) (early : OrderedFrom 0 ws) where
+  -- the value of each wire, and how many random bits come before it
+  abbrev pub valued : Values
+  valued = at (valuesOf ws (bits shares) (bits tape))
+
+  abbrev pub rank : ℕ → ℕ
+  rank x = randomsIn (take x ws)
+
+  -- a wire whose gate is known
+  pub gate-value : (x : ℕ) (g : Gate) → x < length ws → gateAt ws x ≡ g → valued x ≡ value g valued (bits shares) (drop (rank x) (bits tape))
+  gate-value x g l e = solved (bits shares) ws (bits tape) early x l ∙ ap (λ z. value z valued (bits shares) (drop (rank x) (bits tape))) e
+
+  -- AND
+  module _ (d first : ℕ) (a b : ℕ → ℕ) (gs : AndGates (gateAt ws) d first a b) (made : outAt d first d ≤ length ws) (used : ℕ) (start : rank first ≡ used) where
+    pair-room : (q : ℕ) → q < pairs d → first + 2 * q + 1 < length ws
+    pair-room q l = omega (arith, within (pairs d) (d * (d - 1)) (pairs-twice d) l)
+      where
+        within : (p n : ℕ) → p * 2 ≡ n → q < p → first + 2 * q + 1 < first + n
+        within p n e l = omega arith
+
+    rank-at : (q : ℕ) → q ≤ pairs d → rank (first + 2 * q) ≡ used + q
+    rank-at zero l = let e : first + 2 * 0 ≡ first = omega arith in ap rank e ∙ start ∙ omega arith
+    rank-at (suc q) l =
+        let e : first + 2 * suc q ≡ suc (suc (first + 2 * q)) = omega arith in
+        let f : first + 2 * q + 1 ≡ suc (first + 2 * q) = omega arith in
+        let room = pair-room q l in
+        let held : gateAt ws (suc (first + 2 * q)) ≡ reg (first + 2 * q) = subst (λ (n : ℕ). gateAt ws n ≡ reg (first + 2 * q)) f (gs .draws q l .1) in
+        ap rank e ∙ rank-other ws (suc (first + 2 * q)) (omega arith) (ap isRandom held)
+        ∙ rank-random ws (first + 2 * q) (omega arith) (gs .draws q l .0) ∙ omega (arith, rank-at q (omega arith))
+
+    hold-is : (q : ℕ) → q < pairs d → valued (first + 2 * q + 1) ≡ valued (first + 2 * q)
+    hold-is q l = gate-value (first + 2 * q + 1) (reg (first + 2 * q)) (pair-room q l) (gs .draws q l .1)
+
+    drawn : Drawn tape used first (pairs d) valued
+    drawn q l =
+        let e : valued (first + 2 * q) ≡ isSet (nth tape (used + q)) = gate-value (first + 2 * q) random (omega (arith, pair-room q l)) (gs .draws q l .0)
+        ∙ ap (λ n. at (drop n (bits tape)) 0) (rank-at q (omega arith)) ∙ tape-at tape (used + q) in
+        (e, hold-is q l ∙ e)
+
+    own-room : (i : ℕ) → i < d → ownAt d first i + 2 < length ws
+    own-room i l = omega (arith, own-early d first d i l)
+
+    owned : Owned d first a b valued
+    owned i l =
+        let x = ownAt d first i in
+        let g = gs .owns i l in
+        let B-is : valued x ≡ valued (b i) = gate-value x (reg (b i)) (omega (arith, own-room i l)) (g .0) in
+        let m-is : valued (x + 1) ≡ (valued (a i) && valued (b i)) = gate-value (x + 1) (product (a i) x) (omega (arith, own-room i l)) (g .1) ∙ ap (λ z. valued (a i) && z) B-is in
+        (B-is, m-is, gate-value (x + 2) (reg (x + 1)) (own-room i l) (g .2) ∙ m-is)
+
+    crossed : (i : ℕ) → i < d → RowCrossed d first i (valued (a i)) valued
+    crossed i l j k ne =
+        let x = cellAt d first i j in
+        let g = gs .cells i l j k ne in
+        let room = cell-room d first i j l k ne in
+        let ρ = valued (pairAt d first i j) in
+        let β = valued (ownAt d first j) in
+        let u-is : valued x ≡ (not (valued (a i)) && ρ) = gate-value x (andNot (a i) (pairAt d first i j + 1)) (omega arith) (g .0) ∙ ap (λ z. not (valued (a i)) && z) (hold-is (pairSite d i j) (pair-lt d i j l k ne)) in
+        let v-is : valued (x + 2) ≡ (β ⊕ ρ) = gate-value (x + 2) (sum (b j ∷ pairAt d first i j ∷ [])) (omega arith) (g .2) ∙ ap₂ (λ y z. y ⊕ z) (sym (owned j k .0)) (no-flip ρ) in
+        let V-is : valued (x + 3) ≡ (β ⊕ ρ) = gate-value (x + 3) (reg (x + 2)) (omega arith) (g .3) ∙ v-is in
+        let w-is : valued (x + 4) ≡ (valued (a i) && (β ⊕ ρ)) = gate-value (x + 4) (product (a i) (x + 3)) (omega arith) (g .4) ∙ ap (λ z. valued (a i) && z) V-is in (
+          u-is,
+          gate-value (x + 1) (reg x) (omega arith) (g .1) ∙ u-is,
+          v-is,
+          V-is,
+          w-is,
+          gate-value (x + 5) (reg (x + 4)) (omega arith) (g .5) ∙ w-is,
+        )
+
+    multiplied : Multiplied d first a valued
+    multiplied = record { crossed = crossed; out = out }
+      where
+        out : (i : ℕ) → i < d → valued (outAt d first i) ≡ (valued (ownAt d first i + 2) ⊕ xorSum (others d i) (crossingAt d first i (valued (a i)) valued))
+        out i l =
+            let x : ℕ → ℕ = λ j. cellAt d first i j + 1 in
+            let y : ℕ → ℕ = λ j. cellAt d first i j + 5 in
+            gate-value (outAt d first i) _ (omega arith) (gs .outs i l)
+            ∙ ap (λ z. valued (ownAt d first i + 2) ⊕ z)
+            (xorSum-append valued (map x (others d i)) (map y (others d i))
+            ∙ ap₂ (λ p q. p ⊕ q) (xorSum-map valued x (others d i)) (xorSum-map valued y (others d i))
+            ∙ sym (xorSum-xor (λ j. valued (x j)) (λ j. valued (y j)) (others d i))
+            ∙ xorSum-ext _ (crossingAt d first i (valued (a i)) valued) (others d i)
+            (λ j h. let (k, ne) = apart d i j l h in let e = crossed i l j k ne in ap₂ (λ p q. p ⊕ q) (e .1) (e .5)))
+
+    pub and-values : AndValues d first a b tape used valued
+    and-values = record { drawn = drawn; owned = owned; multiplied = multiplied }
+
+  -- REF
+  module _ (d first : ℕ) (a : ℕ → ℕ) (gs : RefGates (gateAt ws) d first a) (made : heldAt d first d ≤ length ws) (used : ℕ) (start : rank first ≡ used) where
+    ref-rank : (q : ℕ) → q ≤ pairs d → rank (first + q) ≡ used + q
+    ref-rank zero l = let e : first + 0 ≡ first = omega arith in ap rank e ∙ start ∙ omega arith
+    ref-rank (suc q) l =
+        let e : first + suc q ≡ suc (first + q) = omega arith in
+        ap rank e ∙ rank-random ws (first + q) (omega arith) (gs .draws q l) ∙ omega (arith, ref-rank q (omega arith))
+
+    ref-drawn : Copied tape used first (pairs d) valued
+    ref-drawn q l = gate-value (first + q) random (omega arith) (gs .draws q l) ∙ ap (λ n. at (drop n (bits tape)) 0) (ref-rank q (omega arith)) ∙ tape-at tape (used + q)
+
+    masked : Masked d first a valued
+    masked i l = gate-value (sumAt d first i) _ (omega arith) (gs .sums i l) ∙ ap (λ z. valued (a i) ⊕ z) (xorSum-map valued (λ j. maskAt d first i j) (others d i))
+
+    held : Held d first valued
+    held i l = gate-value (heldAt d first i) (reg (sumAt d first i)) (omega arith) (gs .holds i l)
+
+    pub ref-values : RefValues d first a tape used valued
+    ref-values = record { drawn = ref-drawn; masked = masked; held = held }

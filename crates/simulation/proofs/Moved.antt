@@ -1,0 +1,275 @@
+-- Marks moved on, wire by wire from the last to the first.
+use mathlib.Core.Path.{_≡_, refl, sym, ap, ap₂, subst, subst₂, _∙_}
+use mathlib.Core.Bool.{Bool, true, false, cond, false≢true}
+use mathlib.Core.List.{List, [], _∷_, _++_, map}
+use Prim.Native.Nat.{ℕ, zero, suc, _+_, _-_, _*_, _≤_, _<_}
+use native.Mathlib.Omega.{arith}
+use lib.Dec.{ltb, eqb}
+use lib.ListN.{length, set, length-set}
+use borrow.Author.Tests.{le-ltb, ltb-true, ltb-false}
+use Rattle.circuit.specs.Lists.{nth, range, mem}
+use Rattle.circuit.specs.Wires.{Gate, reg, sum, product, andNot, inverse}
+use Rattle.circuit.specs.Gadgets.{others}
+use Rattle.circuit.specs.Kinds.{pairs}
+use Rattle.circuit.proofs.Base.{cases, or-cases, or-left, or-right, In}
+use Rattle.circuit.proofs.Sizes.{pairs-twice}
+use Rattle.semantics.specs.Probes.{isStop, operands}
+use Rattle.simulation.specs.Internal.Places.{slotOf, cellRow, pairAt, cellAt, ownAt, outAt, maskAt, sumAt, heldAt}
+use Rattle.simulation.specs.Internal.Gates.{gateAt, OwnGates, CellGates, CellsGates, RowsGates, OwnsGates, OutGates, AndGates, RefGates}
+use Rattle.simulation.specs.Internal.Marks.{markAll, propagated, sixes, outWires, Moving, Moves}
+use Rattle.simulation.proofs.Bits.{set-low}
+use Rattle.simulation.proofs.Ranges.{others-is, map-append}
+use Rattle.simulation.proofs.Adding.{range-turn, range-end}
+use Rattle.simulation.proofs.Rows.{slot-low, slot-high, slot-next, slots, row-next, row-room}
+use Rattle.simulation.proofs.Reaching.{moving-gate, moving-stop}
+
+pub mark-length : (marks xs : List ℕ) → length (markAll marks xs) ≡ length marks
+mark-length marks [] = refl
+mark-length marks (x ∷ xs) = mark-length (set marks x 1) xs ∙ length-set marks x 1
+
+pub handed-length : (x : ℕ) (wires marks : List ℕ) → length (propagated x wires marks) ≡ length marks
+handed-length x wires marks = go (ltb (nth marks x) 1)
+  where
+    go : (b : Bool) → length (cond b marks (set (markAll marks wires) x 0)) ≡ length marks
+    go true = refl
+    go false = length-set (markAll marks wires) x 0 ∙ mark-length marks wires
+
+pub mark-append : (marks xs ys : List ℕ) → markAll marks (xs ++ ys) ≡ markAll (markAll marks xs) ys
+mark-append marks [] ys = refl
+mark-append marks (x ∷ xs) ys = mark-append (set marks x 1) xs ys
+
+-- parts of wires, the later ones first
+pub moves-none : {G : (ℕ → Gate) → Type 0} (at : ℕ) (marks : List ℕ) → Moves G at at marks marks
+moves-none at marks = record { moved = λ ws probes o g l r h. h; size = refl }
+
+pub moves-then : {G : (ℕ → Gate) → Type 0} {from mid to : ℕ} {old one two : List ℕ} → mid ≤ to → Moves G mid to old one → Moves G from mid one two → Moves G from to old two
+moves-then k f g = record {
+  moved = λ ws probes o h l r m. g .moved ws probes o h (omega arith) (omega (arith, f .size)) (f .moved ws probes o h l r m);
+  size = g .size ∙ f .size;
+}
+
+pub moves-for : {G H : (ℕ → Gate) → Type 0} {from to : ℕ} {old new : List ℕ} → ((g : ℕ → Gate) → H g → G g) → Moves G from to old new → Moves H from to old new
+moves-for k f = record { moved = λ ws probes o h. f .moved ws probes o (k (gateAt ws) h); size = f .size }
+
+pub moves-at : {G : (ℕ → Gate) → Type 0} {from from′ to to′ : ℕ} {old new : List ℕ} → from ≡ from′ → to ≡ to′ → Moves G from to old new → Moves G from′ to′ old new
+moves-at {G} {from} {from′} {to} {to′} {old} {new} p q f = subst₂ (λ a b. Moves G a b old new) p q f
+
+-- a stop keeps its mark
+pub moves-stop : {G : (ℕ → Gate) → Type 0} (x : ℕ) (marks : List ℕ) → ((g : ℕ → Gate) → G g → isStop (g x) ≡ true) → Moves G x (x + 1) marks marks
+moves-stop x marks k = record {
+  moved = λ ws probes o h l r m. moving-stop ws o probes marks x (omega arith) r (subst (Moving ws probes marks) (omega arith) m) (k (gateAt ws) h);
+  size = refl;
+}
+
+-- a run of stops
+pub moves-stops : {G : (ℕ → Gate) → Type 0} (from count : ℕ) (marks : List ℕ) → ((g : ℕ → Gate) → G g → (q : ℕ) → q < count → isStop (g (from + q)) ≡ true) → Moves G from (from + count) marks marks
+moves-stops from zero marks k = moves-at refl (omega arith) (moves-none from marks)
+moves-stops from (suc n) marks k = moves-then (omega arith) (moves-at refl (omega arith) (moves-stop (from + n) marks (λ g h. k g h n (omega arith)))) (moves-stops from n marks (λ g h q l. k g h q (omega arith)))
+
+-- another wire hands its mark on to the wires that it takes
+pub moves-hand : {G : (ℕ → Gate) → Type 0} (x : ℕ) (wires marks : List ℕ) → ((g : ℕ → Gate) → G g → isStop (g x) ≡ false)
+    → ((g : ℕ → Gate) → G g → (y : ℕ) → In y wires → In y (operands (g x))) → ((g : ℕ → Gate) → G g → (y : ℕ) → In y (operands (g x)) → In y wires)
+    → Moves G x (x + 1) marks (propagated x wires marks)
+moves-hand x wires marks k out back = record {
+  moved = λ ws probes o h l r m. moving-gate ws o probes marks x (omega arith) r (subst (Moving ws probes marks) (omega arith) m) wires (out (gateAt ws) h) (back (gateAt ws) h) (k (gateAt ws) h);
+  size = handed-length x wires marks;
+}
+
+-- where the gate is known
+pub moves-gate : {G : (ℕ → Gate) → Type 0} (x : ℕ) (z : Gate) (marks : List ℕ) → isStop z ≡ false → ((g : ℕ → Gate) → G g → g x ≡ z) → Moves G x (x + 1) marks (propagated x (operands z) marks)
+moves-gate x z marks e k = moves-hand x (operands z) marks (λ g h. ap isStop (k g h) ∙ e)
+    (λ g h y i. subst (λ (t : Gate). In y (operands t)) (sym (k g h)) i) (λ g h y i. subst (λ (t : Gate). In y (operands t)) (k g h) i)
+
+-- the wires U and W that an output takes
+sixes-append : (a m n : ℕ) → sixes a (m + n) ≡ sixes a m ++ sixes (a + 6 * m) n
+unfolding sixes
+sixes-append a zero n =
+    let e : 0 + n ≡ n = omega arith in
+    let f : a ≡ a + 6 * 0 = omega arith in
+    ap₂ sixes f e
+sixes-append a (suc m) n =
+    let e : suc m + n ≡ suc (m + n) = omega arith in
+    let f : a + 6 + 6 * m ≡ a + 6 * suc m = omega arith in
+    ap (sixes a) e ∙ ap (λ l. a ∷ l) (sixes-append (a + 6) m n ∙ ap (λ z. sixes (a + 6) m ++ sixes z n) f)
+
+sixes-map : (f : ℕ → ℕ) (a m n : ℕ) → ((q : ℕ) → q < n → f (m + q) ≡ a + 6 * q) → map f (range m n) ≡ sixes a n
+unfolding sixes
+sixes-map f a m zero h = refl
+sixes-map f a m (suc n) h =
+    let e : m ≡ m + 0 = omega arith in
+    let z : a + 6 * 0 ≡ a = omega arith in
+    ap₂ (λ x l. x ∷ l) (ap f e ∙ h 0 (omega arith) ∙ z) (sixes-map f (a + 6) (suc m) n (λ q l.
+    let i : suc m + q ≡ m + suc q = omega arith in
+    let j : a + 6 * suc q ≡ a + 6 + 6 * q = omega arith in
+    ap f i ∙ h (suc q) (omega arith) ∙ j))
+
+row-sixes : (d first i k : ℕ) → i < d → map (λ j. cellAt d first i j + k) (others d i) ≡ sixes (first + cellRow d i + k) (d - 1)
+row-sixes d first i k l =
+    let f : ℕ → ℕ = λ j. cellAt d first i j + k in
+    let a = first + cellRow d i + k in
+    let e : i + (d - suc i) ≡ d - 1 = omega arith in
+    ap (map f) (others-is d i l) ∙ map-append f (range 0 i) (range (suc i) (d - suc i))
+    ∙ ap₂ (λ x y. x ++ y)
+    (sixes-map f a 0 i (λ q h. low q h))
+    (sixes-map f (a + 6 * i) (suc i) (d - suc i) (λ q h. high q))
+    ∙ sym (sixes-append a i (d - suc i)) ∙ ap (sixes a) e
+  where
+    low : (q : ℕ) → q < i → cellAt d first i (0 + q) + k ≡ first + cellRow d i + k + 6 * q
+    low q h = omega (arith, slot-low i (0 + q) (omega arith))
+
+    high : (q : ℕ) → cellAt d first i (suc i + q) + k ≡ first + cellRow d i + k + 6 * i + 6 * q
+    high q = omega (arith, slot-high i (suc i + q) (omega arith))
+
+pub out-wires : (d first i : ℕ) → i < d
+    → (ownAt d first i + 2) ∷ map (λ j. cellAt d first i j + 1) (others d i) ++ map (λ j. cellAt d first i j + 5) (others d i) ≡ outWires d first i
+out-wires d first i l = ap₂ (λ x y. ((ownAt d first i + 2) ∷ x) ++ y) (row-sixes d first i 1 l) (row-sixes d first i 5 l)
+
+-- the wires of two shares
+pub cell-moved : (x a b r : ℕ) (marks : List ℕ)
+    → Moves (CellGates x a b r) x (x + 6) marks (propagated x (a ∷ (r + 1) ∷ []) (propagated (x + 2) (b ∷ r ∷ []) (propagated (x + 4) (a ∷ (x + 3) ∷ []) marks)))
+cell-moved x a b r marks =
+    let one = propagated (x + 4) (a ∷ (x + 3) ∷ []) marks in
+    let two = propagated (x + 2) (b ∷ r ∷ []) one in
+    moves-then (omega arith) (moves-at refl (omega arith) (moves-stop (x + 5) marks (λ g h. ap isStop (h .5))))
+    (moves-then (omega arith) (moves-at refl (omega arith) (moves-gate (x + 4) (product a (x + 3)) marks refl (λ g h. h .4)))
+    (moves-then (omega arith) (moves-at refl (omega arith) (moves-stop (x + 3) one (λ g h. ap isStop (h .3))))
+    (moves-then (omega arith) (moves-at refl (omega arith) (moves-gate (x + 2) (sum (b ∷ r ∷ [])) one refl (λ g h. h .2)))
+    (moves-then (omega arith) (moves-at refl (omega arith) (moves-stop (x + 1) two (λ g h. ap isStop (h .1))))
+    (moves-gate x (andNot a (r + 1)) two refl (λ g h. h .0))))))
+
+pub sixes-turn : (x count k : ℕ) → k < count → sixes x (count - k) ≡ x ∷ sixes (x + 6) (count - (k + 1))
+unfolding sixes
+sixes-turn x count k h = let e : count - k ≡ suc (count - (k + 1)) = omega arith in ap (sixes x) e
+
+pub sixes-end : (x count k : ℕ) → count ≤ k → sixes x (count - k) ≡ []
+unfolding sixes
+sixes-end x count k h = let e : count - k ≡ 0 = omega arith in ap (sixes x) e
+
+-- an output
+pub out-moved : (d first i : ℕ) (marks : List ℕ) → i < d → Moves (OutGates d first) (outAt d first i) (outAt d first (i + 1)) marks (propagated (outAt d first i) (outWires d first i) marks)
+out-moved d first i marks l =
+    let ops = (ownAt d first i + 2) ∷ map (λ j. cellAt d first i j + 1) (others d i) ++ map (λ j. cellAt d first i j + 5) (others d i) in
+    moves-at refl (omega arith) (subst (λ (w : List ℕ). Moves (OutGates d first) (outAt d first i) (outAt d first i + 1) marks (propagated (outAt d first i) w marks)) (out-wires d first i l)
+    (moves-gate (outAt d first i) (sum ops) marks refl (λ g h. h i l)))
+
+-- the wires of the share i and each from j on
+pub row-moved : (d first : ℕ) (a b : ℕ → ℕ) (i j top : ℕ) (old mid new : List ℕ) → j < d → (j ≡ i → ⊥) → cellAt d first i (j + 1) ≤ top
+    → Moves (CellsGates d first a b i) (cellAt d first i (j + 1)) top old mid → Moves (CellGates (cellAt d first i j) (a i) (b j) (pairAt d first i j)) (cellAt d first i j) (cellAt d first i j + 6) mid new
+    → Moves (CellsGates d first a b i) (cellAt d first i j) top old new
+row-moved d first a b i j top old mid new l ne h f g = moves-then h f (moves-at refl (omega (arith, slot-next i j ne)) (moves-for (λ z q. q j l ne) g))
+
+-- both halves of a row
+pub rows-moved : (d first : ℕ) (a b : ℕ → ℕ) (i : ℕ) (old mid one two : List ℕ) → i < d
+    → Moves (RowsGates d first a b) (first + cellRow d (i + 1)) (first + cellRow d d) old mid
+    → Moves (CellsGates d first a b i) (cellAt d first i (i + 1)) (cellAt d first i d) mid one → Moves (CellsGates d first a b i) (cellAt d first i 0) (cellAt d first i i) one two
+    → Moves (RowsGates d first a b) (first + cellRow d i) (first + cellRow d d) old two
+rows-moved d first a b i old mid one two l f g h =
+    moves-then (row-room d first i l) f
+    (moves-then (omega (arith, slot-high i (i + 1) (omega arith), last-slot)) (moves-at (omega (arith, slot-low i i (omega arith), slot-high i (i + 1) (omega arith))) (ap (λ n. first + cellRow d i + 6 * n) (slot-high i d l) ∙ row-next d first i) (moves-for (λ z q. q i l) g))
+    (moves-at (omega (arith, slot-low i 0 (omega arith))) refl (moves-for (λ z q. q i l) h)))
+  where
+    last-slot : cellAt d first i i ≤ first + cellRow d (i + 1)
+    last-slot = within (cellRow d i) (cellRow d (i + 1)) (slotOf i i) (slot-low i i (omega arith)) (row-next d first i)
+      where
+        within : (x y n : ℕ) → n ≡ i → first + x + 6 * (d - 1) ≡ first + y → first + x + 6 * n ≤ first + y
+        within x y n e k = omega arith
+
+-- B, m and M
+pub own-moved : (x a b : ℕ) (marks : List ℕ) → Moves (OwnGates x a b) x (x + 3) marks (propagated (x + 1) (a ∷ x ∷ []) marks)
+own-moved x a b marks =
+    let new = propagated (x + 1) (a ∷ x ∷ []) marks in
+    moves-then (omega arith) (moves-at refl (omega arith) (moves-stop (x + 2) marks (λ g h. ap isStop (h .2))))
+    (moves-then (omega arith) (moves-at refl (omega arith) (moves-gate (x + 1) (product a x) marks refl (λ g h. h .1))) (moves-stop x new (λ g h. ap isStop (h .0))))
+
+-- r and R of every pair
+moves-pairs : {G : (ℕ → Gate) → Type 0} (from count : ℕ) (marks : List ℕ)
+    → ((g : ℕ → Gate) → G g → (q : ℕ) → q < count → (isStop (g (from + 2 * q)) ≡ true) × (isStop (g (from + 2 * q + 1)) ≡ true)) → Moves G from (from + 2 * count) marks marks
+moves-pairs from zero marks k = moves-at refl (omega arith) (moves-none from marks)
+moves-pairs from (suc n) marks k =
+    moves-then (omega arith) (moves-at refl (omega arith) (moves-stop (from + 2 * n + 1) marks (λ g h. k g h n (omega arith) .1)))
+    (moves-then (omega arith) (moves-stop (from + 2 * n) marks (λ g h. k g h n (omega arith) .0)) (moves-pairs from n marks (λ g h q l. k g h q (omega arith))))
+
+pub and-moved : (d first : ℕ) (a b : ℕ → ℕ) (old one two three : List ℕ) → Moves (OutGates d first) (outAt d first 0) (outAt d first d) old one
+    → Moves (RowsGates d first a b) (first + cellRow d 0) (first + cellRow d d) one two
+    → Moves (OwnsGates d first a b) (ownAt d first 0) (ownAt d first d) two three
+    → Moves (λ g. AndGates g d first a b) first (first + (7 * (d * (d - 1)) + 4 * d)) old three
+and-moved d first a b old one two three outs rows owns =
+    moves-then (omega arith) (moves-at (omega arith) (omega arith) (moves-for (λ g h. h .outs) outs))
+    (moves-then (omega arith) (moves-for (λ g h. h .cells) rows)
+    (moves-then (omega arith) (moves-at refl (omega arith) (moves-for (λ g h. h .owns) owns))
+    (moves-at refl (omega (arith, pairs-twice d)) (moves-pairs first (pairs d) three (λ g h q l. (ap isStop (h .draws q l .0), ap isStop (h .draws q l .1)))))))
+
+pub zero-is : (n : ℕ) → n ≤ 0 → n ≡ 0
+zero-is n h = omega arith
+
+-- an output's marks, as the code sets them
+pub out-handed : (d first i : ℕ) (marks one two : List ℕ) (wire row : ℕ) → wire ≡ outAt d first i → row ≡ first + cellRow d i → 1 ≤ nth marks wire
+    → one ≡ markAll (set marks (ownAt d first i + 2) 1) (sixes (row + 1) (d - 1)) → two ≡ markAll one (sixes (row + 5) (d - 1))
+    → set two wire 0 ≡ propagated (outAt d first i) (outWires d first i) marks
+out-handed d first i marks one two wire row w r h e f =
+    let start = set marks (ownAt d first i + 2) 1 in
+    let all : two ≡ markAll marks (outWires d first i) = f ∙ ap₂ (λ l n. markAll l (sixes (n + 5) (d - 1))) (e ∙ ap (λ n. markAll start (sixes (n + 1) (d - 1))) r) r
+    ∙ sym (mark-append start (sixes (first + cellRow d i + 1) (d - 1)) (sixes (first + cellRow d i + 5) (d - 1))) in
+    ap₂ (λ l n. set l n 0) all w ∙ sym (ap (λ b. cond b marks (set (markAll marks (outWires d first i)) (outAt d first i) 0)) (le-ltb (nth marks (outAt d first i)) 1 (subst (λ (n : ℕ). 1 ≤ nth marks n) w h)))
+
+pub below-is : (n m : ℕ) → m ≤ n → n ≤ m → n ≡ m
+below-is n m h k = omega arith
+
+-- the wires of a later share stand later
+pub slots-up : (d first i j k : ℕ) → j ≤ k → cellAt d first i j ≤ cellAt d first i k
+slots-up d first i j k h = within (cellRow d i) (slotOf i j) (slotOf i k) (slots i j k h)
+  where
+    within : (x s t : ℕ) → s ≤ t → first + x + 6 * s ≤ first + x + 6 * t
+    within x s t z = omega arith
+
+-- the random bits of a sum of REF
+pub masks-turn : (f : ℕ → ℕ) (to j : ℕ) → j < to → map f (range j (to - j)) ≡ f j ∷ map f (range (j + 1) (to - (j + 1)))
+masks-turn f to j h = ap (map f) (range-turn to j h)
+
+pub masks-end : (f : ℕ → ℕ) (to j : ℕ) → to ≤ j → map f (range j (to - j)) ≡ []
+masks-end f to j h = ap (map f) (range-end to j h)
+
+-- a sum's marks, as the code sets them
+pub sum-handed : (d first i a : ℕ) (marks one two : List ℕ) (wire : ℕ) → i < d → wire ≡ sumAt d first i → 1 ≤ nth marks wire
+    → one ≡ markAll (set marks a 1) (map (maskAt d first i) (range 0 (i - 0))) → two ≡ markAll one (map (maskAt d first i) (range (i + 1) (d - (i + 1))))
+    → set two wire 0 ≡ propagated (sumAt d first i) (a ∷ map (maskAt d first i) (others d i)) marks
+sum-handed d first i a marks one two wire l w h e f =
+    let g = maskAt d first i in
+    let low = range 0 (i - 0) in
+    let high = range (i + 1) (d - (i + 1)) in
+    let z : i ≡ i - 0 = omega arith in
+    let y : suc i ≡ i + 1 = omega arith in
+    let whole : map g (others d i) ≡ map g low ++ map g high = ap (map g) (others-is d i l ∙ ap₂ (λ m n. range 0 m ++ range n (d - n)) z y) ∙ map-append g low high in
+    let all : two ≡ markAll (set marks a 1) (map g (others d i)) = f ∙ ap (λ x. markAll x (map g high)) e ∙ sym (mark-append (set marks a 1) (map g low) (map g high)) ∙ ap (markAll (set marks a 1)) (sym whole) in
+    ap₂ (λ x n. set x n 0) all w ∙ sym (ap (λ b. cond b marks (set (markAll marks (a ∷ map g (others d i))) (sumAt d first i) 0)) (le-ltb (nth marks (sumAt d first i)) 1 (subst (λ (n : ℕ). 1 ≤ nth marks n) w h)))
+
+pub sum-moved : (d first : ℕ) (a : ℕ → ℕ) (i : ℕ) (marks : List ℕ) → i < d
+    → Moves (λ g. RefGates g d first a) (sumAt d first i) (sumAt d first (i + 1)) marks (propagated (sumAt d first i) (a i ∷ map (maskAt d first i) (others d i)) marks)
+sum-moved d first a i marks l = moves-at refl (omega arith) (moves-gate (sumAt d first i) (sum (a i ∷ map (maskAt d first i) (others d i))) marks refl (λ g h. h .sums i l))
+
+-- REF's outputs are stops, and so are its random bits
+pub held-moved : (d first : ℕ) (a : ℕ → ℕ) (marks : List ℕ) → Moves (λ g. RefGates g d first a) (sumAt d first d) (first + (pairs d + 2 * d)) marks marks
+held-moved d first a marks = moves-at refl (omega arith) (moves-stops (sumAt d first d) d marks (λ g h q l. let e : heldAt d first q ≡ sumAt d first d + q = omega arith in ap isStop (subst (λ (n : ℕ). g n ≡ reg (sumAt d first q)) e (h .holds q l))))
+
+pub drawn-moved : (d first : ℕ) (a : ℕ → ℕ) (marks : List ℕ) → Moves (λ g. RefGates g d first a) first (sumAt d first 0) marks marks
+drawn-moved d first a marks = moves-at refl (omega arith) (moves-stops first (pairs d) marks (λ g h q l. ap isStop (h .draws q l)))
+
+-- wires with no mark
+pub moves-unmarked : {G : (ℕ → Gate) → Type 0} (from to : ℕ) (marks : List ℕ) → ((x : ℕ) → from ≤ x → x < to → nth marks x < 1) → Moves G from to marks marks
+moves-unmarked from to marks k = record {
+  moved = λ ws probes o h l r m. record {
+    into = m .into;
+    from = m .from;
+    made = m .made;
+    settled = λ x p q. cases (ltb x to)
+        (λ e. absurd (false≢true (sym (set-low (nth marks x) (k x p (ltb-true x to e))) ∙ q)))
+        (λ e. m .settled x (ltb-false x to e) q);
+  };
+  size = refl;
+}
+
+-- a gate with one operand, marked twice
+pub twice-moved : {G : (ℕ → Gate) → Type 0} (x y : ℕ) (marks : List ℕ) → ((g : ℕ → Gate) → G g → g x ≡ inverse y) → Moves G x (x + 1) marks (propagated x (y ∷ y ∷ []) marks)
+twice-moved x y marks k = moves-hand x (y ∷ y ∷ []) marks (λ g h. ap isStop (k g h))
+    (λ g h z i. subst (λ (t : Gate). In z (operands t)) (sym (k g h)) (or-cases (eqb z y) (mem z (y ∷ [])) i (or-left (eqb z y) false) (λ e. e)))
+    (λ g h z i. or-right (eqb z y) (mem z (y ∷ [])) (subst (λ (t : Gate). In z (operands t)) (k g h) i))

@@ -1,0 +1,124 @@
+-- Marks on probed wires, moved on from the last wire to the first, end on the stops that the probes read.
+use mathlib.Core.Path.{_≡_, refl, sym, subst, _∙_}
+use mathlib.Core.Bool.{Bool, true, false, false≢true}
+use mathlib.Core.List.{List, [], _∷_, _++_}
+use Prim.Native.Nat.{ℕ, suc, _+_, _≤_, _<_}
+use native.Mathlib.Omega.{arith}
+use lib.Dec.{eqb, ltb}
+use lib.ListN.{length, set}
+use borrow.Author.Tests.{eqb-true, eqb-false, ltb-true, ltb-false}
+use Rattle.circuit.specs.Lists.{nth, mem, concatMap}
+use Rattle.circuit.specs.Circuit.{isSet}
+use Rattle.circuit.specs.Wires.{Wire, Gate}
+use Rattle.circuit.proofs.Base.{cases, or-cases, or-left, lt-ne, In, in-head, in-tail, in-each, every-in, Every}
+use Rattle.circuit.proofs.Numbered.{all-get}
+use Rattle.semantics.specs.Probes.{isStop, operands, stops}
+use Rattle.semantics.proofs.Reading.{probe, stop-reads, gate-reads}
+use Rattle.simulation.specs.Internal.Gates.{nothing, gateAt}
+use Rattle.simulation.specs.Internal.Marks.{markAll, propagated, Ordered, Marked, Source, Moving}
+use Rattle.simulation.proofs.Bits.{set-low, set-high}
+use Rattle.simulation.proofs.Marked.{mark-keep, mark-new, mark-cases, clear-cases, clear-other}
+
+-- lists
+in-left : (s : ℕ) (xs ys : List ℕ) → In s xs → In s (xs ++ ys)
+in-left s [] ys h = absurd (false≢true h)
+in-left s (x ∷ xs) ys h = or-cases (eqb s x) (mem s xs) h (λ e. or-left (eqb s x) _ e) (λ e. in-tail s x (xs ++ ys) (in-left s xs ys e))
+
+in-right : (s : ℕ) (xs ys : List ℕ) → In s ys → In s (xs ++ ys)
+in-right s [] ys h = h
+in-right s (x ∷ xs) ys h = in-tail s x (xs ++ ys) (in-right s xs ys h)
+
+concatMap-in : (s : ℕ) (f : ℕ → List ℕ) (xs : List ℕ) (y : ℕ) → In y xs → In s (f y) → In s (concatMap xs f)
+concatMap-in s f [] y h g = absurd (false≢true h)
+concatMap-in s f (x ∷ xs) y h g = or-cases (eqb y x) (mem y xs) h
+    (λ e. in-left s (f x) (concatMap xs f) (subst (λ (n : ℕ). In s (f n)) (eqb-true y x e) g))
+    (λ e. in-right s (f x) (concatMap xs f) (concatMap-in s f xs y e g))
+
+in-one : (s x : ℕ) → In s (x ∷ []) → s ≡ x
+in-one s x h = or-cases (eqb s x) false h (eqb-true s x) (λ e. absurd (false≢true e))
+
+pub same-test : (a b : Bool) → (a ≡ true → b ≡ true) → (b ≡ true → a ≡ true) → a ≡ b
+same-test true b f g = sym (f refl)
+same-test false b f g = cases b (λ e. g e ∙ sym e) (λ e. sym e)
+
+pub moving-start : (ws : List Wire) (probes marks : List ℕ) → ((x : ℕ) → isSet (nth marks x) ≡ mem x probes) → ((x : ℕ) → In x probes → x < length ws) → Moving ws probes marks (length ws)
+unfolding stops
+moving-start ws probes marks e l = record {
+  into = λ x s m i. concatMap-in s (probe ws) probes x (sym (e x) ∙ m) i;
+  from = λ s i. in-each s (probe ws) probes i (λ y p q. record { wire = y; marked = e y ∙ p; reads = q });
+  made = λ x m. l x (sym (e x) ∙ m);
+  settled = λ x h m. let k = l x (sym (e x) ∙ m) in absurd (omega arith);
+}
+
+module _ (ws : List Wire) (early : Ordered ws) (probes marks : List ℕ) (w : ℕ) (l : w < length ws) (room : length ws ≤ length marks) (h : Moving ws probes marks (suc w)) where
+  abbrev g : Gate
+  g = gateAt ws w
+
+  early-at : (y : ℕ) → In y (operands g) → y < w
+  early-at y i = subst (λ (n : ℕ). y < n) (omega arith) (every-in (λ y. y < 0 + w) (operands g) (all-get (λ x wire. Every (λ y. y < x) (operands (wire .gate))) 0 ws nothing early w l) y i)
+
+  -- a stop, or a wire with no mark, stays
+  stays : (Marked marks w → isStop g ≡ true) → Moving ws probes marks w
+  stays f = record {
+    into = h .into;
+    from = h .from;
+    made = h .made;
+    settled = λ x k m. cases (ltb w x) (λ e. h .settled x (ltb-true w x e) m)
+        (λ e. let z : w ≡ x = omega (arith, ltb-false w x e) in subst (λ (n : ℕ). isStop (gateAt ws n) ≡ true) z (f (subst (Marked marks) (sym z) m)));
+  }
+
+  -- a mark on another wire goes to the wires that it takes, in any order
+  module _ (ops : List ℕ) (out : (y : ℕ) → In y ops → In y (operands g)) (back : (y : ℕ) → In y (operands g) → In y ops) where
+    moved : isStop g ≡ false → Marked marks w → Moving ws probes (set (markAll marks ops) w 0) w
+    moved stop mine = record {
+      into = λ x s m i. clear-cases (markAll marks ops) w x m (λ e m′. mark-cases marks ops x m′
+          (λ k. h .into w s mine (rw (gate-reads ws early nothing w l stop) (concatMap-in s (probe ws) (operands g) x (out x k) i)))
+          (λ k. h .into x s k i));
+      from = λ s i. next s (h .from s i);
+      made = λ x m. clear-cases (markAll marks ops) w x m (λ e m′. mark-cases marks ops x m′ (λ k. omega (arith, early-at x (out x k))) (λ k. h .made x k));
+      settled = λ x k m. clear-cases (markAll marks ops) w x m (λ e m′. mark-cases marks ops x m′
+          (λ i. absurd (omega (arith, early-at x (out x i))))
+          (λ i. h .settled x (above x k e) i));
+    }
+      where
+        above : (x : ℕ) → w ≤ x → eqb x w ≡ false → suc w ≤ x
+        above x k e = cases (ltb w x) (ltb-true w x) (λ z. absurd (eqb-false x w e (omega (arith, ltb-false w x z))))
+
+        new : ℕ → Type 0
+        new s = Source ws (set (markAll marks ops) w 0) s
+
+        next : (s : ℕ) → Source ws marks s → new s
+        next s t = cases (eqb (t .wire) w)
+            (λ e. in-each s (probe ws) (operands g)
+            (subst (In s) (gate-reads ws early nothing w l stop) (subst (λ (n : ℕ). In s (probe ws n)) (eqb-true (t .wire) w e) (t .reads)))
+            (λ y p q. record {
+              wire = y;
+              marked = clear-other (markAll marks ops) w y (lt-ne y w (early-at y p)) (mark-new marks ops y (back y p) (omega (arith, early-at y p)));
+              reads = q;
+            }))
+            (λ e. record {
+              wire = t .wire;
+              marked = clear-other (markAll marks ops) w (t .wire) e (mark-keep marks ops (t .wire) (t .marked));
+              reads = t .reads;
+            })
+
+    pub moving-gate : isStop g ≡ false → Moving ws probes (propagated w ops marks) w
+    moving-gate e = cases (ltb (nth marks w) 1)
+        (λ k. rw k (stays (λ m. absurd (false≢true (sym (set-low (nth marks w) (ltb-true (nth marks w) 1 k)) ∙ m)))))
+        (λ k. rw k (moved e (set-high (nth marks w) (ltb-false (nth marks w) 1 k))))
+
+  pub moving-stop : isStop g ≡ true → Moving ws probes marks w
+  moving-stop e = stays (λ m. e)
+
+-- at the end the marked wires are the stops read
+pub moving-end : (ws : List Wire) → Ordered ws → (probes marks : List ℕ) → Moving ws probes marks 0 → (x : ℕ)
+    → (isSet (nth marks x) ≡ mem x (stops ws probes)) × (Marked marks x → x < length ws)
+moving-end ws early probes marks h x = (
+  same-test (isSet (nth marks x)) (mem x (stops ws probes))
+      (λ m. h .into x x m (rw (alone x m) (in-head x [])))
+      (λ i. let s = h .from x i in subst (Marked marks) (sym (in-one x (s .wire) (subst (In x) (alone (s .wire) (s .marked)) (s .reads)))) (s .marked)),
+  h .made x,
+)
+  where
+    alone : (y : ℕ) → Marked marks y → probe ws y ≡ y ∷ []
+    alone y m = stop-reads ws early nothing y (h .made y m) (h .settled y (omega arith) m)

@@ -1,0 +1,58 @@
+-- `evaluation::reach::mark_sixes` meets its contract.
+use mathlib.Core.Path.{_≡_, refl, sym, ap, _∙_}
+use Prim.Native.Nat.{_+_, _-_, _*_, _≤_}
+use native.Mathlib.Omega.{arith}
+use lib.ListN.{length, length-set}
+use Rattle.simulation.proofs.reach.mark_sixes.Statement.{statement}
+use Rattle.simulation.proofs.reach.mark_sixes.Tie as tie
+use Rattle.simulation.specs.Internal.Marks.{markAll, sixes}
+use Rattle.simulation.proofs.Moved.{sixes-turn, sixes-end}
+
+abbrev Inv-loop : tie.InvT-loop
+Inv-loop marks₀ from count x₀ k₀ marks x k = (k ≤ count) × (x ≡ from + 6 * k) × (markAll marks (sixes x (count - k)) ≡ markAll marks₀ (sixes from count)) × (length marks ≡ length marks₀)
+
+abbrev μ-loop : tie.MeasureT-loop
+μ-loop marks₀ from count x₀ k₀ marks x k = count - k
+
+loop-holds : tie.Need-loop-holds Inv-loop μ-loop
+loop-holds c =
+    let e : c .args .count - 0 ≡ c .args .count = omega arith in
+    (omega arith, omega arith, ap (λ n. markAll (c .args .marks .now) (sixes (c .args .from) n)) e, refl)
+
+slice-write-marks : tie.Need-slice-write-marks Inv-loop μ-loop
+slice-write-marks c = omega arith
+
+add-x : tie.Need-add-x Inv-loop μ-loop
+add-x c = record { fits = omega arith }
+
+add-k : tie.Need-add-k Inv-loop μ-loop
+add-k c = record { fits = omega arith }
+
+loop-less : tie.Need-loop-less Inv-loop μ-loop
+loop-less c = omega arith
+
+loop-again : tie.Need-loop-again Inv-loop μ-loop
+loop-again c =
+    let l = c .before .loop in
+    (omega arith, omega arith, sym (ap (markAll (l .marks)) (sixes-turn (l .x) (c .before .before .args .count) (l .k) (c .loop-test .taken))) ∙ l .inv .2, length-set (l .marks) (l .x) 1 ∙ l .inv .3)
+
+same-length : tie.Need-same-length Inv-loop μ-loop
+same-length c = c .before .loop .inv .3
+
+returns : tie.Need-returns Inv-loop μ-loop
+returns c = sym (ap (markAll (c .before .loop .marks)) (sixes-end (c .before .loop .x) (c .before .before .args .count) (c .before .loop .k) (c .loop-test .left))) ∙ c .before .loop .inv .2
+
+pub mark-sixes-spec : {M : Type 1} → statement M
+mark-sixes-spec =
+    tie.close
+    (tie.spec
+    Inv-loop
+    μ-loop
+    loop-holds
+    slice-write-marks
+    add-x
+    add-k
+    loop-less
+    loop-again
+    same-length
+    returns)

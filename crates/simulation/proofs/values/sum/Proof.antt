@@ -1,0 +1,31 @@
+-- `evaluation::values::sum` meets its contract.
+use mathlib.Core.Path.{sym, ap, ap₂, _∙_}
+use native.Mathlib.Omega.{arith}
+use lib.Bits.{bitXor}
+use borrow.Author.Needs.{needs}
+use Rattle.circuit.specs.Lists.{nth}
+use Rattle.semantics.specs.Values.{byte}
+use Rattle.simulation.proofs.values.sum.Statement.{statement}
+use Rattle.simulation.proofs.values.sum.Tie as tie
+use Rattle.simulation.proofs.Bits.{byte-xor}
+use Rattle.simulation.proofs.Filled.{fills-one}
+
+slice-read-values : tie.Need-slice-read-values
+slice-read-values c = omega arith
+
+slice-read-values-2 : tie.Need-slice-read-values-2
+slice-read-values-2 c = omega arith
+
+slice-write-values : tie.Need-slice-write-values
+slice-write-values c = omega arith
+
+returns : tie.Need-returns
+returns c =
+    let a = c .before .before .args in
+    let old = a .values .now in
+    fills-one (a .first) old (bitXor (nth old (a .one)) (nth old (a .other))) (omega arith) (λ v e k. ap₂ bitXor (k (a .one) (omega arith) (c .before .before .pre .1)) (k (a .other) (omega arith) (c .before .before .pre .2)) ∙ byte-xor (v (a .one)) (v (a .other)) ∙ ap byte (sym e))
+
+pub sum-spec : {M : Type 1} → statement M
+sum-spec =
+    tie.close
+    (tie.spec slice-read-values slice-read-values-2 slice-write-values (λ c. search needs) returns)

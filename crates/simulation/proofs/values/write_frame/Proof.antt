@@ -1,0 +1,120 @@
+-- `evaluation::values::write_frame` meets its contract: each arm's callee asks and ensures what the contract says of its frame.
+use mathlib.Core.Path.{_≡_, refl, ap, subst, _∙_}
+use Prim.Native.Nat.{_+_, _≤_}
+use native.Mathlib.Omega.{arith}
+use lib.ListN.{length}
+use borrow.Author.Needs.{needs}
+use Rattle.frames.specs.declared.walk.Gate.{Gate as GateCode}
+use Rattle.frames.specs.declared.walk.Frame.{Frame as FrameCode}
+use Rattle.frames.specs.declared.walk.Frame.the-variants as frame
+use Rattle.simulation.specs.Internal.Filling.{frameMakes}
+use Rattle.simulation.specs.Internal.Gadgets.{FrameReady}
+use Rattle.simulation.proofs.values.write_frame.Statement.{statement}
+use Rattle.simulation.proofs.values.write_frame.Tie as tie
+use Rattle.simulation.proofs.Filled.{fills-none, fills-at}
+
+-- what the contract asks of a frame
+abbrev Asked : tie.Start → FrameCode → Type 0
+Asked s f =
+    let a = s .args in
+    (a .ends .wires + frameMakes f (a .d) ≤ length (a .values .now)) × FrameReady f (a .d) (a .ends .wires) (a .ends .shares) (a .ends .randoms) (a .ops .now) (length (a .shares .now)) (length (a .tape .now))
+
+asked : (s : tie.Start) {f : FrameCode} → s .args .frame ≡ f → Asked s f
+asked s e = subst (Asked s) e (s .pre .1, s .pre .2)
+
+-- where the frame is known to be a gate
+abbrev entry : tie.After-known-told → tie.Start
+entry c = c .before .before .before .before .before .before .before
+
+asked-gate : (c : tie.After-known-told) {g : GateCode} → c .before .frame .given .0 .0 ≡ g → Asked (entry c) (frame.Gate g)
+asked-gate c e = asked (entry c) (c .before .frame .given .1 ∙ ap frame.Gate e)
+
+copy-requires : tie.Need-copy-requires
+copy-requires c κs =
+    let g = c .before .before .before in
+    let q = asked-gate g (c .before .enum-told .given .1) in
+    (q .0, q .1, entry g .pre .3)
+
+constant-requires : tie.Need-constant-requires
+constant-requires c κs = asked-gate (c .before .before .before .before) (c .before .before .gate .given .1) .0
+
+sum-requires : tie.Need-sum-requires
+sum-requires c κs = let q = asked-gate (c .before .before .before .before) (c .before .before .gate2 .given .1) in (q .0, q .1 .0, q .1 .1)
+
+inverse-requires : tie.Need-inverse-requires
+inverse-requires c κs = asked-gate (c .before .before .before .before) (c .before .before .gate3 .given .1)
+
+register-requires : tie.Need-register-requires
+register-requires c κs = asked-gate (c .before .before .before .before) (c .before .before .gate4 .given .1)
+
+and-requires : tie.Need-and-requires
+and-requires c κs =
+    let s = c .before .before .before .before .before .before .before in
+    let q = asked s (c .before .enum-told3 .given .1) in
+    (s .pre .0, q .1 .0, q .1 .1, q .1 .2, omega (arith, q .0), q .1 .3, s .pre .4)
+
+refresh-requires : tie.Need-refresh-requires
+refresh-requires c κs =
+    let s = c .before .before .before .before .before .before .before in
+    let q = asked s (c .before .enum-told4 .given .1) in
+    (s .pre .0, q .1 .0, q .1 .1, omega (arith, q .0), q .1 .2, s .pre .4)
+
+returns : tie.Need-returns
+returns c = rw (c .before .before .before .before .before .before .before .frame .given .1, c .before .before .before .before .enum-told .given .1) (c .before .before .copy .ensures)
+
+returns-2 : tie.Need-returns-2
+returns-2 c = rw (c .before .before .before .before .before .before .before .before .frame .given .1, c .before .before .before .before .before .gate .given .1) (c .before .before .constant .ensures)
+
+returns-3 : tie.Need-returns-3
+returns-3 c = rw (c .before .before .before .before .before .before .before .before .frame .given .1, c .before .before .before .before .before .gate2 .given .1) (c .before .before .sum .ensures)
+
+returns-4 : tie.Need-returns-4
+returns-4 c = rw (c .before .before .before .before .before .before .before .before .frame .given .1, c .before .before .before .before .before .gate3 .given .1) (c .before .before .inverse .ensures)
+
+returns-5 : tie.Need-returns-5
+returns-5 c = rw (c .before .before .before .before .before .before .before .before .frame .given .1, c .before .before .before .before .before .gate4 .given .1) (c .before .before .register .ensures)
+
+returns-6 : tie.Need-returns-6
+returns-6 c = rw (c .before .before .before .frame .given .1, c .enum-told2 .given .1) (fills-at refl (omega arith) (fills-none _ _))
+
+returns-7 : tie.Need-returns-7
+returns-7 c = rw (c .before .before .before .before .enum-told3 .given .1) (c .before .before .and .ensures)
+
+returns-8 : tie.Need-returns-8
+returns-8 c = rw (c .before .before .before .before .enum-told4 .given .1) (c .before .before .refresh .ensures)
+
+pub write-frame-spec : {M : Type 1} → statement M
+write-frame-spec =
+    tie.close
+    (tie.spec
+    (λ c. search needs)
+    (λ c. search needs)
+    copy-requires
+    (λ c. search needs)
+    constant-requires
+    (λ c. search needs)
+    sum-requires
+    (λ c. search needs)
+    inverse-requires
+    (λ c. search needs)
+    register-requires
+    (λ c. search needs)
+    (λ c. search needs)
+    and-requires
+    (λ c. search needs)
+    refresh-requires
+    (λ c. c .before .before .copy .ensures .size)
+    returns
+    (λ c. c .before .before .constant .ensures .size)
+    returns-2
+    (λ c. c .before .before .sum .ensures .size)
+    returns-3
+    (λ c. c .before .before .inverse .ensures .size)
+    returns-4
+    (λ c. c .before .before .register .ensures .size)
+    returns-5
+    returns-6
+    (λ c. c .before .before .and .ensures .size)
+    returns-7
+    (λ c. c .before .before .refresh .ensures .size)
+    returns-8)

@@ -1,0 +1,12 @@
+-- Where the gadgets' wires stand, and their gates there
+pub mod Places
+pub mod Gates
+-- Values filled in
+pub mod Filling
+pub mod Gadgets
+pub mod Evaluating
+-- Marks that end on stops
+pub mod Marks
+pub mod Walking
+-- Bytes looked at together
+pub mod Bytes

@@ -1,0 +1,186 @@
+// The values of the wires of AND and REF, in the order of document 01.
+ghost use mathlib.Core.Path.{_≡_};
+ghost use Prim.Native.Nat.{ℕ, _+_, _-_, _*_, _≤_, _<_};
+ghost use lib.ListN.{length};
+ghost use Rattle.circuit.specs.Kinds.{pairs};
+ghost use Rattle.simulation.specs.Internal.Places.{wordA, wordB, ownAt, cellRow, outAt};
+ghost use Rattle.simulation.specs.Internal.Filling.{Fills, Bits, Copied, Drawn, Owned, Multiplied, AndValues, Masked, Held, RefValues};
+ghost use Rattle.simulation.specs.Internal.Gadgets.{Crosses, CrossesRow, Sums, Small, RowBefore, Roomy};
+use super::places;
+
+// So many bits of a sheet, from a place on.
+pub(crate) fn copy(values: &mut [u8], at: usize, sheet: &[u8], from: usize, count: usize)
+    requires { ⌜ (at + count ≤ length (now values)) × (from + count ≤ length (now sheet)) × Bits (now sheet) ⌝ }
+    ensures { λ _. ⌜ Fills (Copied (now (sheet .entry)) from at count) at (at + count) (now (values .entry)) (now (values .exit)) ⌝ }
+{
+    let mut q = 0;
+    while q < count {
+        values[at + q] = sheet[from + q];
+        q += 1;
+    }
+}
+
+// AND's wires r and R of every pair.
+fn draws(values: &mut [u8], at: usize, tape: &[u8], used: usize, count: usize)
+    requires { ⌜ (at + 2 * count ≤ length (now values)) × (used + count ≤ length (now tape)) × Bits (now tape) ⌝ }
+    ensures { λ _. ⌜ Fills (Drawn (now (tape .entry)) used at count) at (at + 2 * count) (now (values .entry)) (now (values .exit)) ⌝ }
+{
+    let mut q = 0;
+    while q < count {
+        let bit = tape[used + q];
+        values[at + 2 * q] = bit;
+        values[at + 2 * q + 1] = bit;
+        q += 1;
+    }
+}
+
+// AND's wires B, m and M of every share.
+fn owns(values: &mut [u8], first: usize, d: usize, ops: &[u16])
+    requires { ⌜ Small first d × (length (now ops) ≡ 1 + d + d) × RowBefore first d (wordA (now ops)) × RowBefore first d (wordB d (now ops)) × (ownAt d first d ≤ length (now values)) ⌝ }
+    ensures { λ _. ⌜ Fills (Owned d first (wordA (now (ops .entry))) (wordB d (now (ops .entry)))) (ownAt d first 0) (ownAt d first d) (now (values .entry)) (now (values .exit)) ⌝ }
+{
+    let start = first + d * (d - 1);
+    let mut i = 0;
+    while i < d {
+        let x = ops[1 + i] as usize;
+        let y = ops[1 + d + i] as usize;
+        let b = values[y];
+        let m = values[x] & b;
+        values[start + 3 * i] = b;
+        values[start + 3 * i + 1] = m;
+        values[start + 3 * i + 2] = m;
+        i += 1;
+    }
+}
+
+// AND's wires u, U, v, V, w and W of two shares, from the bits of a, b and r. The answer is the sum of U and W.
+fn cross(values: &mut [u8], at: usize, a: u8, b: u8, r: u8) -> u8
+    requires { ⌜ at + 6 ≤ length (now values) ⌝ }
+    ensures { λ s. ⌜ Crosses at a b r (now (values .entry)) (now (values .exit)) s ⌝ }
+{
+    let u = (1 ^ a) & r;
+    let v = b ^ r;
+    let w = a & v;
+    values[at] = u;
+    values[at + 1] = u;
+    values[at + 2] = v;
+    values[at + 3] = v;
+    values[at + 4] = w;
+    values[at + 5] = w;
+    u ^ w
+}
+
+// The same of the share i and each from one to another, added to a bit.
+fn cross_row(
+    values: &mut [u8],
+    first: usize,
+    d: usize,
+    i: usize,
+    a: u8,
+    bit: u8,
+    from: usize,
+    to: usize,
+) -> u8
+    requires { ⌜ Small first d × (i < d) × (to ≤ d) × Roomy d first (now values) × ((j : ℕ) → from ≤ j → j < to → j ≡ i → ⊥) × (from ≤ to) ⌝ }
+    ensures { λ s. ⌜ CrossesRow d first i a bit from to (now (values .entry)) (now (values .exit)) s ⌝ }
+{
+    let own = first + d * (d - 1);
+    let start = first + places::cell_row(d, i);
+    let mut sum = bit;
+    let mut j = from;
+    while j < to {
+        let r = values[first + 2 * places::pair_site(d, i, j)];
+        let b = values[own + 3 * j];
+        sum = sum ^ cross(values, start + 6 * places::slot(i, j), a, b, r);
+        j += 1;
+    }
+    sum
+}
+
+// The same of every share and each other, and the outputs.
+fn cross_all(values: &mut [u8], first: usize, d: usize, ops: &[u16])
+    requires { ⌜ Small first d × (1 + d ≤ length (now ops)) × RowBefore first d (wordA (now ops)) × Roomy d first (now values) ⌝ }
+    ensures { λ _. ⌜ Fills (Multiplied d first (wordA (now (ops .entry)))) (first + cellRow d 0) (outAt d first d) (now (values .entry)) (now (values .exit)) ⌝ }
+{
+    let own = first + d * (d - 1);
+    let outs = first + places::cell_row(d, d);
+    let mut i = 0;
+    while i < d {
+        let x = ops[1 + i] as usize;
+        let a = values[x];
+        let m = values[own + 3 * i + 2];
+        let lower = cross_row(values, first, d, i, a, m, 0, i);
+        values[outs + i] = cross_row(values, first, d, i, a, lower, i + 1, d);
+        i += 1;
+    }
+}
+
+// AND.
+pub(crate) fn and(values: &mut [u8], first: usize, d: usize, ops: &[u16], tape: &[u8], used: usize)
+    requires { ⌜ Small first d × (length (now ops) ≡ 1 + d + d) × RowBefore first d (wordA (now ops)) × RowBefore first d (wordB d (now ops)) × Roomy d first (now values) × (used + pairs d ≤ length (now tape)) × Bits (now tape) ⌝ }
+    ensures { λ _. ⌜ Fills (AndValues d first (wordA (now (ops .entry))) (wordB d (now (ops .entry))) (now (tape .entry)) used) first (first + (7 * (d * (d - 1)) + 4 * d)) (now (values .entry)) (now (values .exit)) ⌝ }
+{
+    draws(values, first, tape, used, places::pairs(d));
+    owns(values, first, d, ops);
+    cross_all(values, first, d, ops);
+}
+
+// The sum of a bit and REF's random bits of the share i and each from one to another.
+fn add_masks(values: &[u8], first: usize, d: usize, i: usize, bit: u8, from: usize, to: usize) -> u8
+    requires { ⌜ Small first d × (i < d) × (to ≤ d) × (first + pairs d ≤ length (now values)) × ((j : ℕ) → from ≤ j → j < to → j ≡ i → ⊥) × (from ≤ to) ⌝ }
+    ensures { λ s. ⌜ Sums d first i bit from to (now (values .entry)) s ⌝ }
+{
+    let mut sum = bit;
+    let mut j = from;
+    while j < to {
+        sum = sum ^ values[first + places::pair_site(d, i, j)];
+        j += 1;
+    }
+    sum
+}
+
+// REF's sums.
+fn sums(values: &mut [u8], first: usize, d: usize, ops: &[u16])
+    requires { ⌜ Small first d × (1 + d ≤ length (now ops)) × RowBefore first d (wordA (now ops)) × (first + pairs d + d ≤ length (now values)) ⌝ }
+    ensures { λ _. ⌜ Fills (Masked d first (wordA (now (ops .entry)))) (first + pairs d) (first + pairs d + d) (now (values .entry)) (now (values .exit)) ⌝ }
+{
+    let start = first + places::pairs(d);
+    let mut i = 0;
+    while i < d {
+        let x = ops[1 + i] as usize;
+        let a = values[x];
+        let lower = add_masks(values, first, d, i, a, 0, i);
+        values[start + i] = add_masks(values, first, d, i, lower, i + 1, d);
+        i += 1;
+    }
+}
+
+// REF's outputs, registers of the sums.
+fn holds(values: &mut [u8], first: usize, d: usize)
+    requires { ⌜ Small first d × (first + pairs d + d + d ≤ length (now values)) ⌝ }
+    ensures { λ _. ⌜ Fills (Held d first) (first + pairs d + d) (first + pairs d + d + d) (now (values .entry)) (now (values .exit)) ⌝ }
+{
+    let start = first + places::pairs(d);
+    let mut i = 0;
+    while i < d {
+        values[start + d + i] = values[start + i];
+        i += 1;
+    }
+}
+
+// REF.
+pub(crate) fn refresh(
+    values: &mut [u8],
+    first: usize,
+    d: usize,
+    ops: &[u16],
+    tape: &[u8],
+    used: usize,
+)
+    requires { ⌜ Small first d × (1 + d ≤ length (now ops)) × RowBefore first d (wordA (now ops)) × (first + pairs d + d + d ≤ length (now values)) × (used + pairs d ≤ length (now tape)) × Bits (now tape) ⌝ }
+    ensures { λ _. ⌜ Fills (RefValues d first (wordA (now (ops .entry))) (now (tape .entry)) used) first (first + (pairs d + 2 * d)) (now (values .entry)) (now (values .exit)) ⌝ }
+{
+    copy(values, first, tape, used, places::pairs(d));
+    sums(values, first, d, ops);
+    holds(values, first, d);
+}

@@ -1,0 +1,180 @@
+// What the marks on a frame's wires reach: from a wire to those it takes, the last wire first.
+ghost use mathlib.Core.Path.{_≡_};
+ghost use mathlib.Core.List.{[], _∷_, map};
+ghost use Prim.Native.Nat.{ℕ, _+_, _-_, _*_, _≤_, _<_};
+ghost use lib.ListN.{length};
+ghost use Rattle.circuit.specs.Lists.{range};
+ghost use Rattle.circuit.specs.Gadgets.{others};
+ghost use Rattle.circuit.specs.Kinds.{pairs};
+ghost use Rattle.simulation.specs.Internal.Places.{wordA, wordB, ownAt, cellRow, cellAt, outAt, maskAt, sumAt};
+ghost use Rattle.simulation.specs.Internal.Gates.{CellGates, CellsGates, RowsGates, OwnsGates, OutGates, AndGates, SumGates, RefGates};
+ghost use Rattle.simulation.specs.Internal.Gadgets.{Small, RowBefore, Roomy};
+ghost use Rattle.simulation.specs.Internal.Marks.{markAll, propagated, sixes, outWires, Moves};
+use super::places;
+
+// The mark of a wire goes to two others.
+pub(crate) fn propagate(marks: &mut [u8], wire: usize, one: usize, other: usize)
+    requires { ⌜ (wire < length (now marks)) × (one < length (now marks)) × (other < length (now marks)) ⌝ }
+    ensures { λ _. ⌜ now (marks .exit) ≡ propagated wire (one ∷ other ∷ []) (now (marks .entry)) ⌝ }
+{
+    if marks[wire] < 1 {
+        return;
+    }
+    marks[one] = 1;
+    marks[other] = 1;
+    marks[wire] = 0;
+}
+
+// Marks on so many wires, six apart.
+fn mark_sixes(marks: &mut [u8], from: usize, count: usize)
+    requires { ⌜ (from + 6 * count ≤ length (now marks) + 5) × (from ≤ 16384) × (count ≤ 8) ⌝ }
+    ensures { λ _. ⌜ now (marks .exit) ≡ markAll (now (marks .entry)) (sixes from count) ⌝ }
+{
+    let mut x = from;
+    let mut k = 0;
+    while k < count {
+        marks[x] = 1;
+        x += 6;
+        k += 1;
+    }
+}
+
+// An output of AND: its mark goes to M, to every U and to every W.
+fn propagate_output(marks: &mut [u8], first: usize, d: usize, i: usize)
+    requires { ⌜ Small first d × (i < d) × Roomy d first (now marks) ⌝ }
+    ensures { λ _. ⌜ now (marks .exit) ≡ propagated (outAt d first i) (outWires d first i) (now (marks .entry)) ⌝ }
+{
+    let wire = first + places::cell_row(d, d) + i;
+    if marks[wire] < 1 {
+        return;
+    }
+    let row = first + places::cell_row(d, i);
+    marks[first + d * (d - 1) + 3 * i + 2] = 1;
+    mark_sixes(marks, row + 1, d - 1);
+    mark_sixes(marks, row + 5, d - 1);
+    marks[wire] = 0;
+}
+
+// All outputs.
+fn propagate_outputs(marks: &mut [u8], first: usize, d: usize)
+    requires { ⌜ Small first d × Roomy d first (now marks) ⌝ }
+    ensures { λ _. ⌜ Moves (OutGates d first) (outAt d first 0) (outAt d first d) (now (marks .entry)) (now (marks .exit)) ⌝ }
+{
+    let mut i = d;
+    while 0 < i {
+        i -= 1;
+        propagate_output(marks, first, d, i);
+    }
+}
+
+// The wires w, v and u of two shares, from the wire u on, with a(i), b(j) and r(i,j).
+fn propagate_cross(marks: &mut [u8], at: usize, a: usize, b: usize, r: usize)
+    requires { ⌜ (at + 6 ≤ length (now marks)) × (a < at) × (b < at) × (r + 1 < at) ⌝ }
+    ensures { λ _. ⌜ Moves (CellGates at a b r) at (at + 6) (now (marks .entry)) (now (marks .exit)) ⌝ }
+{
+    propagate(marks, at + 4, a, at + 3);
+    propagate(marks, at + 2, b, r);
+    propagate(marks, at, a, r + 1);
+}
+
+// The same of the share i and each from one to another.
+fn propagate_row(
+    marks: &mut [u8],
+    first: usize,
+    d: usize,
+    i: usize,
+    ops: &[u16],
+    from: usize,
+    to: usize,
+)
+    requires { ⌜ Small first d × (i < d) × (to ≤ d) × Roomy d first (now marks) × ((j : ℕ) → from ≤ j → j < to → j ≡ i → ⊥) × (from ≤ to) × (length (now ops) ≡ 1 + d + d) × RowBefore first d (wordA (now ops)) × RowBefore first d (wordB d (now ops)) ⌝ }
+    ensures { λ _. ⌜ Moves (CellsGates d first (wordA (now (ops .entry))) (wordB d (now (ops .entry))) i) (cellAt d first i from) (cellAt d first i to) (now (marks .entry)) (now (marks .exit)) ⌝ }
+{
+    let a = ops[1 + i] as usize;
+    let start = first + places::cell_row(d, i);
+    let mut j = to;
+    while from < j {
+        j -= 1;
+        let b = ops[1 + d + j] as usize;
+        let r = first + 2 * places::pair_site(d, i, j);
+        propagate_cross(marks, start + 6 * places::slot(i, j), a, b, r);
+    }
+}
+
+// The same of every share and each other.
+fn propagate_rows(marks: &mut [u8], first: usize, d: usize, ops: &[u16])
+    requires { ⌜ Small first d × Roomy d first (now marks) × (length (now ops) ≡ 1 + d + d) × RowBefore first d (wordA (now ops)) × RowBefore first d (wordB d (now ops)) ⌝ }
+    ensures { λ _. ⌜ Moves (RowsGates d first (wordA (now (ops .entry))) (wordB d (now (ops .entry)))) (first + cellRow d 0) (first + cellRow d d) (now (marks .entry)) (now (marks .exit)) ⌝ }
+{
+    let mut i = d;
+    while 0 < i {
+        i -= 1;
+        propagate_row(marks, first, d, i, ops, i + 1, d);
+        propagate_row(marks, first, d, i, ops, 0, i);
+    }
+}
+
+// The wires m of all shares. Their B and M are stops.
+fn propagate_products(marks: &mut [u8], first: usize, d: usize, ops: &[u16])
+    requires { ⌜ Small first d × Roomy d first (now marks) × (length (now ops) ≡ 1 + d + d) × RowBefore first d (wordA (now ops)) ⌝ }
+    ensures { λ _. ⌜ Moves (OwnsGates d first (wordA (now (ops .entry))) (wordB d (now (ops .entry)))) (ownAt d first 0) (ownAt d first d) (now (marks .entry)) (now (marks .exit)) ⌝ }
+{
+    let start = first + d * (d - 1);
+    let mut i = d;
+    while 0 < i {
+        i -= 1;
+        let a = ops[1 + i] as usize;
+        let own = start + 3 * i;
+        propagate(marks, own + 1, a, own);
+    }
+}
+
+// AND. Its wires r and R are stops.
+pub(crate) fn propagate_and(marks: &mut [u8], first: usize, d: usize, ops: &[u16])
+    requires { ⌜ Small first d × Roomy d first (now marks) × (length (now ops) ≡ 1 + d + d) × RowBefore first d (wordA (now ops)) × RowBefore first d (wordB d (now ops)) ⌝ }
+    ensures { λ _. ⌜ Moves (λ g. AndGates g d first (wordA (now (ops .entry))) (wordB d (now (ops .entry)))) first (first + (7 * (d * (d - 1)) + 4 * d)) (now (marks .entry)) (now (marks .exit)) ⌝ }
+{
+    propagate_outputs(marks, first, d);
+    propagate_rows(marks, first, d, ops);
+    propagate_products(marks, first, d, ops);
+}
+
+// Marks on REF's random bits of the share i and each from one to another.
+fn mark_masks(marks: &mut [u8], first: usize, d: usize, i: usize, from: usize, to: usize)
+    requires { ⌜ Small first d × (i < d) × (to ≤ d) × (first + pairs d ≤ length (now marks)) × ((j : ℕ) → from ≤ j → j < to → j ≡ i → ⊥) × (from ≤ to) ⌝ }
+    ensures { λ _. ⌜ now (marks .exit) ≡ markAll (now (marks .entry)) (map (maskAt d first i) (range from (to - from))) ⌝ }
+{
+    let mut j = from;
+    while j < to {
+        marks[first + places::pair_site(d, i, j)] = 1;
+        j += 1;
+    }
+}
+
+// A sum of REF: its mark goes to the share's wire and to its random bits.
+fn propagate_sum(marks: &mut [u8], first: usize, d: usize, i: usize, a: usize)
+    requires { ⌜ Small first d × (i < d) × (a < first) × (first + pairs d + d ≤ length (now marks)) ⌝ }
+    ensures { λ _. ⌜ now (marks .exit) ≡ propagated (sumAt d first i) (a ∷ map (maskAt d first i) (others d i)) (now (marks .entry)) ⌝ }
+{
+    let wire = first + places::pairs(d) + i;
+    if marks[wire] < 1 {
+        return;
+    }
+    marks[a] = 1;
+    mark_masks(marks, first, d, i, 0, i);
+    mark_masks(marks, first, d, i, i + 1, d);
+    marks[wire] = 0;
+}
+
+// REF. Its outputs and its random bits are stops.
+pub(crate) fn propagate_refresh(marks: &mut [u8], first: usize, d: usize, ops: &[u16])
+    requires { ⌜ Small first d × (first + pairs d + d ≤ length (now marks)) × (1 + d ≤ length (now ops)) × RowBefore first d (wordA (now ops)) ⌝ }
+    ensures { λ _. ⌜ Moves (λ g. RefGates g d first (wordA (now (ops .entry)))) first (first + (pairs d + 2 * d)) (now (marks .entry)) (now (marks .exit)) ⌝ }
+{
+    let mut i = d;
+    while 0 < i {
+        i -= 1;
+        let a = ops[1 + i] as usize;
+        propagate_sum(marks, first, d, i, a);
+    }
+}

@@ -1,0 +1,141 @@
+// The value of each wire, frame by frame.
+ghost use mathlib.Core.Path.{_≡_};
+ghost use mathlib.Core.Bool.{not};
+ghost use Prim.Native.Nat.{_+_, _≤_, _<_};
+ghost use lib.ListN.{length};
+ghost use Rattle.circuit.specs.Lists.{_⊕_};
+ghost use Rattle.circuit.specs.Circuit.{isSet};
+ghost use Rattle.semantics.specs.Values.{byte};
+ghost use Rattle.simulation.specs.Internal.Filling.{Fills, Bits, FrameValues, frameMakes};
+ghost use Rattle.simulation.specs.Internal.Gadgets.{Small, FrameReady};
+ghost use Rattle.simulation.specs.Internal.Evaluating.{Evaluable, Evaluates};
+use super::gadget;
+use frames::walk::Frame;
+use frames::walk::Gate;
+use frames::walk::Step;
+use frames::walk::Walk;
+
+// A word as a bit.
+fn bit(word: u16) -> u8
+    ensures { λ r. ⌜ r ≡ byte (isSet word) ⌝ }
+{
+    if word < 1 { 0 } else { 1 }
+}
+
+// The wire of a CON.
+fn constant(values: &mut [u8], first: usize, word: u16)
+    requires { ⌜ first + 1 ≤ length (now values) ⌝ }
+    ensures { λ _. ⌜ Fills (λ v. v first ≡ isSet word) first (first + 1) (now (values .entry)) (now (values .exit)) ⌝ }
+{
+    values[first] = bit(word);
+}
+
+// The wire of an XOR.
+fn sum(values: &mut [u8], first: usize, one: u16, other: u16)
+    requires { ⌜ (first + 1 ≤ length (now values)) × (one < first) × (other < first) ⌝ }
+    ensures { λ _. ⌜ Fills (λ v. v first ≡ (v one ⊕ v other)) first (first + 1) (now (values .entry)) (now (values .exit)) ⌝ }
+{
+    let x = one as usize;
+    let y = other as usize;
+    values[first] = values[x] ^ values[y];
+}
+
+// The wire of a NOT.
+fn inverse(values: &mut [u8], first: usize, wire: u16)
+    requires { ⌜ (first + 1 ≤ length (now values)) × (wire < first) ⌝ }
+    ensures { λ _. ⌜ Fills (λ v. v first ≡ not (v wire)) first (first + 1) (now (values .entry)) (now (values .exit)) ⌝ }
+{
+    let x = wire as usize;
+    values[first] = 1 ^ values[x];
+}
+
+// The wire of a REG.
+fn register(values: &mut [u8], first: usize, wire: u16)
+    requires { ⌜ (first + 1 ≤ length (now values)) × (wire < first) ⌝ }
+    ensures { λ _. ⌜ Fills (λ v. v first ≡ v wire) first (first + 1) (now (values .entry)) (now (values .exit)) ⌝ }
+{
+    let x = wire as usize;
+    values[first] = values[x];
+}
+
+// The circuit so far: how many wires, shares and random bits.
+pub struct Ends {
+    pub wires: usize,
+    pub shares: usize,
+    pub randoms: usize,
+}
+
+// A frame's wires.
+fn write_frame(
+    values: &mut [u8],
+    frame: Frame,
+    d: usize,
+    ends: Ends,
+    ops: &[u16],
+    shares: &[u8],
+    tape: &[u8],
+)
+    requires { ⌜ Small (ends .wires) d × (ends .wires + frameMakes frame d ≤ length (now values)) × FrameReady frame d (ends .wires) (ends .shares) (ends .randoms) (now ops) (length (now shares)) (length (now tape)) × Bits (now shares) × Bits (now tape) ⌝ }
+    ensures { λ _. ⌜ Fills (FrameValues frame d (ends .wires) (ends .shares) (ends .randoms) (now (ops .entry)) (now (shares .entry)) (now (tape .entry))) (ends .wires) (ends .wires + frameMakes frame d) (now (values .entry)) (now (values .exit)) ⌝ }
+{
+    let first = ends.wires;
+    match frame {
+        Frame::Gate(gate) => match gate {
+            Gate::In { stage: _ } => gadget::copy(values, first, shares, ends.shares, d),
+            Gate::Con {
+                label: _,
+                value,
+                stage: _,
+            } => constant(values, first, value),
+            Gate::Xor {
+                first: one,
+                second: other,
+            } => sum(values, first, one, other),
+            Gate::Not { wire } => inverse(values, first, wire),
+            Gate::Reg { wire } => register(values, first, wire),
+            Gate::Out => {}
+        },
+        Frame::And => gadget::and(values, first, d, ops, tape, ends.randoms),
+        Frame::Ref => gadget::refresh(values, first, d, ops, tape, ends.randoms),
+    }
+}
+
+// The values of an accepted table's wires.
+pub fn fill(table: &[u16], shares: &[u8], tape: &[u8], values: &mut [u8])
+    requires { ⌜ Evaluable (now table) (now shares) (now tape) (length (now values)) ⌝ }
+    ensures { λ _. ⌜ Evaluates (now (table .entry)) (now (shares .entry)) (now (tape .entry)) (now (values .entry)) (now (values .exit)) ⌝ }
+{
+    let d = table[1];
+    let n = d as usize;
+    let mut walk = Walk { d: d, at: 2 };
+    let mut ends = Ends {
+        wires: 0,
+        shares: 0,
+        randoms: 0,
+    };
+    loop {
+        let step = walk.step(table);
+        match step {
+            Step::End => {
+                return;
+            }
+            Step::Refused { rule: _ } => {
+                return;
+            }
+            Step::Next {
+                frame,
+                shape,
+                walk: next,
+            } => {
+                let ops = walk.operands(table);
+                write_frame(values, frame, n, ends, ops, shares, tape);
+                ends = Ends {
+                    wires: ends.wires + shape.wires,
+                    shares: ends.shares + n * shape.inputs,
+                    randoms: ends.randoms + shape.randoms,
+                };
+                walk = next;
+            }
+        }
+    }
+}

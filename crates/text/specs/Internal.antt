@@ -1,0 +1,2 @@
+-- For the contracts of the crate's own functions.
+pub mod Scan

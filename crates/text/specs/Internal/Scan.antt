@@ -1,0 +1,93 @@
+-- For the contracts of the private functions: a line by its count of words. The promise of `read` names none of this.
+use mathlib.Core.Bool.{cond, _&&_}
+use mathlib.Core.List.{List, [], _∷_}
+use Prim.Native.Nat.{ℕ, zero, suc, _+_, _*_, _%_}
+use lib.Dec.{leb, ltb, eqb}
+use lib.ListN.{drop}
+use Rattle.circuit.specs.Limits.{tableLimit}
+use Rattle.circuit.specs.Circuit.{empty}
+use Rattle.circuit.specs.Rules.{Judgement, pass, refuse, need, _then_, wordRule}
+use Rattle.circuit.specs.Kinds.{shareCount, kindOf, words}
+use Rattle.text.specs.Lines.{lineFeed, space, isDigit, digit, areDigits}
+use Rattle.text.specs.Reader.{roomRule}
+
+-- the value of a digit; 63 for another byte
+unfoldable pub digitCode : ℕ → ℕ
+digitCode b = cond (isDigit b) (digit b) 63
+
+-- sixteen times the value of a digit; 0 for another byte
+unfoldable pub upperCode : ℕ → ℕ
+upperCode b = cond (isDigit b) (digit b * 16) 0
+
+-- so many numbers of one value, in front of others
+abbrev pub row : (count value : ℕ) → List ℕ → List ℕ
+row zero x xs = xs
+row (suc n) x xs = x ∷ row n x xs
+
+-- by a byte: the first code, and behind all of them the second
+unfoldable pub codeTable : List ℕ
+codeTable =
+    row 48 63 (0 ∷ 1 ∷ 2 ∷ 3 ∷ 4 ∷ 5 ∷ 6 ∷ 7 ∷ 8 ∷ 9 ∷ row 7 63 (10 ∷ 11 ∷ 12 ∷ 13 ∷ 14 ∷ 15 ∷ row 185 63
+    (row 48 0 (0 ∷ 16 ∷ 32 ∷ 48 ∷ 64 ∷ 80 ∷ 96 ∷ 112 ∷ 128 ∷ 144 ∷ row 7 0 (160 ∷ 176 ∷ 192 ∷ 208 ∷ 224 ∷ 240 ∷ row 185 0 [])))))
+
+-- the value of a word, by its bytes; of bytes that are not digits, some number
+unfoldable pub valueOf : (a b c e : ℕ) → ℕ
+valueOf a b c e = (upperCode a + digitCode b) % 256 * 256 + (upperCode c + digitCode e) % 256
+
+-- the value of the word that bytes begin with
+unfoldable pub valueIn : List ℕ → ℕ
+valueIn [] = 0
+valueIn (a ∷ []) = 0
+valueIn (a ∷ b ∷ []) = 0
+valueIn (a ∷ b ∷ c ∷ []) = 0
+valueIn (a ∷ b ∷ c ∷ e ∷ rest) = valueOf a b c e
+
+-- how many words the first line of some bytes has, its first being the n-th; 0 where the line is not of the form
+unfoldable pub countFrom : ℕ → List ℕ → ℕ
+countFrom n [] = 0
+countFrom n (a ∷ []) = 0
+countFrom n (a ∷ b ∷ []) = 0
+countFrom n (a ∷ b ∷ c ∷ []) = 0
+countFrom n (a ∷ b ∷ c ∷ e ∷ []) = 0
+countFrom n (a ∷ b ∷ c ∷ e ∷ s ∷ rest) =
+    cond (areDigits a b c e)
+    (cond (eqb s lineFeed) n (cond (eqb s space) (countFrom (suc n) rest) 0))
+    0
+
+-- the place behind a line of so many words; 0 for a line that is not of the form
+abbrev pub behindLine : (at count : ℕ) → ℕ
+behindLine at zero = zero
+behindLine at (suc n) = at + 5 * suc n
+
+-- so many words in a row, five bytes apart
+unfoldable pub wordsAt : ℕ → List ℕ → List ℕ
+wordsAt zero bytes = []
+wordsAt (suc n) bytes = valueIn bytes ∷ wordsAt n (drop 5 bytes)
+
+-- the judgement on a line by the number of the rule that it breaks, 0 for none
+abbrev pub ruled : (rule line word : ℕ) → Judgement
+ruled zero line word = pass
+ruled (suc r) line word = refuse (suc r) line word
+
+-- the word at which the first line breaks a rule: its d, word 1, breaks 4
+abbrev pub headWord : ℕ → ℕ
+headWord rule = cond (eqb rule 4) 1 0
+
+-- how many words are stored at most, in a table with room for `room`
+abbrev pub limitOf : ℕ → ℕ
+limitOf room = cond (leb room tableLimit) room tableLimit
+
+-- the rules of the first line in numbers: the text's length, the count of words, the first two
+abbrev pub headByCount : (room size count kind d : ℕ) → Judgement
+headByCount room size count kind d = need (ltb 0 size) 3 0 0
+    then (need (ltb 0 count) 20 0 0
+    then need (eqb count 2 && eqb kind 0) 3 0 0
+    then wordRule (empty 0) 0 [] shareCount 1 d)
+    then roomRule room 0 count
+
+-- the rules of line n in numbers, behind so many words
+abbrev pub frameByCount : (room d n stored kind count : ℕ) → Judgement
+frameByCount room d n stored kind count = (need (ltb 0 count) 20 n 0
+    then need (leb 1 kind && leb kind 8) 5 n 0
+    then need (eqb count (suc (words d (kindOf kind)))) 6 n 0)
+    then roomRule room n (stored + count)
