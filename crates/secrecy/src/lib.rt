@@ -1,3 +1,1 @@
-// The theorems of this crate are in proofs/: nothing of it runs. Fewer probed wires than this tell nothing, where a circuit
-// has two shares.
-pub const PROBES_OF_TWO: usize = 2;
+// This crate holds theorems (specs/, proofs/), and no code.

@@ -1,2 +1,1 @@
-// How many wires a circuit may have, and how many bytes a value or reading sheet holds.
-pub const WIRES: usize = 8192;
+// This crate holds definitions (specs/) and their laws (proofs/), and no code.
