@@ -24,8 +24,9 @@ use Rattle.frames.specs.declared.walk.Step.the-variants as step
 use Rattle.checker.specs.declared.frame.Tally.{Tally}
 use Rattle.checker.specs.Answers.{answerOf}
 use Rattle.frames.specs.Walk.{kindCode, shapeCode, frameCode, operandsAt, behind, stepAt}
-use Rattle.checker.specs.Internal.Sheet.{judged, tallyOf, headNumber}
-use Rattle.checker.proofs.Telling.{Labelled}
+use Rattle.checker.specs.Internal.Adding.{tallyOf, headNumber}
+use Rattle.checker.proofs.Spots.{judged}
+use Rattle.checker.proofs.Represented.{Labelled}
 
 -- 1 to 4
 pub head-judged : (table : List ℕ) (room : ℕ) → headRule table room ≡ judged (headNumber table room) 0 (headNumber table room / 4)
@@ -142,10 +143,15 @@ module _ (table : List ℕ) (d at : ℕ) where
 
   -- 5 or 6
   pub step-refused : (rule : ℕ) → step.Refused rule ≡ stepAt table d at
-      → (at < length table) × ((k : Circuit) → k .d ≡ d → (f : ℕ) → frameRule k f word rest ≡ refuse rule f 0)
+      → (at < length table) × (rule ≡ 0 → ⊥) × ((k : Circuit) → k .d ≡ d → (f : ℕ) → frameRule k f word rest ≡ refuse rule f 0)
   unfolding frameRule
   step-refused rule e = cases (ltb at (length table)) (λ a. (
     ltb-true at (length table) a,
+    λ z.
+        cases (leb 1 (nth table at) && leb (nth table at) 8)
+        (λ b. cases (leb (words d (kindOf (nth table at))) (length (drop (at + 1) table)))
+        (λ c. off (rw (a, b, c) at e)) (λ c. some (number (rw (a, b, c) at e)) z))
+        (λ b. some (number (rw (a, b) at e)) z),
     λ k s f.
         cases (leb 1 (nth table at) && leb (nth table at) 8)
         (λ b. cases (leb (words d (kindOf (nth table at))) (length (drop (at + 1) table)))
@@ -155,6 +161,9 @@ module _ (table : List ℕ) (d at : ℕ) where
     where
       number : {n : ℕ} → step.Refused rule ≡ step.Refused n → rule ≡ n
       number e = cc
+
+      some : {n : ℕ} → rule ≡ suc n → rule ≡ 0 → ⊥
+      some e z = omega arith
 
       off : {A : Type 0} {f : Frame} {s : ShapeCode} {w : Walk} → step.Refused rule ≡ step.Next f s w → A
       off e = let z : _≡_ {A = ℕ} 0 1 = cc in absurd (omega arith)

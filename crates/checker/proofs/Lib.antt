@@ -1,12 +1,15 @@
--- The words of a frame
-pub mod WordRules
-pub mod Numbers
--- The wires of a frame in the notes
+-- Spots of broken rules, and what they judge
+pub mod Spots
+pub mod Judged
+-- The words of a form
+pub mod Lookups
+pub mod Words
+-- Wires in the notes
 pub mod Stores
 pub mod MadeNotes
-pub mod Telling
+pub mod Represented
 -- One frame, then all
 pub mod Adding
-pub mod Taking
+pub mod Placing
 pub mod Checking
 pub mod Ways

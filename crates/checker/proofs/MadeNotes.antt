@@ -10,59 +10,56 @@ use borrow.Author.Tests.{ltb-true, ltb-false}
 use Rattle.circuit.specs.Lists.{range, nth, concatMap}
 use Rattle.circuit.specs.Wires.{Gate, input, Wire, named, inner, _placed_}
 use Rattle.circuit.specs.Gadgets.{labels, Part, c, S, gate, delay, inAND, inREF, index, gadget}
-use Rattle.circuit.specs.Kinds.{Kind, HEAD, IN, CON, XOR, NOT, REG, AND, REF, OUT, pairs, shape}
+use Rattle.circuit.specs.Kinds.{Kind, HEAD, IN, CON, XOR, NOT, REG, AND, REF, OUT, pairs, shape, words}
 use Rattle.circuit.specs.Circuit.{Circuit, size, place, stageShown, newStage, made, latencyAfter}
 use Rattle.circuit.specs.Answer.{note}
 use Rattle.circuit.proofs.Base.{cases}
 use Rattle.circuit.proofs.Sizes.{and-size, ref-size}
 use Rattle.checker.specs.declared.notes.Made.{Made}
-use Rattle.frames.specs.Walk.{kindCode, frameCode}
-use Rattle.checker.specs.Internal.Sheet.{foundOf, innerWords, namedWords, madeWords, madeFrame, latencyFrame}
-use Rattle.checker.proofs.WordRules.{label-found, stage-found}
+use Rattle.frames.specs.declared.kinds.Form.{Form}
+use Rattle.frames.specs.declared.kinds.Form.the-variants.{ShareCount, Stage, Constant, Sum, Copy, Product, Refresh, Row}
+use Rattle.frames.specs.Walk.{formOf}
+use Rattle.frames.proofs.KindTable.{words-AND, words-REF, words-OUT}
+use Rattle.checker.specs.declared.notes.Found.{Found}
+use Rattle.checker.specs.Internal.Notes.{foundOf, innerWords, namedWords, madeWords}
+use Rattle.checker.specs.Internal.Adding.{madeIn, latencyIn}
+use Rattle.checker.proofs.Words.{label-found, stage-found}
 
--- the wires that a frame makes, by what a circuit says of those it names
+-- the wires that a kind's form makes, by what a circuit says of those it names
 abbrev pub madeBy : Circuit → List ℕ → Kind → Made
-madeBy k ops kind = madeFrame (frameCode (kindCode kind) ops) (k .d) (shape (k .d) kind .wires - k .d) (foundOf k) ops
+madeBy k ops kind = madeIn (formOf kind) (k .d) (shape (k .d) kind .wires - k .d) (foundOf k) ops
 
--- how many
-pub made-count : (look : ℕ → _) (ops : List ℕ) (d : ℕ) (kind : Kind)
-    → (madeFrame (frameCode (kindCode kind) ops) d (shape d kind .wires - d) look ops .inner) + (madeFrame (frameCode (kindCode kind) ops) d (shape d kind .wires - d) look ops .named) ≡ shape d kind .wires
-unfolding shape
-made-count look ops d HEAD = refl
-made-count look ops d IN = omega arith
-made-count look ops d CON = refl
-made-count look ops d XOR = refl
-made-count look ops d NOT = refl
-made-count look ops d REG = refl
-made-count look ops d AND = omega arith
-made-count look ops d REF = omega arith
-made-count look ops d OUT = refl
+-- how many words a form has
+abbrev pub wordCount : Form → ℕ → ℕ
+wordCount ShareCount d = 1
+wordCount Stage d = 1
+wordCount Constant d = 3
+wordCount Sum d = 2
+wordCount (Copy after) d = 1
+wordCount Product d = 1 + d + d
+wordCount Refresh d = 1 + d
+wordCount Row d = d
 
--- how many random bits: no more than wires
-pub uses-few : (d : ℕ) (kind : Kind) → shape d kind .randoms ≤ shape d kind .wires
-unfolding shape
-uses-few d HEAD = omega arith
-uses-few d IN = omega arith
-uses-few d CON = omega arith
-uses-few d XOR = omega arith
-uses-few d NOT = omega arith
-uses-few d REG = omega arith
-uses-few d AND = omega arith
-uses-few d REF = omega arith
-uses-few d OUT = omega arith
+-- of a kind: only HEAD's form is the number of shares; its words by its form, all wires made, no more random bits than wires,
+-- and one secret bit at most
+pub record Counts (d : ℕ) (kind : Kind) (look : ℕ → Found) (ops : List ℕ) : Type 0 where
+  pub form-later : (kind ≡ HEAD → ⊥) → formOf kind ≡ ShareCount → ⊥
+  pub words-are : words d kind ≡ wordCount (formOf kind) d
+  pub wires-are : (madeIn (formOf kind) d (shape d kind .wires - d) look ops .inner) + (madeIn (formOf kind) d (shape d kind .wires - d) look ops .named) ≡ shape d kind .wires
+  pub randoms-few : shape d kind .randoms ≤ shape d kind .wires
+  pub inputs-few : shape d kind .inputs ≤ 1
 
--- how many secret bits: one at most
-pub brings-few : (d : ℕ) (kind : Kind) → shape d kind .inputs ≤ 1
+pub counts : (d : ℕ) (kind : Kind) (look : ℕ → Found) (ops : List ℕ) → Counts d kind look ops
 unfolding shape
-brings-few d HEAD = omega arith
-brings-few d IN = omega arith
-brings-few d CON = omega arith
-brings-few d XOR = omega arith
-brings-few d NOT = omega arith
-brings-few d REG = omega arith
-brings-few d AND = omega arith
-brings-few d REF = omega arith
-brings-few d OUT = omega arith
+counts d HEAD look ops = record { form-later = λ h e. h refl; words-are = refl; wires-are = refl; randoms-few = omega arith; inputs-few = omega arith }
+counts d IN look ops = record { form-later = λ h e. let z : _≡_ {A = ℕ} 0 1 = cc in omega arith; words-are = refl; wires-are = omega arith; randoms-few = omega arith; inputs-few = omega arith }
+counts d CON look ops = record { form-later = λ h e. let z : _≡_ {A = ℕ} 0 1 = cc in omega arith; words-are = refl; wires-are = refl; randoms-few = omega arith; inputs-few = omega arith }
+counts d XOR look ops = record { form-later = λ h e. let z : _≡_ {A = ℕ} 0 1 = cc in omega arith; words-are = refl; wires-are = refl; randoms-few = omega arith; inputs-few = omega arith }
+counts d NOT look ops = record { form-later = λ h e. let z : _≡_ {A = ℕ} 0 1 = cc in omega arith; words-are = refl; wires-are = refl; randoms-few = omega arith; inputs-few = omega arith }
+counts d REG look ops = record { form-later = λ h e. let z : _≡_ {A = ℕ} 0 1 = cc in omega arith; words-are = refl; wires-are = refl; randoms-few = omega arith; inputs-few = omega arith }
+counts d AND look ops = record { form-later = λ h e. let z : _≡_ {A = ℕ} 0 1 = cc in omega arith; words-are = words-AND d; wires-are = omega arith; randoms-few = omega arith; inputs-few = omega arith }
+counts d REF look ops = record { form-later = λ h e. let z : _≡_ {A = ℕ} 0 1 = cc in omega arith; words-are = words-REF d; wires-are = omega arith; randoms-few = omega arith; inputs-few = omega arith }
+counts d OUT look ops = record { form-later = λ h e. let z : _≡_ {A = ℕ} 0 1 = cc in omega arith; words-are = words-OUT d; wires-are = refl; randoms-few = omega arith; inputs-few = omega arith }
 
 -- the words of wires in the notes
 pub notes-append : (xs ys : List Wire) → concatMap (xs ++ ys) (λ w. note (w .place)) ≡ concatMap xs (λ w. note (w .place)) ++ concatMap ys (λ w. note (w .place))
@@ -117,7 +114,7 @@ module _ (k : Circuit) (ops : List ℕ) where
       (pairs (k .d) + 2 * k .d - k .d) (omega (arith, ref-size (k .d))))
   made-words OUT h = refl
 
-  pub made-latency : (kind : Kind) → (kind ≡ HEAD → ⊥) → latencyFrame (frameCode (kindCode kind) ops) (k .latency) (newStage k ops kind) ≡ latencyAfter k ops kind
+  pub made-latency : (kind : Kind) → (kind ≡ HEAD → ⊥) → latencyIn (formOf kind) (k .latency) (newStage k ops kind) ≡ latencyAfter k ops kind
   made-latency HEAD h = absurd (h refl)
   made-latency IN h = refl
   made-latency CON h = refl

@@ -6,7 +6,7 @@ use native.Mathlib.Omega.{arith}
 use lib.ListN.{length, set}
 use lib.Seq.{sets}
 use Rattle.circuit.specs.Limits.{innerNote}
-use Rattle.checker.specs.Internal.Sheet.{innerWords, namedWords}
+use Rattle.checker.specs.Internal.Notes.{innerWords, namedWords}
 
 -- before the first turn
 pub store-start : (n : List ℕ) (from label count : ℕ) (words : ℕ → ℕ → List ℕ) → sets n (2 * from) (words label count) ≡ sets n (2 * from + 0) (words (label + 0) (count - 0))

@@ -1,7 +1,8 @@
 -- The ways out of the loop over the frames, and its turn.
 use mathlib.Core.Path.{_≡_, refl, sym, ap, ap₂, subst, _∙_}
+use mathlib.Core.Bool.{Bool, true, false, false≢true}
 use mathlib.Core.List.{List, []}
-use Prim.Native.Nat.{ℕ, suc, _+_, _*_, _-_, _≤_, _<_}
+use Prim.Native.Nat.{ℕ, zero, suc, _+_, _*_, _-_, _≤_, _<_}
 use native.Mathlib.Omega.{arith}
 use lib.ListN.{length, take, drop, length-drop, drop-of-length-le}
 use lib.Seq.{sets, drop-drop, length-take-le}
@@ -24,14 +25,15 @@ use Rattle.frames.specs.declared.walk.Step.the-variants as step
 use Rattle.checker.specs.declared.frame.Tally.{Tally}
 use Rattle.checker.specs.declared.frame.Added.{Added}
 use Rattle.checker.specs.declared.frame.Added.the-variants as added
-use Rattle.checker.specs.declared.frame.Taken.{Taken}
-use Rattle.checker.specs.declared.frame.Taken.the-variants as taken
 use Rattle.checker.specs.Answers.{answerOf, inputsAre}
 use Rattle.frames.specs.Walk.{shapeCode, operandsAt, behind, stepAt}
-use Rattle.checker.specs.Internal.Sheet.{Represents, tallyOf, judgementIn, laterRule, notesAdded, FrameOf, Placed, Adds}
-use Rattle.checker.specs.Internal.Quick.{Takes}
-use Rattle.checker.proofs.MadeNotes.{uses-few, brings-few}
-use Rattle.checker.proofs.Telling.{tells, notes-more, notes-same, label-step}
+use Rattle.checker.specs.declared.notes.Found.{Found}
+use Rattle.checker.specs.declared.forms.Spot.{Spot}
+use Rattle.checker.specs.Internal.Notes.{Represents}
+use Rattle.checker.specs.Internal.Adding.{tallyOf, Bounded, FrameOf, Adds}
+use Rattle.checker.proofs.MadeNotes.{counts}
+use Rattle.checker.proofs.Represented.{represents, notes-more, notes-same, label-step}
+use Rattle.checker.proofs.Placing.{judgementIn, laterRule, notesAdded, Placed, judgement, next, notes-next}
 use Rattle.checker.proofs.Checking.{Walking, here, step-end, step-refused, AtFrame, step-next}
 
 -- what the call promises
@@ -65,13 +67,13 @@ module _ {table notes₀ notes : List ℕ} {d : ℕ} {walk : Walk} {tally : Tall
       (Refused rule (tally .frames) word) refl tt
 
   pub way-refused : (rule : ℕ) → step.Refused rule ≡ stepAt table (walk .d) (walk .at) → Promised table notes₀ notes (Refused rule (tally .frames) 0)
-  way-refused rule e = let (h, r) = step-refused table (walk .d) (walk .at) rule e in
+  way-refused rule e = let (h, _, r) = step-refused table (walk .d) (walk .at) rule e in
       refused-at rule 0 h (r (w .k) (w .shares ∙ sym (w .walk-shares)) (tally .frames))
 
   -- a whole frame at the walk's place
-  module _ (fr : Frame) (sh : ShapeCode) (next : Walk) (e : step.Next fr sh next ≡ stepAt table (walk .d) (walk .at)) (ops : List ℕ) (o : ops ≡ operandsAt table (walk .d) (walk .at)) where
-    frame-at : AtFrame table (walk .d) (walk .at) fr sh next
-    frame-at = step-next table (walk .d) (walk .at) fr sh next e
+  module _ (fr : Frame) (sh : ShapeCode) (on : Walk) (e : step.Next fr sh on ≡ stepAt table (walk .d) (walk .at)) (ops : List ℕ) (o : ops ≡ operandsAt table (walk .d) (walk .at)) where
+    frame-at : AtFrame table (walk .d) (walk .at) fr sh on
+    frame-at = step-next table (walk .d) (walk .at) fr sh on e
 
     kind : Kind
     kind = kindOf (nth table (walk .at))
@@ -94,14 +96,13 @@ module _ {table notes₀ notes : List ℕ} {d : ℕ} {walk : Walk} {tally : Tall
     unfolding kind rest
     whole = subst (λ n. words n kind ≤ length rest) shares (frame-at .whole)
 
-    placed : Placed (w .k) kind tally fr sh d ops notes
+    placed : Placed (w .k) kind tally sh d ops notes
     unfolding kind rest
     placed = record {
       later = later;
-      tells = rw (w .notes-is) (subst (λ n. Represents (w .k) (notesAfter (w .k) notes₀) n) (sym (ap (λ t. t .wires) (w .tally-is))) (tells (w .k) notes₀ (w .most) (omega (arith, w .least)) (w .law)));
+      represents = rw (w .notes-is) (subst (λ n. Represents (w .k) (notesAfter (w .k) notes₀) n) (sym (ap (λ t. t .wires) (w .tally-is))) (represents (w .k) notes₀ (w .most) (omega (arith, w .least)) (w .law)));
       tally-is = w .tally-is;
       shares = w .shares;
-      frame-is = rw o (frame-at .frame-is);
       shape-is = frame-at .shape-is ∙ ap (λ n. shapeCode n kind) (w .walk-shares);
       whole = ap length ops-is ∙ length-take-le (words (w .k .d) kind) rest whole ∙ ap (λ n. words n kind) (w .shares);
     }
@@ -111,34 +112,34 @@ module _ {table notes₀ notes : List ℕ} {d : ℕ} {walk : Walk} {tally : Tall
     unfolding kind rest frameRule
     judged-is = rw (le-leb 1 (nth table (walk .at)) (frame-at .low), le-leb (nth table (walk .at)) 8 (frame-at .high), le-leb (words (w .k .d) kind) (length rest) whole, ops-is)
 
-    pub frame-of : FrameOf fr sh d ops
-    frame-of = record { kind = kind; later = later; whole = placed .whole; frame-is = placed .frame-is; shape-is = placed .shape-is }
+    pub frame-of : FrameOf sh d ops
+    frame-of = record { kind = kind; later = later; whole = placed .whole; shape-is = placed .shape-is; least = omega (arith, w .shares, w .least); most = omega (arith, w .shares, w .most) }
 
-    module _ (new : List ℕ) (r : Added) (a : Adds tally fr sh d ops notes new r) where
+    module _ (new : List ℕ) (r : Added) (a : Adds tally sh d ops notes new r) where
       -- the frame is refused, and the notes stay
-      broken-is : (rule word : ℕ) → r ≡ added.Refused rule word → laterRule (w .k) (tally .frames) kind ops ≡ refuse rule (tally .frames) word
-      broken-is rule word s = sym (a .judgement (w .k) kind placed) ∙ ap (judgementIn (tally .frames)) s
+      broken-is : (s : Spot) → r ≡ added.Refused s → laterRule (w .k) (tally .frames) kind ops ≡ refuse (s .rule) (tally .frames) (s .word)
+      broken-is s e = sym (judgement placed a) ∙ ap (judgementIn (tally .frames)) e
 
-      pub broken-kept : (rule word : ℕ) → r ≡ added.Refused rule word → new ≡ notes
-      broken-kept rule word s = a .notes (w .k) kind placed ∙ ap (λ j. notesAdded j notes (size (w .k)) (made (w .k) ops kind)) (broken-is rule word s)
+      pub broken-kept : (s : Spot) → r ≡ added.Refused s → new ≡ notes
+      broken-kept s e = notes-next placed a ∙ ap (λ j. notesAdded j notes (size (w .k)) (made (w .k) ops kind)) (broken-is s e)
 
-      pub way-broken : (rule word : ℕ) → r ≡ added.Refused rule word → Promised table notes₀ new (Refused rule (tally .frames) word)
+      pub way-broken : (s : Spot) → r ≡ added.Refused s → Promised table notes₀ new (Refused (s .rule) (tally .frames) (s .word))
       unfolding kind rest
-      way-broken rule word s =
-          let (v, n) = refused-at rule word (frame-at .inside) (judged-is ∙ broken-is rule word s) in
-          (v, (broken-kept rule word s ∙ n .0, n .1))
+      way-broken s e =
+          let (v, n) = refused-at (s .rule) (s .word) (frame-at .inside) (judged-is ∙ broken-is s e) in
+          (v, (broken-kept s e ∙ n .0, n .1))
 
       -- the frame is added
-      pub turn : (t : Tally) → r ≡ added.Next t → Walking table notes₀ new d next t
+      pub turn : (t : Tally) → r ≡ added.Next t → Walking table notes₀ new d on t
       unfolding kind rest
       turn t s =
-          let told : laterRule (w .k) (tally .frames) kind ops ≡ pass = sym (a .judgement (w .k) kind placed) ∙ ap (judgementIn (tally .frames)) s in
+          let told : laterRule (w .k) (tally .frames) kind ops ≡ pass = sym (judgement placed a) ∙ ap (judgementIn (tally .frames)) s in
           let passed = frame-pass (w .k) (tally .frames) (nth table (walk .at)) rest (w .least) (judged-is ∙ told) in
           let n = words (w .k .d) kind in
           let more : Circuit = extend (w .k) ops kind in
-          let t-is : t ≡ tallyOf (tally .frames + 1) more = a .next (w .k) kind placed t s in
+          let t-is : t ≡ tallyOf (tally .frames + 1) more = next placed a t s in
           let f-is : t .frames ≡ tally .frames + 1 = ap (λ x. x .frames) t-is in
-          let at-is : next .at ≡ walk .at + 1 + n = ap (λ x. x .at) (frame-at .walk-is) ∙ ap (λ q. walk .at + 1 + words q kind) shares in
+          let at-is : on .at ≡ walk .at + 1 + n = ap (λ x. x .at) (frame-at .walk-is) ∙ ap (λ q. walk .at + 1 + words q kind) shares in
           record {
             k = more;
             least = w .least;
@@ -147,14 +148,14 @@ module _ {table notes₀ notes : List ℕ} {d : ℕ} {walk : Walk} {tally : Tall
             walk-shares = ap (λ x. x .d) (frame-at .walk-is) ∙ w .walk-shares;
             tally-is = t-is ∙ ap (λ f. tallyOf f more) (sym f-is);
             few = omega (arith, size-extend (w .k) ops kind, passed .few);
-            used = omega (arith, size-extend (w .k) ops kind, uses-few (w .k .d) kind, w .used);
-            inputs = omega (arith, brings-few (w .k .d) kind, w .inputs);
+            used = omega (arith, size-extend (w .k) ops kind, counts (w .k .d) kind (λ x. Found.Missing) ops .randoms-few, w .used);
+            inputs = omega (arith, counts (w .k .d) kind (λ x. Found.Missing) ops .inputs-few, w .inputs);
             counted = omega (arith, w .counted);
             inside = omega (arith, length-drop (walk .at + 1) table, frame-at .inside, whole);
             short = w .short;
             roomy = w .roomy;
             law = label-step (w .k) ops kind (w .least) (subst (Fits (w .k) kind) (sym ops-is) (passed .fits)) (w .law);
-            notes-is = a .notes (w .k) kind placed ∙ ap (λ j. notesAdded j notes (size (w .k)) (made (w .k) ops kind)) told
+            notes-is = notes-next placed a ∙ ap (λ j. notesAdded j notes (size (w .k)) (made (w .k) ops kind)) told
                 ∙ ap (λ l. sets l (2 * size (w .k)) (concatMap (made (w .k) ops kind) (λ x. note (x .place)))) (w .notes-is)
                 ∙ notes-more (w .k) ops kind notes₀ (omega (arith, size-extend (w .k) ops kind, passed .few, w .roomy));
             rest = w .rest ∙ ap (frames (w .k) (tally .frames) 0) (here table d (walk .at) (frame-at .inside))
@@ -166,16 +167,8 @@ module _ {table notes₀ notes : List ℕ} {d : ℕ} {walk : Walk} {tally : Tall
           one : suc (tally .frames) ≡ tally .frames + 1
           one = omega arith
 
-    -- the frame is taken at one look, or left as it was
-    module _ (new : List ℕ) (r : Taken) (a : Takes tally fr sh d ops notes new r) where
-      pub turn-taken : (t : Tally) → r ≡ taken.Next t → Walking table notes₀ new d next t
-      turn-taken t s = turn new (added.Next t) (subst (Takes tally fr sh d ops notes new) s a) t refl
-
-      pub turn-left : r ≡ taken.Unsure → Walking table notes₀ new d walk tally
-      turn-left s = subst (λ n. Walking table notes₀ n d walk tally) (sym (subst (Takes tally fr sh d ops notes new) s a)) w
-
     -- and less of the table is left
-    pub less-left : length table - next .at < length table - walk .at
+    pub less-left : length table - on .at < length table - walk .at
     unfolding kind rest
     less-left = omega (arith, ap (λ x. x .at) (frame-at .walk-is), frame-at .inside)
 
@@ -184,26 +177,42 @@ pub same-length : {table notes₀ notes : List ℕ} {d : ℕ} {walk : Walk} {tal
 same-length {notes₀ = notes₀} w = ap length (w .notes-is) ∙ notes-same (w .k) notes₀ (omega (arith, w .few, w .roomy))
 
 -- the numbers that a frame is added to
-pub record Bounded (notes : List ℕ) (tally : Tally) : Type 0 where
-  pub room : 16384 ≤ length notes
-  pub wires : tally .wires ≤ 8192
-  pub used : tally .randoms ≤ tally .wires
-  pub frames : tally .frames ≤ 8192
-  pub inputs : tally .inputs ≤ tally .frames
+pub bounded : {table notes₀ notes : List ℕ} {d : ℕ} {walk : Walk} {tally : Tally} → Walking table notes₀ notes d walk tally → Bounded tally notes
+bounded w = record {
+  room = omega (arith, same-length w, w .roomy);
+  wires = omega (arith, ap (λ t. t .wires) (w .tally-is), w .few);
+  randoms = omega (arith, ap (λ t. t .randoms) (w .tally-is), ap (λ t. t .wires) (w .tally-is), w .used);
+  frames = omega (arith, w .counted, w .inside, w .short);
+  inputs = omega (arith, ap (λ t. t .inputs) (w .tally-is), w .inputs);
+}
 
-pub bounded : {table notes₀ notes : List ℕ} {d : ℕ} {walk : Walk} {tally : Tally} → Walking table notes₀ notes d walk tally → Bounded notes tally
-bounded w =
-    let wires-is = ap (λ t. t .wires) (w .tally-is) in
-    record {
-      room = omega (arith, same-length w, w .roomy);
-      wires = omega (arith, w .few);
-      used = omega (arith, ap (λ t. t .randoms) (w .tally-is), w .used);
-      frames = omega (arith, w .counted, w .inside, w .short);
-      inputs = omega (arith, ap (λ t. t .inputs) (w .tally-is), w .inputs);
-    }
+-- the answer by a spot: accepted where it names no rule
+abbrev pub verdictBy : (rule word : ℕ) → Tally → Verdict
+verdictBy zero w tally = Accepted (tally .wires) (tally .randoms) (tally .latency) (tally .inputs)
+verdictBy (suc r) w tally = Refused (suc r) (tally .frames) w
 
-pub shares-few : {table notes₀ notes : List ℕ} {d : ℕ} {walk : Walk} {tally : Tally} → Walking table notes₀ notes d walk tally → d ≤ 8
-shares-few w = omega (arith, w .shares, w .most)
+pub refused-by : (rule word : ℕ) (tally : Tally) → (rule ≡ 0 → ⊥) → verdictBy rule word tally ≡ Refused rule (tally .frames) word
+refused-by zero word tally h = absurd (h refl)
+refused-by (suc n) word tally h = refl
 
-pub shares-least : {table notes₀ notes : List ℕ} {d : ℕ} {walk : Walk} {tally : Tally} → Walking table notes₀ notes d walk tally → 2 ≤ d
-shares-least w = omega (arith, w .shares, w .least)
+-- the loop: going on, the frames so far break no rule; ended, the answer is that of the spot
+pub record Loop (table notes₀ notes : List ℕ) (d : ℕ) (walk : Walk) (tally : Tally) (broken : Spot) (going : Bool) : Type 0 where
+  pub walking : going ≡ true → Walking table notes₀ notes d walk tally
+  pub clean : going ≡ true → broken .rule ≡ 0
+  pub promised : going ≡ false → Promised table notes₀ notes (verdictBy (broken .rule) (broken .word) tally)
+  pub kept : length notes ≡ length notes₀
+
+pub goes : {table notes₀ notes : List ℕ} {d : ℕ} {walk : Walk} {tally : Tally} {broken : Spot} → Walking table notes₀ notes d walk tally → broken .rule ≡ 0 → Loop table notes₀ notes d walk tally broken true
+goes w e = record { walking = λ h. w; clean = λ h. e; promised = λ h. absurd (false≢true (sym h)); kept = same-length w }
+
+pub ended : {table notes₀ notes : List ℕ} {d : ℕ} {walk : Walk} {tally : Tally} {broken : Spot} → length notes ≡ length notes₀
+    → Promised table notes₀ notes (verdictBy (broken .rule) (broken .word) tally) → Loop table notes₀ notes d walk tally broken false
+ended l q = record { walking = λ h. absurd (false≢true h); clean = λ h. absurd (false≢true h); promised = λ h. q; kept = l }
+
+-- the answer of a loop that has ended
+module _ {table notes₀ notes : List ℕ} {d : ℕ} {walk : Walk} {tally : Tally} {broken : Spot} {going : Bool} (l : Loop table notes₀ notes d walk tally broken going) (end : going ≡ false) where
+  pub refused-end : (broken .rule ≡ 0 → ⊥) → Promised table notes₀ notes (Refused (broken .rule) (tally .frames) (broken .word))
+  refused-end h = subst (Promised table notes₀ notes) (refused-by (broken .rule) (broken .word) tally h) (l .promised end)
+
+  pub accepted-end : broken .rule ≡ 0 → Promised table notes₀ notes (Accepted (tally .wires) (tally .randoms) (tally .latency) (tally .inputs))
+  accepted-end h = subst (λ n. Promised table notes₀ notes (verdictBy n (broken .word) tally)) h (l .promised end)

@@ -1,3 +1,4 @@
--- For the contracts of the crate's own functions.
-pub mod Sheet
-pub mod Quick
+-- What the notes say, and the words written into them
+pub mod Notes
+-- A frame judged and added
+pub mod Adding

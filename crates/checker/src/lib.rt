@@ -5,15 +5,14 @@ ghost use lib.ListN.{length};
 ghost use Rattle.circuit.specs.Rules.{checked};
 ghost use Rattle.checker.specs.Answers.{answerOf, inputsAre};
 ghost use Rattle.circuit.specs.Answer.{verdictOf, notesAfter};
-ghost use Rattle.checker.specs.Internal.Sheet.{headNumber};
+ghost use Rattle.checker.specs.Internal.Adding.{headNumber};
 
+mod forms;
 mod frame;
 mod notes;
-mod quick;
-mod words;
 
+use forms::Spot;
 use frame::Added;
-use frame::Taken;
 use frame::Tally;
 use frames::walk::Step;
 use frames::walk::Walk;
@@ -60,10 +59,10 @@ fn refused(rule: usize, frame: usize, word: usize) -> Verdict
 fn head_rule(table: &[u16], room: usize) -> usize
     ensures { λ r. ⌜ r ≡ headNumber (now (table .entry)) room ⌝ }
 {
-    if 8192 < table.len() {
+    if circuit::TABLE_WORDS < table.len() {
         return 1;
     }
-    if room < 16384 {
+    if room < circuit::NOTES_WORDS {
         return 2;
     }
     if table.len() < 2 {
@@ -81,8 +80,7 @@ fn head_rule(table: &[u16], room: usize) -> usize
     0
 }
 
-// The frames of a table that keeps rules 1 to 4: taken at one look, as long as that shows that they keep their rules, and
-// judged word by word from the first that is left.
+// The frames of a table that keeps rules 1 to 4, one after the other, up to the first that breaks a rule.
 fn check_frames(table: &[u16], notes: &mut [u16]) -> Verdict
     requires { ⌜ headNumber (now table) (length (now notes)) ≡ 0 ⌝ }
     ensures answered { λ r. ⌜ answerOf r ≡ verdictOf (now (table .entry)) (length (now (notes .entry))) ⌝ }
@@ -98,57 +96,45 @@ fn check_frames(table: &[u16], notes: &mut [u16]) -> Verdict
         latency: 0,
         inputs: 0,
     };
-    let mut sure = true;
-    while sure {
-        let step = walk.step(table);
-        if let Step::Next {
-            frame,
-            shape,
-            walk: next,
-        } = step {
-            let ops = walk.operands(table);
-            let taken = frame::take(tally, frame, shape, d, ops, notes);
-            match taken {
-                Taken::Next(t) => {
-                    tally = t;
-                    walk = next;
-                }
-                Taken::Unsure => {
-                    sure = false;
-                }
-            }
-        } else {
-            sure = false;
-        }
-    }
-    loop {
+    let mut broken = Spot { rule: 0, word: 0 };
+    let mut going = true;
+    while going {
         let step = walk.step(table);
         match step {
             Step::End => {
-                return accepted(tally);
+                going = false;
             }
             Step::Refused { rule } => {
-                return refused(rule, tally.frames, 0);
+                broken = Spot {
+                    rule: rule,
+                    word: 0,
+                };
+                going = false;
             }
             Step::Next {
-                frame,
+                frame: _,
                 shape,
                 walk: next,
             } => {
                 let ops = walk.operands(table);
-                let added = frame::add(tally, frame, shape, d, ops, notes);
+                let added = frame::add(tally, shape, d, ops, notes);
                 match added {
-                    Added::Refused { rule, word } => {
-                        return refused(rule, tally.frames, word);
-                    }
-                    Added::Next(t) => {
-                        tally = t;
+                    Added::Next(more) => {
+                        tally = more;
                         walk = next;
+                    }
+                    Added::Refused(spot) => {
+                        broken = spot;
+                        going = false;
                     }
                 }
             }
         }
     }
+    if broken.rule != 0 {
+        return refused(broken.rule, tally.frames, broken.word);
+    }
+    accepted(tally)
 }
 
 // The table checked frame by frame, in one pass. Rules 1 to 4 leave the notes untouched.

@@ -1,14 +1,18 @@
 -- The kind table in numbers: how many words each kind has, and that its numbers fit.
-use mathlib.Core.Path.{_≡_, refl}
+use mathlib.Core.Path.{_≡_, refl, sym, ap, subst}
+use mathlib.Core.List.{List}
 use Prim.Native.Nat.{ℕ, zero, suc, _+_, _*_, _-_, _≤_, _<_}
 use native.Mathlib.Nat.{mul-le-mul}
 use native.Mathlib.Omega.{arith}
 use lib.ListN.{length, length-append}
 use Rattle.circuit.proofs.Sizes.{labels-map}
-use Rattle.circuit.specs.Kinds.{WordRule, share, before, row, HEAD, AND, REF, OUT, kindOf, shape, words}
+use Rattle.circuit.specs.Kinds.{WordRule, share, before, row, Kind, HEAD, IN, CON, XOR, NOT, REG, AND, REF, OUT, kindOf, shape, words}
+use Rattle.circuit.specs.Lists.{nth}
+use Rattle.circuit.specs.Circuit.{Circuit, place, stageShown, newStage}
 use Rattle.frames.specs.declared.kinds.Kind.{Kind as KindCode}
 use Rattle.frames.specs.declared.kinds.Form.{Form}
 use Rattle.frames.specs.declared.kinds.Shape.{Shape as ShapeCode}
+use Rattle.frames.specs.Walk.{formOf, rulesOf, stageMade, Means, shapeCode}
 
 pub row-length : (rule : ℕ → ℕ → WordRule) (place d : ℕ) → length (row rule place d) ≡ d
 row-length rule place d = labels-map d (λ i. rule i place)
@@ -56,3 +60,33 @@ pub same-shape : (kind : KindCode) (form : Form) {w w′ m m′ u u′ b : ℕ} 
     → _≡_ {A = ShapeCode} (record { kind = kind; form = form; words = w; wires = m; randoms = u; inputs = b })
     (record { kind = kind; form = form; words = w′; wires = m′; randoms = u′; inputs = b })
 same-shape kind form {b = b} e f g = λ i. record { kind = kind; form = form; words = e i; wires = f i; randoms = g i; inputs = b }
+
+-- the form of each kind means it, and so does what the code holds of a kind
+pub means : (d : ℕ) (kind : Kind) → Means d (formOf kind) kind
+unfolding shape newStage
+means d kind = record { rules = rules kind; stages = λ k ops. stages k ops kind }
+  where
+    rules : (kind : Kind) → rulesOf d (formOf kind) ≡ shape d kind .rules
+    rules HEAD = refl
+    rules IN = refl
+    rules CON = refl
+    rules XOR = refl
+    rules NOT = refl
+    rules REG = refl
+    rules AND = refl
+    rules REF = refl
+    rules OUT = refl
+
+    stages : (k : Circuit) (ops : List ℕ) (kind : Kind) → stageMade (formOf kind) ops (λ i. stageShown (place k (nth ops i))) ≡ newStage k ops kind
+    stages k ops HEAD = refl
+    stages k ops IN = refl
+    stages k ops CON = refl
+    stages k ops XOR = refl
+    stages k ops NOT = omega arith
+    stages k ops REG = omega arith
+    stages k ops AND = omega arith
+    stages k ops REF = omega arith
+    stages k ops OUT = refl
+
+pub decided : {d : ℕ} {kind : Kind} {sh : ShapeCode} → sh ≡ shapeCode d kind → (sh ≡ shapeCode d kind) × Means d (sh .form) kind
+decided {d} {kind} e = (e, subst (λ f. Means d f kind) (sym (ap (λ s. s .form) e)) (means d kind))

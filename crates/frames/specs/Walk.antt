@@ -1,15 +1,17 @@
 -- What the walk over the frames of a table answers, by the kind table and rules 5 and 6.
 use mathlib.Core.Bool.{cond, _&&_}
-use mathlib.Core.List.{List}
+use mathlib.Core.Path.{_≡_}
+use mathlib.Core.List.{List, [], _∷_, _++_}
 use Prim.Native.Nat.{ℕ, _+_}
 use lib.Dec.{leb, ltb}
 use lib.ListN.{length, take, drop}
 use Rattle.circuit.specs.Lists.{nth}
-use Rattle.circuit.specs.Kinds.{Kind, HEAD, IN, CON, XOR, NOT, REG, AND, REF, OUT, kindOf, shape, words}
+use Rattle.circuit.specs.Kinds.{Kind, HEAD, IN, CON, XOR, NOT, REG, AND, REF, OUT, kindOf, WordRule, shareCount, label, value, stage, random, like, share, before, row, shape, words}
+use Rattle.circuit.specs.Circuit.{Circuit, place, stageShown, newStage}
 use Rattle.frames.specs.declared.kinds.Kind.{Kind as KindCode}
 use Rattle.frames.specs.declared.kinds.Kind.the-variants.{Head, In, Con, Xor, Not, Reg, And, Ref, Out}
 use Rattle.frames.specs.declared.kinds.Form.{Form}
-use Rattle.frames.specs.declared.kinds.Form.the-variants.{ShareCount, Stage, Constant, Wires, Gadget, Row}
+use Rattle.frames.specs.declared.kinds.Form.the-variants.{ShareCount, Stage, Constant, Sum, Copy, Product, Refresh, Row}
 use Rattle.frames.specs.declared.kinds.Shape.{Shape as ShapeCode}
 use Rattle.frames.specs.declared.walk.Gate.the-variants as gate
 use Rattle.frames.specs.declared.walk.Frame.{Frame}
@@ -20,7 +22,7 @@ use Rattle.frames.specs.declared.walk.Walk.{Walk}
 use Rattle.frames.specs.declared.walk.Step.{Step}
 use Rattle.frames.specs.declared.walk.Step.the-variants.{Next, Refused, End}
 
--- the code's name of a kind, and the form of the words after it
+-- the code's name of a kind, and the form of its words
 abbrev pub kindCode : Kind → KindCode
 kindCode HEAD = Head
 kindCode IN = In
@@ -36,12 +38,40 @@ abbrev pub formOf : Kind → Form
 formOf HEAD = ShareCount
 formOf IN = Stage
 formOf CON = Constant
-formOf XOR = Wires
-formOf NOT = Wires
-formOf REG = Wires
-formOf AND = Gadget
-formOf REF = Gadget
+formOf XOR = Sum
+formOf NOT = Copy 0
+formOf REG = Copy 1
+formOf AND = Product
+formOf REF = Refresh
 formOf OUT = Row
+
+-- what a form asks of the words after the kind
+abbrev pub rulesOf : ℕ → Form → List WordRule
+rulesOf d ShareCount = shareCount ∷ []
+rulesOf d Stage = stage ∷ []
+rulesOf d Constant = label ∷ value ∷ stage ∷ []
+rulesOf d Sum = like 0 ∷ like 0 ∷ []
+rulesOf d (Copy after) = like 0 ∷ []
+rulesOf d Product = random ∷ row share 1 d ++ row before 1 d
+rulesOf d Refresh = random ∷ row share 1 d
+rulesOf d Row = row share 0 d
+
+-- the stage of the wires that a form makes for others to name, from the stages that the wires at places of the frame show; of
+-- a row that makes none, that of its wires
+abbrev pub stageMade : Form → (ops : List ℕ) (shown : ℕ → ℕ) → ℕ
+stageMade ShareCount ops shown = 0
+stageMade Stage ops shown = nth ops 0
+stageMade Constant ops shown = nth ops 2
+stageMade Sum ops shown = shown 0
+stageMade (Copy after) ops shown = shown 0 + after
+stageMade Product ops shown = shown 1 + 1
+stageMade Refresh ops shown = shown 1 + 1
+stageMade Row ops shown = shown 0
+
+-- a form that means a kind: it asks the kind's rules of the words, and makes wires at the kind's stage
+pub record Means (d : ℕ) (form : Form) (kind : Kind) : Type 0 where
+  pub rules : rulesOf d form ≡ shape d kind .rules
+  pub stages : (k : Circuit) (ops : List ℕ) → stageMade form ops (λ i. stageShown (place k (nth ops i))) ≡ newStage k ops kind
 
 -- what a kind decides, as the code holds it
 abbrev pub shapeCode : ℕ → Kind → ShapeCode

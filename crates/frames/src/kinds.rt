@@ -1,7 +1,7 @@
 // What the kind word decides, once d is known: the one decision over kinds 0 to 8.
 ghost use mathlib.Core.Path.{_≡_};
 ghost use Rattle.circuit.specs.Kinds.{kindOf};
-ghost use Rattle.frames.specs.Walk.{shapeCode};
+ghost use Rattle.frames.specs.Walk.{shapeCode, Means};
 
 pub enum Kind {
     Head,
@@ -15,18 +15,22 @@ pub enum Kind {
     Out,
 }
 
-// The rules of the words after the kind, by their order on the frame.
+// What the words after the kind have to be, and at which stage the new wires stand.
 pub enum Form {
-    // d
+    // the number of shares
     ShareCount,
     // a stage
     Stage,
     // a label, a value, a stage
     Constant,
-    // one or two wires, of the first's label and stage
-    Wires,
-    // the first random, then d wires a, and d wires b one stage before them
-    Gadget,
+    // two wires of one label and stage
+    Sum,
+    // one wire, so many stages before the one that is made
+    Copy { after: u16 },
+    // the first random, d wires a, and d wires b one stage before them
+    Product,
+    // the first random, and d wires
+    Refresh,
     // d wires
     Row,
 }
@@ -36,7 +40,7 @@ pub struct Shape {
     pub form: Form,
     // how many words follow the kind
     pub words: usize,
-    // how many wires are made, how many random bits used, and how many secret bits brought in
+    // how many wires are made, random bits used, and secret bits brought in
     pub wires: usize,
     pub randoms: usize,
     pub inputs: usize,
@@ -44,7 +48,8 @@ pub struct Shape {
 
 // The frame that a kind word begins. A word past 8 is no kind and is answered as HEAD.
 pub fn decide(word: u16, d: u16) -> Shape
-    ensures { λ r. ⌜ r ≡ shapeCode d (kindOf word) ⌝ }
+    ensures shaped { λ r. ⌜ r ≡ shapeCode d (kindOf word) ⌝ }
+    ensures formed { λ r. ⌜ Means d (r .form) (kindOf word) ⌝ }
 {
     let n = d as usize;
     let ordered = n * n - n;
@@ -68,7 +73,7 @@ pub fn decide(word: u16, d: u16) -> Shape
         },
         3 => Shape {
             kind: Kind::Xor,
-            form: Form::Wires,
+            form: Form::Sum,
             words: 2,
             wires: 1,
             randoms: 0,
@@ -76,7 +81,7 @@ pub fn decide(word: u16, d: u16) -> Shape
         },
         4 => Shape {
             kind: Kind::Not,
-            form: Form::Wires,
+            form: Form::Copy { after: 0 },
             words: 1,
             wires: 1,
             randoms: 0,
@@ -84,7 +89,7 @@ pub fn decide(word: u16, d: u16) -> Shape
         },
         5 => Shape {
             kind: Kind::Reg,
-            form: Form::Wires,
+            form: Form::Copy { after: 1 },
             words: 1,
             wires: 1,
             randoms: 0,
@@ -92,7 +97,7 @@ pub fn decide(word: u16, d: u16) -> Shape
         },
         6 => Shape {
             kind: Kind::And,
-            form: Form::Gadget,
+            form: Form::Product,
             words: 1 + n + n,
             wires: 7 * ordered + 4 * n,
             randoms: pairs,
@@ -100,7 +105,7 @@ pub fn decide(word: u16, d: u16) -> Shape
         },
         7 => Shape {
             kind: Kind::Ref,
-            form: Form::Gadget,
+            form: Form::Refresh,
             words: 1 + n,
             wires: pairs + 2 * n,
             randoms: pairs,

@@ -1,141 +1,92 @@
--- `checker::check_frames` meets its contract.
-use mathlib.Core.Bool.{cond}
+-- The loop's invariant is `Loop`: while it goes on, the frames so far are a circuit whose notes are written and the rest is
+-- still to be judged; once it has ended, the spot gives the answer. Each turn passes a frame or ends the loop.
+use mathlib.Core.Bool.{cond, false}
 use mathlib.Core.List.{List}
-use mathlib.Core.Path.{sym, ap, _∙_}
+use mathlib.Core.Path.{_≡_, refl, sym, ap, _∙_}
 use Prim.Native.Nat.{ℕ, _+_, _-_}
 use native.Mathlib.Omega.{arith}
 use lib.ListN.{length}
 use borrow.Author.Needs.{needs}
-use denote.Ref.{now}
-use Rattle.checker.proofs.Checking.{Walking, headed, start}
-use Rattle.checker.proofs.Ways.{way-end, way-refused, frame-of, broken-kept, way-broken, turn, turn-taken, turn-left, less-left, bounded, shares-few, shares-least, same-length as kept}
+use Rattle.circuit.specs.Lists.{nth}
+use Rattle.frames.specs.declared.walk.Walk.{Walk}
+use Rattle.frames.specs.declared.walk.Step.the-variants as step
+use Rattle.frames.specs.Walk.{stepAt}
+use Rattle.checker.specs.declared.forms.Spot.{Spot}
+use Rattle.checker.specs.declared.frame.Tally.{Tally}
+use Rattle.checker.specs.declared.Verdict.the-variants.{Refused}
+use Rattle.checker.proofs.Checking.{Walking, headed, start, step-refused}
+use Rattle.checker.proofs.Placing.{refused-rule}
+use Rattle.checker.proofs.Ways.{Promised, refused-by, Loop, goes, ended, refused-end, accepted-end, way-end, way-refused, frame-of, broken-kept, way-broken, turn, less-left, bounded, same-length as kept}
 use Rattle.checker.proofs.check_frames.Statement.{statement}
 use Rattle.checker.proofs.check_frames.Tie as tie
 
 abbrev Inv-loop : tie.InvT-loop
-Inv-loop table notes₀ d walk₀ tally₀ sure₀ notes walk tally sure = Walking table notes₀ notes d walk tally
+Inv-loop table notes₀ d walk₀ tally₀ broken₀ going₀ notes walk tally broken going = Loop table notes₀ notes d walk tally broken going
 
 abbrev μ-loop : tie.MeasureT-loop
-μ-loop table notes₀ d walk₀ tally₀ sure₀ notes walk tally sure = length table - walk .at + cond sure 1 0
+μ-loop table notes₀ d walk₀ tally₀ broken₀ going₀ notes walk tally broken going = length table - walk .at + cond going 1 0
 
-abbrev Inv-loop2 : tie.InvT-loop2
-Inv-loop2 table notes₀ d walk₀ tally₀ sure notes walk tally = (n : List ℕ) → Walking table n notes₀ d walk₀ tally₀ → Walking table n notes d walk tally
+-- behind the step: the loop's state, and the walk
+abbrev top : tie.After-step Inv-loop μ-loop → tie.At-loop Inv-loop μ-loop
+top c = c .before .before
 
-abbrev μ-loop2 : tie.MeasureT-loop2
-μ-loop2 table notes₀ d walk₀ tally₀ sure notes walk tally = length table - walk .at
+abbrev entry : tie.At-loop Inv-loop μ-loop → tie.Start Inv-loop μ-loop
+entry c = c .before .before .before .before
 
-shared-slice-read-d : tie.Need-shared-slice-read-d Inv-loop μ-loop Inv-loop2 μ-loop2
-shared-slice-read-d c = omega (arith, headed (now (c .before .before .before .args .table)) (length (now (c .before .before .before .args .notes))) (c .before .before .before .pre) .two)
+abbrev table : tie.After-step Inv-loop μ-loop → List ℕ
+table c = entry (top c) .args .table .now
 
-loop-holds : tie.Need-loop-holds Inv-loop μ-loop Inv-loop2 μ-loop2
-loop-holds c = start (now (c .before .before .before .args .table)) (now (c .before .before .before .args .notes)) (c .before .before .before .pre)
+abbrev notes₀ : tie.After-step Inv-loop μ-loop → List ℕ
+notes₀ c = entry (top c) .args .notes .now
 
-take-requires : tie.Need-take-requires Inv-loop μ-loop Inv-loop2 μ-loop2
-take-requires c κs =
-    let w = c .before .before .before .before .before .before .before .loop .inv in
-    let found = c .before .before .before .step2 .given .0 in
-    let e = sym (c .before .before .before .step2 .given .1) ∙ c .before .before .before .before .before .step .ensures in
-    let ops = now (c .before .operands .result) in
-    let o = c .before .operands .ensures in
-    let u = bounded w in
-    ((u .room, u .wires, u .used, u .frames, u .inputs), (shares-least w, shares-few w, frame-of w (found .0) (found .1 .0) (found .1 .1 .0) e ops o))
+walking : (c : tie.After-step Inv-loop μ-loop) → Walking (table c) (notes₀ c) (top c .loop .notes) (nth (table c) 1) (top c .loop .walk) (top c .loop .tally)
+walking c = top c .loop .inv .walking (c .before .loop-test .taken)
 
-loop-less : tie.Need-loop-less Inv-loop μ-loop Inv-loop2 μ-loop2
-loop-less c =
-    let w = c .before .before .before .before .before .before .before .before .before .before .before .before .before .loop .inv in
-    let found = c .before .before .before .before .before .before .before .before .before .step2 .given .0 in
-    let e = sym (c .before .before .before .before .before .before .before .before .before .step2 .given .1) ∙ c .before .before .before .before .before .before .before .before .before .before .before .step .ensures in
-    let ops = now (c .before .before .before .before .before .before .before .operands .result) in
-    let o = c .before .before .before .before .before .before .before .operands .ensures in
-    omega (arith, less-left w (found .0) (found .1 .0) (found .1 .1 .0) e ops o)
+-- a rule ends the loop: the spot is the answer
+stopped : {table notes₀ notes : List ℕ} {d : ℕ} {walk : Walk} {tally : Tally} (broken : Spot) → length notes ≡ length notes₀ → (broken .rule ≡ 0 → ⊥)
+    → Promised table notes₀ notes (Refused (broken .rule) (tally .frames) (broken .word)) → Loop table notes₀ notes d walk tally broken false
+stopped {tally = tally} broken l h q = ended l (rw (refused-by (broken .rule) (broken .word) tally h) q)
 
-loop-again : tie.Need-loop-again Inv-loop μ-loop Inv-loop2 μ-loop2
-loop-again c =
-    let w = c .before .before .before .before .before .before .before .before .before .before .before .before .before .loop .inv in
-    let found = c .before .before .before .before .before .before .before .before .before .step2 .given .0 in
-    let e = sym (c .before .before .before .before .before .before .before .before .before .step2 .given .1) ∙ c .before .before .before .before .before .before .before .before .before .before .before .step .ensures in
-    let ops = now (c .before .before .before .before .before .before .before .operands .result) in
-    let o = c .before .before .before .before .before .before .before .operands .ensures in
-    turn-taken w (found .0) (found .1 .0) (found .1 .1 .0) e ops o _ (c .before .before .before .before .before .take .result) (c .before .before .before .before .before .take .ensures) _ (c .before .taken .given .1)
+-- behind the operands: a whole frame at the walk's place
+abbrev stepped : tie.After-operands Inv-loop μ-loop → tie.After-step Inv-loop μ-loop
+stepped c = c .before .before .before .before
 
-loop-less-2 : tie.Need-loop-less-2 Inv-loop μ-loop Inv-loop2 μ-loop2
-loop-less-2 c = rw (c .before .before .before .before .before .before .before .before .before .before .before .loop-test .taken) (omega arith)
+met : (c : tie.After-operands Inv-loop μ-loop) → let (fr, (sh, (on, _))) = c .before .before .step3 .given .0 in
+    step.Next fr sh on ≡ stepAt (table (stepped c)) (top (stepped c) .loop .walk .d) (top (stepped c) .loop .walk .at)
+met c = sym (c .before .before .step3 .given .1) ∙ stepped c .step .ensures
 
-loop-again-2 : tie.Need-loop-again-2 Inv-loop μ-loop Inv-loop2 μ-loop2
+loop-again : tie.Need-loop-again Inv-loop μ-loop
+loop-again c = let s = c .before .before in let w = walking s in
+    ended (kept w) (rw (top s .loop .inv .clean (s .before .loop-test .taken)) (way-end w (sym (c .enum-told .given .1) ∙ s .step .ensures)))
+
+loop-again-2 : tie.Need-loop-again-2 Inv-loop μ-loop
 loop-again-2 c =
-    let w = c .before .before .before .before .before .before .before .before .before .before .before .before .loop .inv in
-    let found = c .before .before .before .before .before .before .before .before .step2 .given .0 in
-    let e = sym (c .before .before .before .before .before .before .before .before .step2 .given .1) ∙ c .before .before .before .before .before .before .before .before .before .before .step .ensures in
-    let ops = now (c .before .before .before .before .before .before .operands .result) in
-    let o = c .before .before .before .before .before .before .operands .ensures in
-    turn-left w (found .0) (found .1 .0) (found .1 .1 .0) e ops o _ (c .before .before .before .before .take .result) (c .before .before .before .before .take .ensures) (c .enum-told .given .1)
+    let s = c .before .before .before in
+    let w = walking s in
+    let e = sym (c .before .step2 .given .1) ∙ s .step .ensures in
+    stopped _ (kept w) (step-refused (table s) _ _ _ e .1) (way-refused w _ e)
 
-loop-less-3 : tie.Need-loop-less-3 Inv-loop μ-loop Inv-loop2 μ-loop2
-loop-less-3 c = rw (c .before .before .loop-test .taken) (omega arith)
+loop-less-3 : tie.Need-loop-less-3 Inv-loop μ-loop
+loop-less-3 c =
+    let o = c .before .before .before .before .before .before .before in
+    let w = walking (stepped o) in
+    omega (arith, less-left w _ _ _ (met o) (o .operands .result .now) (o .operands .ensures))
 
-loop-again-3 : tie.Need-loop-again-3 Inv-loop μ-loop Inv-loop2 μ-loop2
-loop-again-3 c = c .before .before .before .loop .inv
+loop-again-3 : tie.Need-loop-again-3 Inv-loop μ-loop
+loop-again-3 c =
+    let a = c .before .before .before .before .before in
+    let o = a .before .before in
+    let s = stepped o in
+    rw (s .before .loop-test .taken) (goes (turn (walking s) _ _ _ (met o) (o .operands .result .now) (o .operands .ensures) _ (a .add .result) (a .add .ensures) _ (c .before .added .given .1)) (top s .loop .inv .clean (s .before .loop-test .taken)))
 
-loop2-holds : tie.Need-loop2-holds Inv-loop μ-loop Inv-loop2 μ-loop2
-loop2-holds c n w = w
-
-same-length : tie.Need-same-length Inv-loop μ-loop Inv-loop2 μ-loop2
-same-length c = kept (c .before .before .before .before .loop2 .inv (now (c .before .before .before .before .before .before .before .before .before .before .args .notes)) (c .before .before .before .before .before .before .loop .inv))
-
-returns : tie.Need-returns Inv-loop μ-loop Inv-loop2 μ-loop2
-returns c = rw (c .accepted .ensures) (way-end (c .before .before .before .before .loop2 .inv (now (c .before .before .before .before .before .before .before .before .before .before .args .notes)) (c .before .before .before .before .before .before .loop .inv)) (sym (c .before .enum-told2 .given .1) ∙ c .before .before .before .step3 .ensures))
-
-same-length-2 : tie.Need-same-length-2 Inv-loop μ-loop Inv-loop2 μ-loop2
-same-length-2 c = kept (c .before .before .before .before .before .loop2 .inv (now (c .before .before .before .before .before .before .before .before .before .before .before .args .notes)) (c .before .before .before .before .before .before .before .loop .inv))
-
-returns-2 : tie.Need-returns-2 Inv-loop μ-loop Inv-loop2 μ-loop2
-returns-2 c = rw (c .refused .ensures) (way-refused (c .before .before .before .before .before .loop2 .inv (now (c .before .before .before .before .before .before .before .before .before .before .before .args .notes)) (c .before .before .before .before .before .before .before .loop .inv)) _ (sym (c .before .before .step4 .given .1) ∙ c .before .before .before .before .step3 .ensures))
-
-add-requires : tie.Need-add-requires Inv-loop μ-loop Inv-loop2 μ-loop2
-add-requires c κs =
-    let w = c .before .before .before .before .before .before .loop2 .inv (now (c .before .before .before .before .before .before .before .before .before .before .before .before .args .notes)) (c .before .before .before .before .before .before .before .before .loop .inv) in
-    let found = c .before .before .before .step5 .given .0 in
-    let e = sym (c .before .before .before .step5 .given .1) ∙ c .before .before .before .before .before .step3 .ensures in
-    let ops = now (c .before .operands2 .result) in
-    let o = c .before .operands2 .ensures in
-    let u = bounded w in
-    ((u .room, u .wires, u .used, u .frames, u .inputs), (shares-few w, frame-of w (found .0) (found .1 .0) (found .1 .1 .0) e ops o))
-
-same-length-3 : tie.Need-same-length-3 Inv-loop μ-loop Inv-loop2 μ-loop2
-same-length-3 c =
-    let w = c .before .before .before .before .before .before .before .before .before .before .before .before .before .loop2 .inv (now (c .before .before .before .before .before .before .before .before .before .before .before .before .before .before .before .before .before .before .before .args .notes)) (c .before .before .before .before .before .before .before .before .before .before .before .before .before .before .before .loop .inv) in
-    let found = c .before .before .before .before .before .before .before .before .before .before .step5 .given .0 in
-    let e = sym (c .before .before .before .before .before .before .before .before .before .before .step5 .given .1) ∙ c .before .before .before .before .before .before .before .before .before .before .before .before .step3 .ensures in
-    let ops = now (c .before .before .before .before .before .before .before .before .operands2 .result) in
-    let o = c .before .before .before .before .before .before .before .before .operands2 .ensures in
-    ap length (broken-kept w (found .0) (found .1 .0) (found .1 .1 .0) e ops o _ (c .before .before .before .before .before .before .add .result) (c .before .before .before .before .before .before .add .ensures) _ _ (c .before .before .added .given .1)) ∙ kept w
-
-returns-3 : tie.Need-returns-3 Inv-loop μ-loop Inv-loop2 μ-loop2
-returns-3 c =
-    let w = c .before .before .before .before .before .before .before .before .before .before .before .before .before .loop2 .inv (now (c .before .before .before .before .before .before .before .before .before .before .before .before .before .before .before .before .before .before .before .args .notes)) (c .before .before .before .before .before .before .before .before .before .before .before .before .before .before .before .loop .inv) in
-    let found = c .before .before .before .before .before .before .before .before .before .before .step5 .given .0 in
-    let e = sym (c .before .before .before .before .before .before .before .before .before .before .step5 .given .1) ∙ c .before .before .before .before .before .before .before .before .before .before .before .before .step3 .ensures in
-    let ops = now (c .before .before .before .before .before .before .before .before .operands2 .result) in
-    let o = c .before .before .before .before .before .before .before .before .operands2 .ensures in
-    rw (c .refused2 .ensures) (way-broken w (found .0) (found .1 .0) (found .1 .1 .0) e ops o _ (c .before .before .before .before .before .before .add .result) (c .before .before .before .before .before .before .add .ensures) _ _ (c .before .before .added .given .1))
-
-loop2-less : tie.Need-loop2-less Inv-loop μ-loop Inv-loop2 μ-loop2
-loop2-less c =
-    let w = c .before .before .before .before .before .before .before .before .before .before .before .before .loop2 .inv (now (c .before .before .before .before .before .before .before .before .before .before .before .before .before .before .before .before .before .before .args .notes)) (c .before .before .before .before .before .before .before .before .before .before .before .before .before .before .loop .inv) in
-    let found = c .before .before .before .before .before .before .before .before .before .step5 .given .0 in
-    let e = sym (c .before .before .before .before .before .before .before .before .before .step5 .given .1) ∙ c .before .before .before .before .before .before .before .before .before .before .before .step3 .ensures in
-    let ops = now (c .before .before .before .before .before .before .before .operands2 .result) in
-    let o = c .before .before .before .before .before .before .before .operands2 .ensures in
-    less-left w (found .0) (found .1 .0) (found .1 .1 .0) e ops o
-
-loop2-again : tie.Need-loop2-again Inv-loop μ-loop Inv-loop2 μ-loop2
-loop2-again c n h =
-    let w = c .before .before .before .before .before .before .before .before .before .before .before .before .loop2 .inv n h in
-    let found = c .before .before .before .before .before .before .before .before .before .step5 .given .0 in
-    let e = sym (c .before .before .before .before .before .before .before .before .before .step5 .given .1) ∙ c .before .before .before .before .before .before .before .before .before .before .before .step3 .ensures in
-    let ops = now (c .before .before .before .before .before .before .before .operands2 .result) in
-    let o = c .before .before .before .before .before .before .before .operands2 .ensures in
-    turn w (found .0) (found .1 .0) (found .1 .1 .0) e ops o _ (c .before .before .before .before .before .add .result) (c .before .before .before .before .before .add .ensures) _ (c .before .added2 .given .1)
+loop-again-4 : tie.Need-loop-again-4 Inv-loop μ-loop
+loop-again-4 c =
+    let a = c .before .before .before .before .before in
+    let o = a .before .before in
+    let w = walking (stepped o) in
+    let e = c .before .added2 .given .1 in
+    stopped _ (ap length (broken-kept w _ _ _ (met o) (o .operands .result .now) (o .operands .ensures) _ (a .add .result) (a .add .ensures) _ e) ∙ kept w) (refused-rule (a .add .ensures) e)
+    (way-broken w _ _ _ (met o) (o .operands .result .now) (o .operands .ensures) _ (a .add .result) (a .add .ensures) _ e)
 
 pub check-frames-spec : {M : Type 1} → statement M
 check-frames-spec =
@@ -143,39 +94,27 @@ check-frames-spec =
     (tie.spec
     Inv-loop
     μ-loop
-    Inv-loop2
-    μ-loop2
-    shared-slice-read-d
-    loop-holds
+    (λ c. let s = c .before .before .before in omega (arith, headed (s .args .table .now) (length (s .args .notes .now)) (s .pre) .two))
+    (λ c. let s = c .before .before .before in goes (start (s .args .table .now) (s .args .notes .now) (s .pre)) refl)
     (λ c κs. search needs)
     (λ c. search needs)
-    (λ c κs. search needs)
-    take-requires
-    (λ c. search needs)
-    loop-less
+    (λ c. rw (c .before .before .before .loop-test .taken) (omega arith))
     loop-again
     (λ c. search needs)
-    loop-less-2
+    (λ c. rw (c .before .before .before .before .loop-test .taken) (omega arith))
     loop-again-2
+    (λ c. search needs)
+    (λ c κs. search needs)
+    (λ c κs. let o = c .before in let w = walking (stepped o) in (bounded w, frame-of w _ _ _ (met o) (o .operands .result .now) (o .operands .ensures)))
+    (λ c. search needs)
     loop-less-3
     loop-again-3
-    loop2-holds
-    (λ c κs. search needs)
     (λ c. search needs)
+    (λ c. rw (c .before .before .before .before .before .before .before .before .before .before .before .before .loop-test .taken) (omega arith))
+    loop-again-4
     (λ c κs. search needs)
-    same-length
-    returns
-    (λ c. search needs)
+    (λ c. c .before .before .before .before .loop .inv .kept)
+    (λ c. let l = c .before .before .before in rw (c .refused .ensures) (refused-end (l .before .loop .inv) (l .loop-test .left) (c .before .if1 .taken)))
     (λ c κs. search needs)
-    same-length-2
-    returns-2
-    (λ c. search needs)
-    (λ c κs. search needs)
-    add-requires
-    (λ c. search needs)
-    (λ c κs. search needs)
-    same-length-3
-    returns-3
-    (λ c. search needs)
-    loop2-less
-    loop2-again)
+    (λ c. c .before .before .before .before .loop .inv .kept)
+    (λ c. let l = c .before .before .before in rw (c .accepted .ensures) (accepted-end (l .before .loop .inv) (l .loop-test .left) (c .before .if1 .left))))

@@ -1,73 +1,81 @@
--- `checker::frame::add` meets its contract.
-use mathlib.Core.Path.{ap, _∙_}
+-- Each form's function judges by the form's words and wires; the counts then fit, and the answer is the definition's.
+use mathlib.Core.Path.{_≡_, refl, ap}
+use Prim.Native.Nat.{ℕ, _-_}
 use native.Mathlib.Omega.{arith}
 use borrow.Author.Needs.{needs}
-use denote.Ref.{now}
-use Rattle.checker.specs.Internal.Sheet.{noted, madeFrame}
-use Rattle.checker.proofs.Adding.{frame-count, frame-uses, frame-brings, word-broken, stage-over, wires-over, frame-added}
+use Rattle.circuit.specs.Lists.{nth}
+use Rattle.checker.specs.declared.notes.Found.{Found}
+use Rattle.checker.specs.Internal.Notes.{noted, stageFound}
+use Rattle.checker.specs.Internal.Adding.{rowBroken, rowAfter, wiresAt}
+use Rattle.checker.proofs.Adding.{nothing-made, asked, fits, adds}
 use Rattle.checker.proofs.frame.add.Statement.{statement}
 use Rattle.checker.proofs.frame.add.Tie as tie
 
-returns : tie.Need-returns
-returns c = word-broken (c .before .before .first-broken .result) (c .before .before .first-broken .ensures) (c .if1 .taken)
+-- the wires of a gadget and the spot of a row, as the code has them
+module _ (s : tie.Start) where
+  abbrev look : ℕ → Found
+  look = noted (s .args .notes .now) (s .args .tally .wires)
 
-returns-2 : tie.Need-returns-2
-returns-2 c =
-    let none = c .before .before .before .before .if1 .left in
-    let m = c .before .made-by .result in
-    let e = c .before .made-by .ensures .0 ∙ ap (λ n. madeFrame (c .before .before .before .before .before .before .before .before .before .before .args .frame) (c .before .before .before .before .before .before .before .before .before .before .args .d) n (noted (now (c .before .before .before .before .before .before .before .before .before .before .args .notes)) (c .before .before .before .before .before .before .before .before .before .before .args .tally .wires)) (now (c .before .before .before .before .before .before .before .before .before .before .args .ops))) (c .before .before .before .less .ensures) in
-    stage-over (c .before .before .before .before .before .before .first-broken .result) (c .before .before .before .before .before .before .first-broken .ensures) none m e (c .if2 .taken)
+  made-after : {inner : ℕ} → inner ≡ s .args .shape .wires - s .args .d
+      → rowAfter inner (s .args .d) (look (nth (s .args .ops .now) 1)) ≡ rowAfter (s .args .shape .wires - s .args .d) (s .args .d) (look (nth (s .args .ops .now) 1))
+  made-after e = ap (λ n. rowAfter n (s .args .d) (look (nth (s .args .ops .now) 1))) e
 
-returns-3 : tie.Need-returns-3
-returns-3 c =
-    let none = c .before .before .before .before .before .if1 .left in
-    let m = c .before .before .made-by .result in
-    let e = c .before .before .made-by .ensures .0 ∙ ap (λ n. madeFrame (c .before .before .before .before .before .before .before .before .before .before .before .args .frame) (c .before .before .before .before .before .before .before .before .before .before .before .args .d) n (noted (now (c .before .before .before .before .before .before .before .before .before .before .before .args .notes)) (c .before .before .before .before .before .before .before .before .before .before .before .args .tally .wires)) (now (c .before .before .before .before .before .before .before .before .before .before .before .args .ops))) (c .before .before .before .before .less .ensures) in
-    wires-over (c .before .before .before .before .before .before .before .first-broken .result) (c .before .before .before .before .before .before .before .first-broken .ensures) none m e (c .before .if2 .left) (omega arith)
-
-write-requires : tie.Need-write-requires
-write-requires c κs =
-    let none = c .before .before .before .before .before .before .if1 .left in
-    let m = c .before .before .before .made-by .result in
-    let e = c .before .before .before .made-by .ensures .0 ∙ ap (λ n. madeFrame (c .before .before .before .before .before .before .before .before .before .before .before .before .args .frame) (c .before .before .before .before .before .before .before .before .before .before .before .before .args .d) n (noted (now (c .before .before .before .before .before .before .before .before .before .before .before .before .args .notes)) (c .before .before .before .before .before .before .before .before .before .before .before .before .args .tally .wires)) (now (c .before .before .before .before .before .before .before .before .before .before .before .before .args .ops))) (c .before .before .before .before .before .less .ensures) in (
-      omega (arith, frame-count (c .before .before .before .before .before .before .before .before .before .before .before .before .pre .1 .1) (noted (now (c .before .before .before .before .before .before .before .before .before .before .before .before .args .notes)) (c .before .before .before .before .before .before .before .before .before .before .before .before .args .tally .wires)) m e),
-      c .before .before .before .made-by .ensures .1,
-      omega arith,
-    )
-
-add-t24 : tie.Need-add-t24
-add-t24 c = record { fits = omega (arith, frame-uses (c .before .before .before .before .before .before .before .before .before .before .before .before .before .before .before .before .before .before .pre .1 .1), c .before .before .before .before .before .before .before .before .before .before .before .before .before .before .before .before .before .before .pre .0 .1, c .before .before .before .before .before .before .before .before .before .before .before .before .before .before .before .before .before .before .pre .0 .2, c .before .before .before .before .before .before .before .if3 .left) }
-
-add-t26 : tie.Need-add-t26
-add-t26 c = record { fits = omega (arith, frame-brings (c .before .before .before .before .before .before .before .before .before .before .before .before .before .before .before .before .before .before .before .before .before .pre .1 .1), c .before .before .before .before .before .before .before .before .before .before .before .before .before .before .before .before .before .before .before .before .before .pre .0 .3, c .before .before .before .before .before .before .before .before .before .before .before .before .before .before .before .before .before .before .before .before .before .pre .0 .4) }
-
-returns-4 : tie.Need-returns-4
-returns-4 c =
-    let none = c .before .before .before .before .before .before .before .before .before .before .before .before .before .before .before .if1 .left in
-    let m = c .before .before .before .before .before .before .before .before .before .before .before .before .made-by .result in
-    let e = c .before .before .before .before .before .before .before .before .before .before .before .before .made-by .ensures .0 ∙ ap (λ n. madeFrame (c .before .before .before .before .before .before .before .before .before .before .before .before .before .before .before .before .before .before .before .before .before .args .frame) (c .before .before .before .before .before .before .before .before .before .before .before .before .before .before .before .before .before .before .before .before .before .args .d) n (noted (now (c .before .before .before .before .before .before .before .before .before .before .before .before .before .before .before .before .before .before .before .before .before .args .notes)) (c .before .before .before .before .before .before .before .before .before .before .before .before .before .before .before .before .before .before .before .before .before .args .tally .wires)) (now (c .before .before .before .before .before .before .before .before .before .before .before .before .before .before .before .before .before .before .before .before .before .args .ops))) (c .before .before .before .before .before .before .before .before .before .before .before .before .before .before .less .ensures) in
-    frame-added (c .before .before .before .before .before .before .before .before .before .before .before .before .before .before .before .before .before .first-broken .result) (c .before .before .before .before .before .before .before .before .before .before .before .before .before .before .before .before .before .first-broken .ensures) none m e (c .before .before .before .before .before .before .before .before .before .before .before .if2 .left) (omega (arith, c .before .before .before .before .before .before .before .before .before .before .before .before .before .before .before .before .before .before .before .before .before .pre .0 .1, c .before .before .before .before .before .before .before .before .before .before .if3 .left)) (c .before .before .latency-after .result) (c .before .before .latency-after .ensures)
-    (c .before .before .before .before .before .before .before .before .write .last .0) (c .before .before .before .before .before .before .before .before .write .ensures)
+  row-spot : {t : ℕ} → t ≡ stageFound (look (nth (s .args .ops .now) 0))
+      → rowBroken look t 0 1 0 (s .args .ops .now) ≡ rowBroken look (stageFound (look (nth (s .args .ops .now) 0))) 0 1 0 (s .args .ops .now)
+  row-spot e = ap (λ t. rowBroken look t 0 1 0 (s .args .ops .now)) e
 
 pub add-spec : {M : Type 1} → statement M
 add-spec =
     tie.close
     (tie.spec
+    (λ c. search needs)
+    (λ c κs. fits (c .before .before .before .before .pre .1) (c .enum-told .given .1) (nothing-made _ _ (c .before .before .before .before .pre .0 .wires)) refl refl (c .before .before .before .before .pre .0))
+    (λ c. search needs)
+    (λ c. omega (arith, asked (c .before .before .before .before .before .pre .1) (c .before .enum-told2 .given .1)))
     (λ c κs. search needs)
+    (λ c κs. fits (c .before .before .before .before .before .before .before .before .before .pre .1) (c .before .before .before .before .before .enum-told2 .given .1) (c .before .before .stage .ensures) refl refl (c .before .before .before .before .before .before .before .before .before .pre .0))
     (λ c. search needs)
-    returns
+    (λ c. omega (arith, asked (c .before .before .before .before .before .pre .1) (c .before .enum-told3 .given .1)))
+    (λ c. omega (arith, asked (c .before .before .before .before .before .before .pre .1) (c .before .before .enum-told3 .given .1)))
+    (λ c. omega (arith, asked (c .before .before .before .before .before .before .before .pre .1) (c .before .before .before .enum-told3 .given .1)))
     (λ c κs. search needs)
+    (λ c κs. fits (c .before .before .before .before .before .before .before .before .before .before .before .pre .1) (c .before .before .before .before .before .before .before .enum-told3 .given .1) (c .before .before .constant .ensures) refl refl (c .before .before .before .before .before .before .before .before .before .before .before .pre .0))
+    (λ c. search needs)
+    (λ c. omega (arith, asked (c .before .before .before .before .before .pre .1) (c .before .enum-told4 .given .1)))
+    (λ c. omega (arith, asked (c .before .before .before .before .before .before .pre .1) (c .before .before .enum-told4 .given .1)))
     (λ c κs. search needs)
+    (λ c κs. fits (c .before .before .before .before .before .before .before .before .before .before .pre .1) (c .before .before .before .before .before .before .enum-told4 .given .1) (c .before .before .sum .ensures) refl refl (c .before .before .before .before .before .before .before .before .before .before .pre .0))
     (λ c. search needs)
-    returns-2
+    (λ c. omega (arith, asked (c .before .before .before .before .before .before .pre .1) (c .before .before .form .given .1)))
     (λ c. search needs)
-    (λ c. search needs)
-    returns-3
-    write-requires
-    (λ c. search needs)
-    (λ c. search needs)
-    add-t24
     (λ c κs. search needs)
-    add-t26
+    (λ c κs. fits (c .before .before .before .before .before .before .before .before .before .before .pre .1) (c .before .before .before .before .before .before .form .given .1) (c .before .before .copy .ensures) refl refl (c .before .before .before .before .before .before .before .before .before .before .pre .0))
     (λ c. search needs)
-    returns-4)
+    (λ c κs. search needs)
+    (λ c κs. let s = c .before .before .before .before .before .before in (s .pre .0 .wires, omega (arith, s .pre .0 .room), omega (arith, s .pre .1 .least), s .pre .1 .most, asked (s .pre .1) (c .before .before .enum-told5 .given .1)))
+    (λ c κs. fits (c .before .before .before .before .before .before .before .before .before .pre .1) (c .before .before .before .before .before .enum-told5 .given .1) (c .before .before .product .ensures) refl (made-after (c .before .before .before .before .before .before .before .before .before) (c .before .before .before .before .less .ensures)) (c .before .before .before .before .before .before .before .before .before .pre .0))
+    (λ c. search needs)
+    (λ c κs. search needs)
+    (λ c κs. let s = c .before .before .before .before .before .before in (s .pre .0 .wires, omega (arith, s .pre .0 .room), omega (arith, s .pre .1 .least), s .pre .1 .most, asked (s .pre .1) (c .before .before .enum-told6 .given .1)))
+    (λ c κs. fits (c .before .before .before .before .before .before .before .before .before .pre .1) (c .before .before .before .before .before .enum-told6 .given .1) (c .before .before .refresh .ensures) refl (made-after (c .before .before .before .before .before .before .before .before .before) (c .before .before .before .before .less2 .ensures)) (c .before .before .before .before .before .before .before .before .before .pre .0))
+    (λ c. search needs)
+    (λ c. omega (arith, asked (c .before .before .before .before .before .before .pre .1) (c .before .before .enum-told7 .given .1)))
+    (λ c κs. search needs)
+    (λ c κs. let s = c .before .before .before .before .before .before .before .before in (s .pre .0 .wires, omega (arith, s .pre .0 .room), omega (arith, s .pre .1 .most, asked (s .pre .1) (c .before .before .before .before .enum-told7 .given .1))))
+    (λ c κs. search needs)
+    (λ c κs. fits (c .before .before .before .before .before .before .before .before .before .before .before .before .pre .1) (c .before .before .before .before .before .before .before .before .enum-told7 .given .1) (c .before .before .before .row .ensures) (row-spot (c .before .before .before .before .before .before .before .before .before .before .before .before) (c .before .before .before .before .before .stage-shown .ensures .0)) (ap (wiresAt 0 0) (c .before .before .before .before .before .stage-shown .ensures .0)) (c .before .before .before .before .before .before .before .before .before .before .before .before .pre .0))
+    (λ c. adds (c .before .before .before .before .before .pre .1) (c .before .enum-told .given .1) (nothing-made _ _ (c .before .before .before .before .before .pre .0 .wires)) refl refl (c .grown .ensures) refl)
+    (λ c. search needs)
+    (λ c. adds (c .before .before .before .before .before .before .before .before .before .before .pre .1) (c .before .before .before .before .before .before .enum-told2 .given .1) (c .before .before .before .stage .ensures) refl refl (c .grown2 .ensures) refl)
+    (λ c. search needs)
+    (λ c. adds (c .before .before .before .before .before .before .before .before .before .before .before .before .pre .1) (c .before .before .before .before .before .before .before .before .enum-told3 .given .1) (c .before .before .before .constant .ensures) refl refl (c .grown3 .ensures) refl)
+    (λ c. search needs)
+    (λ c. adds (c .before .before .before .before .before .before .before .before .before .before .before .pre .1) (c .before .before .before .before .before .before .before .enum-told4 .given .1) (c .before .before .before .sum .ensures) refl refl (c .grown4 .ensures) refl)
+    (λ c. search needs)
+    (λ c. adds (c .before .before .before .before .before .before .before .before .before .before .before .pre .1) (c .before .before .before .before .before .before .before .form .given .1) (c .before .before .before .copy .ensures) refl refl (c .grown5 .ensures) refl)
+    (λ c. search needs)
+    (λ c. adds (c .before .before .before .before .before .before .before .before .before .before .pre .1) (c .before .before .before .before .before .before .enum-told5 .given .1) (c .before .before .before .product .ensures) refl (made-after (c .before .before .before .before .before .before .before .before .before .before) (c .before .before .before .before .before .less .ensures)) (c .grown6 .ensures) refl)
+    (λ c. search needs)
+    (λ c. adds (c .before .before .before .before .before .before .before .before .before .before .pre .1) (c .before .before .before .before .before .before .enum-told6 .given .1) (c .before .before .before .refresh .ensures) refl (made-after (c .before .before .before .before .before .before .before .before .before .before) (c .before .before .before .before .before .less2 .ensures)) (c .grown7 .ensures) refl)
+    (λ c. search needs)
+    (λ c. adds (c .before .before .before .before .before .before .before .before .before .before .before .before .before .pre .1) (c .before .before .before .before .before .before .before .before .before .enum-told7 .given .1) (c .before .before .before .before .row .ensures) (row-spot (c .before .before .before .before .before .before .before .before .before .before .before .before .before) (c .before .before .before .before .before .before .stage-shown .ensures .0)) (ap (wiresAt 0 0) (c .before .before .before .before .before .before .stage-shown .ensures .0)) (c .grown8 .ensures) (c .before .larger .ensures)))

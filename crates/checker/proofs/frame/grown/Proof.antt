@@ -1,25 +1,29 @@
--- `checker::frame::grown` meets its contract.
+-- By the rule's number: where it is 0, the counts fit; where it is not, it is handed on.
+use mathlib.Core.Path.{_≡_, refl}
+use Prim.Native.Nat.{ℕ, zero, suc}
 use native.Mathlib.Omega.{arith}
+use borrow.Author.Needs.{needs}
+use Rattle.frames.specs.declared.kinds.Shape.{Shape as ShapeCode}
+use Rattle.checker.specs.declared.frame.Tally.{Tally}
+use Rattle.checker.specs.declared.frame.Added.the-variants.{Refused}
+use Rattle.checker.specs.Internal.Adding.{spot, Fitting, addedBy}
 use Rattle.checker.proofs.frame.grown.Statement.{statement}
 use Rattle.checker.proofs.frame.grown.Tie as tie
 
-add-t7 : tie.Need-add-t7
-add-t7 c = record { fits = omega (arith, c .before .before .pre (c .before .if1 .taken) .frames) }
+fits : (c : tie.Then1) → Fitting (c .before .before .args .tally) (c .before .before .args .shape)
+fits c = c .before .before .pre (c .if1 .taken)
 
-add-t8 : tie.Need-add-t8
-add-t8 c = record { fits = omega (arith, c .before .before .before .before .pre (c .before .before .before .if1 .taken) .wires) }
-
-add-t9 : tie.Need-add-t9
-add-t9 c = record { fits = omega (arith, c .before .before .before .before .before .before .pre (c .before .before .before .before .before .if1 .taken) .randoms) }
-
-add-t10 : tie.Need-add-t10
-add-t10 c = record { fits = omega (arith, c .before .before .before .before .before .before .before .before .pre (c .before .before .before .before .before .before .before .if1 .taken) .inputs) }
-
-returns : tie.Need-returns
-returns c = rw (c .before .before .before .before .before .before .before .if1 .taken)
-
-returns-2 : tie.Need-returns-2
-returns-2 c = rw (c .if1 .left)
+refuses : (rule word : ℕ) (tally : Tally) (sh : ShapeCode) (latency : ℕ) → (rule ≡ 0 → ⊥) → Refused (spot rule word) ≡ addedBy rule word tally sh latency
+refuses zero word tally sh latency h = absurd (h refl)
+refuses (suc rule) word tally sh latency h = refl
 
 pub grown-spec : {M : Type 1} → statement M
-grown-spec = tie.close (tie.spec add-t7 add-t8 add-t9 add-t10 returns returns-2)
+grown-spec =
+    tie.close
+    (tie.spec
+    (λ c. record { fits = omega (arith, fits (c .before) .frames) })
+    (λ c. record { fits = omega (arith, fits (c .before .before .before) .wires) })
+    (λ c. record { fits = omega (arith, fits (c .before .before .before .before .before) .randoms) })
+    (λ c. record { fits = omega (arith, fits (c .before .before .before .before .before .before .before) .inputs) })
+    (λ c. rw (c .before .before .before .before .before .before .before .if1 .taken))
+    (λ c. let a = c .before .before .args in refuses (a .broken .rule) (a .broken .word) (a .tally) (a .shape) (a .latency) (c .if1 .left)))

@@ -4,7 +4,7 @@ use Prim.Native.Nat.{_+_, _*_}
 use lib.Seq.{sets}
 use borrow.Author.Needs.{needs}
 use denote.Ref.{now}
-use Rattle.checker.specs.Internal.Sheet.{namedWords}
+use Rattle.checker.specs.Internal.Notes.{namedWords}
 use Rattle.checker.proofs.Stores.{stores-made}
 use Rattle.checker.proofs.notes.write.Statement.{statement}
 use Rattle.checker.proofs.notes.write.Tie as tie

@@ -5,7 +5,7 @@ use native.Mathlib.Omega.{arith}
 use lib.ListN.{length}
 use lib.Seq.{sets}
 use borrow.Author.Needs.{needs}
-use Rattle.checker.specs.Internal.Sheet.{innerWords}
+use Rattle.checker.specs.Internal.Notes.{innerWords}
 use Rattle.checker.proofs.Stores.{marks, inner-marks, marks-turn, marks-end}
 use Rattle.checker.proofs.notes.write_inner.Statement.{statement}
 use Rattle.checker.proofs.notes.write_inner.Tie as tie

@@ -5,7 +5,7 @@ use native.Mathlib.Omega.{arith}
 use lib.ListN.{length, length-set}
 use lib.Seq.{sets}
 use borrow.Author.Needs.{needs}
-use Rattle.checker.specs.Internal.Sheet.{namedWords}
+use Rattle.checker.specs.Internal.Notes.{namedWords}
 use Rattle.checker.proofs.Stores.{store-start, store-turn, named-turn, named-end}
 use Rattle.checker.proofs.notes.write_named.Statement.{statement}
 use Rattle.checker.proofs.notes.write_named.Tie as tie

@@ -29,7 +29,7 @@ measured c =
 -- the kind's number of words is small
 small : (c : tie.After-struct-known) → c .before .decide .result .words ≤ 131073
 small c =
-    let w = ap (λ (x : Shape). x .words) (c .before .decide .ensures) in
+    let w = ap (λ (x : Shape). x .words) (c .before .decide .ensures .0) in
     let d = c .before .before .before .before .before .before .before .args .d in
     let h : d < 65536 = search needs in
     omega (arith, words-most d (kindOf (c .before .before .before .before .value .result)))
@@ -60,12 +60,12 @@ mul-if4 c = record { fits = omega (arith, small c) }
 
 returns-4 : tie.Need-returns-4
 returns-4 c = let s = c .before .before .before .before .before .before .before .before in let a = s .args in let m = count s in let h = measured (c .before .before .before .before .before .before) in let k = c .before .before .before .before .before .value in
-    let w = ap (λ (x : Shape). x .words) (c .before .before .decide .ensures) in
+    let w = ap (λ (x : Shape). x .words) (c .before .before .decide .ensures .0) in
     λ n. rw (sym (k .ensures), lt-ltb 0 m (omega arith), le-leb 1 (k .result) (omega arith), le-leb (k .result) 8 (omega arith), ne-eqb m (suc (words (a .d) (kindOf (k .result)))) (λ e. c .if4 .taken (omega arith)))
 
 returns-5 : tie.Need-returns-5
 returns-5 c = let s = c .before .before .before .before .before .before .before .before .before in let a = s .args in let m = count s in let h = measured (c .before .before .before .before .before .before .before) in let k = c .before .before .before .before .before .before .value in
-    let w = ap (λ (x : Shape). x .words) (c .before .before .before .decide .ensures) in
+    let w = ap (λ (x : Shape). x .words) (c .before .before .before .decide .ensures .0) in
     let e : c .before .before .before .decide .result .words + 1 ≡ m = omega arith in
     λ n. rw (sym (k .ensures), lt-ltb 0 m (omega arith), le-leb 1 (k .result) (omega arith), le-leb (k .result) 8 (omega arith), eq-eqb m (suc (words (a .d) (kindOf (k .result)))) (omega arith)) (subst (λ (x : ℕ). ruled (c .room-rule .result) n 0 ≡ roomRule (a .room) n (a .stored + x)) e (c .room-rule .ensures n))
 
