@@ -160,11 +160,9 @@ def wrong_stage(spot: Spot) -> Finding:
     found = "wire {wire} ({wire:04X}) stands at stage {found}, and "
     moves = "; a REG moves a wire one stage later"
     if spot.kind == AND and start > 2:
-        other = spot.words[2]
-        stage = wires[other].stage
+        stage = wires[spot.words[2]].stage
         if stage == 0:
-            return Finding(found + "one stage before a is wanted, but a stands at stage {a}, the first (its wire {other}, "
-                           "{other:04X})" + moves, {**facts, "other": other, "a": stage})
+            return Finding(found + "b stands one stage before a, but a stands at stage {a}, the first" + moves, {**facts, "a": stage})
         return Finding(found + "stage {wanted} is wanted, one before a, which stands at stage {a}" + moves,
                        {**facts, "wanted": stage - 1, "a": stage})
     other = spot.words[start]
