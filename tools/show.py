@@ -46,9 +46,16 @@ class Refusal(Exception):
     """A rule that the circuit or the inputs broke, in plain words."""
 
 
+class Parser(argparse.ArgumentParser):
+    """Help that cannot be written is trouble; argparse would pass over it."""
+
+    def print_help(self, file=None) -> None:
+        sys.stdout.write(self.format_help())
+
+
 def options_of(words: list[str]) -> argparse.Namespace:
-    parser = argparse.ArgumentParser(prog="show", description="Shows what stands in a masked circuit.", epilog=EXAMPLES,
-                                     formatter_class=argparse.RawDescriptionHelpFormatter)
+    parser = Parser(prog="show", description="Shows what stands in a masked circuit.", epilog=EXAMPLES,
+                    formatter_class=argparse.RawDescriptionHelpFormatter)
     commands = parser.add_subparsers(dest="command", metavar="COMMAND", required=True)
     for name, text in (("wires", WIRES_HELP), ("values", VALUES_HELP), ("reading", READING_HELP)):
         command = commands.add_parser(name, help=text, description=f"Shows {text}.")
@@ -194,11 +201,8 @@ def say(text: str) -> None:
         sys.stderr.write(f"show: {text}\n")
 
 
-def main() -> int:
-    signal.signal(signal.SIGPIPE, signal.SIG_DFL)
-    if sys.stdout is None:
-        say("standard output is closed, so nothing can be shown")
-        return TROUBLE
+def status_of() -> int:
+    """Does what the command's words ask; the exit status."""
     try:
         rows = run(options_of(sys.argv[1:]))
         sys.stdout.write("\n".join(rows) + "\n")
@@ -208,23 +212,26 @@ def main() -> int:
         return 1
     except Trouble as trouble:
         say(str(trouble))
-        return TROUBLE
     except SystemExit as end:
         return end.code
     except KeyboardInterrupt:
+        say("interrupted")
+    return TROUBLE
+
+
+def main() -> int:
+    signal.signal(signal.SIGPIPE, signal.SIG_DFL)
+    if sys.stdout is None:
+        say("standard output is closed, so nothing can be shown")
         return TROUBLE
-
-
-def written(status: int) -> int:
-    """The status, once all that was shown is written; trouble where it could not be."""
     try:
-        if sys.stdout is not None:
-            sys.stdout.flush()
+        status = status_of()
+        sys.stdout.flush()
         return status
     except OSError as error:
-        say(f"not all could be shown: {error.strerror}")
+        say(f"not all could be written: {error.strerror}")
         os._exit(TROUBLE)
 
 
 if __name__ == "__main__":
-    sys.exit(written(main()))
+    sys.exit(main())
