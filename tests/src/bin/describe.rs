@@ -1,9 +1,11 @@
 //! What the second program says of random circuits, for the comparison with `show` and with judge's explanations.
 //!   describe --wires N      N accepted circuits: the text's bytes, then the row of each wire
 //!   describe --refusals N   N refused texts: the text's bytes, the refusal, then what was found and wanted
-use masked_tests::builder::Builder;
+use masked_tests::builder::{text, Builder};
 use masked_tests::generate::case::case;
 use masked_tests::generate::circuit::{circuit, Shape};
+use masked_tests::generate::damage::damaged_lines;
+use masked_tests::generate::near::near_frame;
 use masked_tests::generate::random::Random;
 use masked_tests::generate::slips::with_slip;
 use masked_tests::options;
@@ -50,14 +52,20 @@ fn print_wires(seed: u64, count: u64) {
     }
 }
 
-/// A damaged text; every fourth has a slip of the hand.
+/// A damaged text: by its bytes, by a slip of the hand, or, mostly, by words of its frames.
 fn damaged(random: &mut Random) -> Vec<u8> {
-    if random.once_in(4) {
-        let shape = Shape::random(random, 12);
-        let text = circuit(random, shape).text();
-        return with_slip(random, text.as_bytes());
+    let shape = Shape::random(random, 30);
+    let builder = circuit(random, shape);
+    match random.below(6) {
+        0 => case(random).text,
+        1 => with_slip(random, builder.text().as_bytes()),
+        2 | 3 => text(&damaged_lines(random, &builder)).into_bytes(),
+        _ => {
+            let mut lines = builder.lines();
+            lines.push(near_frame(random, &builder));
+            text(&lines).into_bytes()
+        }
     }
-    case(random).text
 }
 
 fn print_refusals(seed: u64, count: u64) {
