@@ -57,22 +57,23 @@ def options_of(words: list[str]) -> argparse.Namespace:
     parser = Parser(prog="show", description="Shows what stands in a masked circuit.", epilog=EXAMPLES,
                     formatter_class=argparse.RawDescriptionHelpFormatter)
     commands = parser.add_subparsers(dest="command", metavar="COMMAND", required=True)
+    by_name = {}
     for name, text in (("wires", WIRES_HELP), ("values", VALUES_HELP), ("reading", READING_HELP)):
-        command = commands.add_parser(name, help=text, description=f"Shows {text}.")
+        command = by_name[name] = commands.add_parser(name, help=text, description=f"Shows {text}.")
         command.add_argument("file", metavar="FILE", help="a circuit's text; - is standard input")
         if name == "wires":
             continue
         command.add_argument("--shares", type=digits, metavar="BITS", help="a digit 0 or 1 for each share, IN by IN, label by label")
         command.add_argument("--tape", type=digits, metavar="BITS", help="a digit 0 or 1 for each random bit")
         command.add_argument("--secrets", type=digits, metavar="BITS", help="a digit for each IN: shares and tape are drawn, and told")
-        command.add_argument("--seed", type=int, metavar="N", help="draws the same again")
+        command.add_argument("--seed", type=int, metavar="N", help="what to draw by; the same number draws the same again")
         if name == "reading":
             command.add_argument("--probe", type=wire, action="append", required=True, metavar="WIRE",
                                  help="a wire's number, decimal or as 0x..; may be given again")
     options = parser.parse_args(words)
     options.file = STDIN if options.file == "-" else options.file
     if options.command != "wires":
-        check_inputs(parser, options)
+        check_inputs(by_name[options.command], options)
     return options
 
 
@@ -83,8 +84,9 @@ def check_inputs(parser: argparse.ArgumentParser, options: argparse.Namespace) -
         parser.error("give either --shares and --tape, or --secrets")
     if options.seed is not None and given:
         parser.error("--seed goes with --secrets")
-    if options.secrets is not None and max(options.secrets, default=0) > 1:
-        raise Refusal(f"refused 18: {MEANINGS[18]}\n  here: --secrets has a digit over 1")
+    for place, secret in enumerate(options.secrets or []):
+        if secret > 1:
+            raise Refusal(f"refused 18: {MEANINGS[18]}\n  here: digit {place + 1} of the secrets is {secret}")
 
 
 def read(name: str) -> bytes:
