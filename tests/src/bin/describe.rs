@@ -5,6 +5,7 @@ use masked_tests::builder::{text, Builder};
 use masked_tests::generate::case::case;
 use masked_tests::generate::circuit::{circuit, Shape};
 use masked_tests::generate::damage::damaged_lines;
+use masked_tests::generate::limits::limit;
 use masked_tests::generate::near::near_frame;
 use masked_tests::generate::random::Random;
 use masked_tests::generate::slips::with_slip;
@@ -52,8 +53,11 @@ fn print_wires(seed: u64, count: u64) {
     }
 }
 
-/// A damaged text: by its bytes, by a slip of the hand, or, mostly, by words of its frames.
+/// A text at a limit, or a damaged one: by its bytes, by a slip of the hand, or, mostly, by words of its frames.
 fn damaged(random: &mut Random) -> Vec<u8> {
+    if random.once_in(24) {
+        return limit(random).text().into_bytes();
+    }
     let shape = Shape::random(random, 30);
     let builder = circuit(random, shape);
     match random.below(6) {
