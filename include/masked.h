@@ -66,8 +66,8 @@ enum masked_rule {
 /* Checks a table: the words of all frames, one behind the other. Rules 1 to 14. (In a table, without lines, rule 6 is broken where
  * the table ends inside a frame.)
  *
- * notes   at least 16,384 words; words 2w and 2w+1 are wire w's label and stage, or MASKED_INNER twice for an inner wire of a gadget,
- *         which no frame may name.
+ * notes   at least 16,384 words; words 2w and 2w+1 are wire w's label and stage, or MASKED_INNER (FFFF) twice for an inner wire of a
+ *         gadget, which no frame may name.
  *         accepted:        the notes of all wires are written; the words behind the last wire's are as they were
  *         rules 1 to 4:    as they were
  *         rules 5 to 14:   the notes of the wires of all frames before the refused one are written; the rest is as it was */
@@ -99,8 +99,8 @@ uint64_t masked_read_probes(const uint16_t *table, size_t table_len, uint16_t *n
                             uint8_t *values, size_t values_len, const uint16_t *probes, size_t probes_len,
                             uint8_t *reading, size_t reading_len, uint64_t *a, uint64_t *b, uint64_t *c);
 
-/* Reads a text, lines of hexadecimal words, into a table; it judges no more than that. Rules 20, 3 to 6 and 21, line by line: 21 also
- * where the words do not fit the lent table.
+/* Reads a text, lines of hexadecimal words, into a table; it judges no more than that. Rules 20, 3 to 6 and 21, line by line: 21
+ * also where the words do not fit the lent table.
  *
  * table   accepted:        the first *a words are those of the text; the rest is as it was. They are what masked_check takes.
  *         any refusal:     the words of the lines before the refused one are written; the rest is as it was */

@@ -162,7 +162,8 @@ def wrong_stage(spot: Spot) -> Finding:
     if spot.kind == AND and start > 2:
         stage = wires[spot.words[2]].stage
         if stage == 0:
-            return Finding(found + "b stands one stage before a, but a stands at stage {a}, the first" + moves, {**facts, "a": stage})
+            return Finding(found + "b stands one stage before a, but a stands at stage {a}, the first" + moves,
+                           {**facts, "a": stage})
         return Finding(found + "stage {wanted} is wanted, one before a, which stands at stage {a}" + moves,
                        {**facts, "wanted": stage - 1, "a": stage})
     other = spot.words[start]

@@ -63,9 +63,11 @@ def options_of(words: list[str]) -> argparse.Namespace:
         command.add_argument("file", metavar="FILE", help="a circuit's text; - is standard input")
         if name == "wires":
             continue
-        command.add_argument("--shares", type=digits, metavar="BITS", help="a digit 0 or 1 for each share, IN by IN, label by label")
+        command.add_argument("--shares", type=digits, metavar="BITS",
+                             help="a digit 0 or 1 for each share, IN by IN, label by label")
         command.add_argument("--tape", type=digits, metavar="BITS", help="a digit 0 or 1 for each random bit")
-        command.add_argument("--secrets", type=digits, metavar="BITS", help="a digit for each IN: shares and tape are drawn, and told")
+        command.add_argument("--secrets", type=digits, metavar="BITS",
+                             help="a digit 0 or 1 for each IN: shares and tape are drawn, and told")
         command.add_argument("--seed", type=int, metavar="N", help="what to draw by; the same number draws the same again")
         if name == "reading":
             command.add_argument("--probe", type=wire, action="append", required=True, metavar="WIRE",
@@ -162,7 +164,10 @@ def show_values(circuit: Circuit, values: bytearray) -> list[str]:
 
 
 def show_reading(circuit: Circuit, probes: list[int], reading: bytearray) -> list[str]:
-    rows = [f"probe {probe} ({probe:04X}), {circuit.wires[probe].name} on line {circuit.wires[probe].frame + 1}" for probe in probes]
+    rows = []
+    for probe in probes:
+        wire = circuit.wires[probe]
+        rows.append(f"probe {probe} ({probe:04X}), {wire.name} on line {wire.frame + 1}")
     rows.append(PLACE + "  value")
     rows += [f"{place(number, circuit)}  {value:5}" for number, value in enumerate(reading) if value != 2]
     return rows

@@ -66,8 +66,8 @@ static void empty_slices(void)
                               reading, MASKED_MOST_WIRES, &a, &b, &c),
            MASKED_ACCEPTED, 0, 0, 0);
     answer("read_probes, no reading",
-           masked_read_probes(table, words, notes, MASKED_NOTES_WORDS, NULL, 0, NULL, 0, values, MASKED_MOST_WIRES, NULL, 0, NULL, 0,
-                              &a, &b, &c),
+           masked_read_probes(table, words, notes, MASKED_NOTES_WORDS, NULL, 0, NULL, 0, values, MASKED_MOST_WIRES, NULL, 0,
+                              NULL, 0, &a, &b, &c),
            MASKED_BUFFER_TOO_SHORT, 0, 0, 0);
     answer("read_text, no text", masked_read_text(NULL, 0, table, MASKED_MOST_WORDS, &a, &b), MASKED_NO_HEAD, 0, 0, 0);
     answer("read_text, no table", masked_read_text((const uint8_t *)"0000 0002\n", 10, NULL, 0, &a, &b), MASKED_NO_ROOM, 0, 0, 0);
@@ -88,8 +88,8 @@ static void buffers(void)
     is("the reading", reading[8] == 1 && reading[13] == 0 && reading[17] == 0 && reading[24] == MASKED_UNREAD
                           && reading[MASKED_MOST_WIRES - 1] == MASKED_UNREAD && kept(reading, MASKED_MOST_WIRES, sizeof reading));
     junk();
-    answer("rule 18", masked_evaluate(table, words, notes, MASKED_NOTES_WORDS, wrong, 4, tape, 1, values, MASKED_MOST_WIRES, &a, &b, &c),
-           MASKED_BYTE_NOT_A_BIT, 0, 3, 0);
+    answer("rule 18", masked_evaluate(table, words, notes, MASKED_NOTES_WORDS, wrong, 4, tape, 1, values, MASKED_MOST_WIRES,
+                                      &a, &b, &c), MASKED_BYTE_NOT_A_BIT, 0, 3, 0);
     is("18 leaves the notes as accepted, no values", notes[48] == 0 && notes[49] == 2 && kept(values, 0, sizeof values));
     junk();
     answer("rule 19", masked_read_probes(table, words, notes, MASKED_NOTES_WORDS, shares, 4, tape, 1, values, MASKED_MOST_WIRES,

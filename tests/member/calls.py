@@ -71,9 +71,9 @@ class Functions(unittest.TestCase):
     def test_its_own_example(self) -> None:
         """The example of the module's first lines runs."""
         example = "".join(line[4:] + "\n" for line in masked.__doc__.splitlines() if line.startswith("    "))
-        script = f"import sys; sys.path.insert(0, 'bindings/python')\n{example}print(values[24], reading[8], reading[13], reading[17])"
+        script = f"import sys; sys.path.insert(0, 'bindings/python')\n{example}print(values[24], [reading[w] for w in (8, 13, 17)])"
         done = subprocess.run([sys.executable, "-c", script], cwd=ROOT, capture_output=True, text=True, check=True)
-        self.assertEqual("1 1 0 0\n", done.stdout)
+        self.assertEqual("1 [1, 0, 0]\n", done.stdout)
 
 
 class Null(unittest.TestCase):

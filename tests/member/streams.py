@@ -1,4 +1,6 @@
-"""Input that a shell cannot make: a connection that is reset, and a terminal. Tries judge and show. Exit status: 0 where all passed."""
+"""Input that a shell cannot make: a connection that is reset, and a terminal. Tries judge and show.
+
+Exit status: 0 where all passed."""
 from __future__ import annotations
 
 import os
