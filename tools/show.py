@@ -150,13 +150,13 @@ def show_wires(circuit: Circuit, lines: list[bytes], notes: array, answer: maske
 def show_values(circuit: Circuit, values: bytearray) -> list[str]:
     rows = [PLACE + "  value"]
     rows += [f"{place(number, circuit)}  {values[number]:5}" for number in range(len(circuit.wires))]
+    made: dict[int, list[int]] = {}
+    for number, wire in enumerate(circuit.wires):
+        made.setdefault(wire.frame, []).append(number)
     for frame, words in enumerate(circuit.frames):
-        if words[0] == IN:
-            row = [number for number, wire in enumerate(circuit.wires) if wire.frame == frame]
-        elif words[0] == OUT:
-            row = words[1:]
-        else:
+        if words[0] not in (IN, OUT):
             continue
+        row = made[frame] if words[0] == IN else words[1:]
         bits = [values[number] for number in row]
         wires = " ".join(map(str, row))
         rows.append(f"{KINDS[words[0]]} on line {frame + 1}: wires {wires}, shares {' '.join(map(str, bits))}, sum {sum(bits) % 2}")

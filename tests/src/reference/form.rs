@@ -55,20 +55,24 @@ fn behind(good: &[u16], number: usize, d: usize) -> bool {
     }
 }
 
+/// Spaces at a place where a word should stand, `at` bytes into the line.
+fn bad_spaces(facts: &mut Facts, rest: &[u8], at: usize) {
+    let spaces_only = rest.iter().all(|&byte| byte == b' ');
+    match (at, spaces_only) {
+        (0, true) => facts.text("cause", "spaces alone"),
+        (0, false) => facts.text("cause", "space in front"),
+        _ => {
+            facts.text("cause", if spaces_only { "space behind" } else { "two spaces" });
+            facts.number("column", at);
+        }
+    }
+}
+
 /// What stands at a place where a word should.
 fn bad_word(facts: &mut Facts, line: &[u8], at: usize, behind: bool) {
     let rest = &line[at..];
-    if rest.first().map_or(true, |&byte| byte == b' ') {
-        let spaces_only = rest.iter().all(|&byte| byte == b' ');
-        match (at, spaces_only) {
-            (0, true) => facts.text("cause", "spaces alone"),
-            (0, false) => facts.text("cause", "space in front"),
-            _ => {
-                facts.text("cause", if spaces_only { "space behind" } else { "two spaces" });
-                facts.number("column", at);
-            }
-        }
-        return;
+    if matches!(rest.first(), None | Some(b' ')) {
+        return bad_spaces(facts, rest, at);
     }
     let token = &rest[..rest.iter().position(|&byte| byte == b' ').unwrap_or(rest.len())];
     let first = |wanted: &dyn Fn(u8) -> bool| {

@@ -17,6 +17,11 @@ impl Facts {
         self.0.push((name, value.to_string()));
     }
 
+    fn because(mut self, cause: &str) -> Facts {
+        self.text("cause", cause);
+        self
+    }
+
     fn of(pairs: &[(&'static str, usize)]) -> Facts {
         Facts(pairs.iter().map(|(name, value)| (*name, value.to_string())).collect())
     }
@@ -45,9 +50,7 @@ fn numbers(line: &[u8]) -> Vec<u16> {
 /// `table` has the words of the lines before, of which HEAD's are the first.
 fn by_reader(lines: &[&[u8]], table: &[u16], refusal: Refusal) -> Facts {
     if lines.is_empty() {
-        let mut facts = Facts::default();
-        facts.text("cause", "empty");
-        return facts;
+        return Facts::default().because("empty");
     }
     let d = usize::from(table[1]);
     let line = lines[refusal.frame];
@@ -57,16 +60,8 @@ fn by_reader(lines: &[&[u8]], table: &[u16], refusal: Refusal) -> Facts {
     let words = numbers(line);
     let kind = usize::from(words[0]);
     match refusal.rule {
-        3 if kind != 0 => {
-            let mut facts = Facts::of(&[("found", kind)]);
-            facts.text("cause", "kind");
-            facts
-        }
-        3 => {
-            let mut facts = Facts::of(&[("found", words.len())]);
-            facts.text("cause", "words");
-            facts
-        }
+        3 if kind != 0 => Facts::of(&[("found", kind)]).because("kind"),
+        3 => Facts::of(&[("found", words.len())]).because("words"),
         4 => Facts::of(&[("found", words[1].into())]),
         5 => Facts::of(&[("found", kind)]),
         6 => {
@@ -139,9 +134,7 @@ fn range(circuit: &Circuit, words: &[u16], word: usize) -> Facts {
         (2, 2) => ("value", 1),
         _ => ("stage", LAST_STAGE),
     };
-    let mut facts = Facts::of(&[("found", words[word].into()), ("most", most)]);
-    facts.text("cause", cause);
-    facts
+    Facts::of(&[("found", words[word].into()), ("most", most)]).because(cause)
 }
 
 fn inner(circuit: &Circuit, lines: &[&[u8]], wire: usize) -> Facts {
