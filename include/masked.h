@@ -1,11 +1,23 @@
 /* The proved calls of Hawdreth under C names. Link target/staticlib/libexports.a (made by `rt staticlib exports`).
+ * docs/FORMAT.md describes circuits and rules; examples/c has a program to start from.
  *
- * A slice is a pointer and a number of elements; an empty one may have any pointer that is not null. Buffers of one call must
- * not overlap. Every call ends on any input and leans on no earlier call.
+ * Slices. A slice is a pointer and a number of elements. The pointer is aligned as its type asks, and leads to that many elements.
+ * With length 0 it may be null: no call follows the pointer of an empty slice. The buffers of one call must not overlap.
  *
- * The result is 0 where accepted, and the numbers are then: wires, random bits, latency (masked_read_text: words, 0).
- * Otherwise the result is the number of the first rule broken, and the numbers are: frame, word, 0 (masked_read_text: line,
- * word). What each buffer holds afterwards is said by the contracts in crates/exports/src/lib.rt. */
+ * Results. Every call gives MASKED_ACCEPTED (0) or the number of the first rule broken (enum masked_rule), and always writes its
+ * numbers *a, *b, *c, whose pointers must not be null:
+ *
+ *                                    *a              *b                            *c
+ *   accepted                         wires           random bits                   latency: the highest stage of an OUT, or 0
+ *   refused                          frame           word                          0
+ *   masked_read_text, accepted       words written   0
+ *   masked_read_text, refused        line            word
+ *
+ * A frame is a line of the text, counted from 0 (HEAD), and word 0 is its kind. Rules 1 to 3 and 15 to 17 are told at frame 0,
+ * word 0; rule 4 at frame 0, word 1; rules 18 and 19 at frame 0, the word being the index of the byte (the tape's count on from the
+ * shares') or of the probe; rules 5, 6, 13, 14, 20 and 21 at word 0 of the frame or line; rules 7 to 12 at the word that breaks it.
+ *
+ * Every call ends on any input, keeps nothing, and leans on no earlier call. Calls with different buffers may run at one time. */
 #ifndef MASKED_H
 #define MASKED_H
 
@@ -16,24 +28,82 @@
 extern "C" {
 #endif
 
-/* Checks a table of at most 8,192 words. notes has at least 16,384 words; words 2w and 2w+1 get wire w's label and stage. */
+enum {
+    MASKED_MOST_WORDS = 8192,   /* words of a table */
+    MASKED_MOST_WIRES = 8192,   /* wires of a circuit, and least bytes of values and reading */
+    MASKED_NOTES_WORDS = 16384, /* least words of notes */
+    MASKED_INNER = 0xFFFF,      /* both words of an inner wire's note */
+    MASKED_UNREAD = 2           /* a reading's byte for a wire that no probe reads */
+};
+
+/* The rules, by what each asks. A result names the first one that is broken. */
+enum masked_rule {
+    MASKED_ACCEPTED = 0,
+    MASKED_TABLE_TOO_LONG = 1,    /* the table has at most 8,192 words */
+    MASKED_NOTES_TOO_SHORT = 2,   /* the notes have at least 16,384 words */
+    MASKED_NO_HEAD = 3,           /* the first line is HEAD: two words, 0000 and the number of shares d */
+    MASKED_SHARE_COUNT = 4,       /* the number of shares d is 2 to 8 */
+    MASKED_UNKNOWN_KIND = 5,      /* after HEAD a line's first word, the kind, is 0001 to 0008 */
+    MASKED_FRAME_LENGTH = 6,      /* a line has as many words as its kind asks for */
+    MASKED_OUT_OF_RANGE = 7,      /* a label is below d, a value is 0 or 1, a stage is at most 00FF */
+    MASKED_WIRE_NOT_MADE = 8,     /* a word that names a wire names one that an earlier line has made */
+    MASKED_WIRE_INNER = 9,        /* no word names a wire inside a gadget; only a gadget's outputs may be named */
+    MASKED_WRONG_LABEL = 10,      /* the i-th wire of a row has label i, and both wires of an XOR have one label */
+    MASKED_WRONG_STAGE = 11,      /* the wires of a row, and both wires of an XOR, stand at one stage; b of an AND stands one
+                                     stage before a */
+    MASKED_WRONG_RANDOM = 12,     /* the first-random word is the number of random bits used so far, so that none is used twice */
+    MASKED_STAGE_TOO_HIGH = 13,   /* no new wire stands at a stage over 255 */
+    MASKED_TOO_MANY_WIRES = 14,   /* there are at most 8,192 wires */
+    MASKED_SHARES_LENGTH = 15,    /* the shares are d bytes for each IN */
+    MASKED_TAPE_LENGTH = 16,      /* the tape is one byte for each random bit */
+    MASKED_BUFFER_TOO_SHORT = 17, /* the buffers for values and for the reading have at least 8,192 bytes */
+    MASKED_BYTE_NOT_A_BIT = 18,   /* every byte of the shares and of the tape is 0 or 1 */
+    MASKED_NO_SUCH_PROBE = 19,    /* every probe names a wire of the circuit */
+    MASKED_LINE_FORM = 20,        /* a line is words of four digits 0-9A-F, one space between, and a line feed behind the last */
+    MASKED_NO_ROOM = 21           /* the words of all lines fit a table of 8,192 words */
+};
+
+/* Checks a table: the words of all frames, one behind the other. Rules 1 to 14. (In a table, without lines, rule 6 is broken where
+ * the table ends inside a frame.)
+ *
+ * notes   at least 16,384 words; words 2w and 2w+1 are wire w's label and stage, or MASKED_INNER (FFFF) twice for an inner wire of a
+ *         gadget, which no frame may name.
+ *         accepted:        the notes of all wires are written; the words behind the last wire's are as they were
+ *         rules 1 to 4:    as they were
+ *         rules 5 to 14:   the notes of the wires of all frames before the refused one are written; the rest is as it was */
 uint64_t masked_check(const uint16_t *table, size_t table_len, uint16_t *notes, size_t notes_len,
                       uint64_t *a, uint64_t *b, uint64_t *c);
 
-/* Checks, then evaluates: d bytes 0 or 1 of shares for each IN, one byte of tape for each random bit; values has at least 8,192
- * bytes, and byte w gets wire w's value. */
+/* Checks, then evaluates. Rules 1 to 14 as masked_check, then 15 to 18.
+ *
+ * shares  d bytes 0 or 1 for each IN: IN by IN in the table's order, label by label
+ * tape    a byte 0 or 1 for each random bit, in the order in which AND and REF use them
+ * notes   as masked_check leaves them; rules 15 to 18 leave them as accepted
+ * values  at least 8,192 bytes; byte w is wire w's value, 0 or 1.
+ *         accepted:        the bytes of all wires are written; those behind the last wire's are as they were
+ *         any refusal:     as they were */
 uint64_t masked_evaluate(const uint16_t *table, size_t table_len, uint16_t *notes, size_t notes_len,
                          const uint8_t *shares, size_t shares_len, const uint8_t *tape, size_t tape_len,
                          uint8_t *values, size_t values_len, uint64_t *a, uint64_t *b, uint64_t *c);
 
-/* Checks, evaluates, and writes the reading of the probed wires: 8,192 bytes, a wire's value where some probe reads it, 2
- * elsewhere. */
+/* Checks, evaluates, and tells what probes read. Rules 1 to 18 as masked_evaluate (17 for values and for the reading), then 19.
+ *
+ * notes, values   as masked_evaluate leaves them; rule 19 leaves the notes as accepted and the values as they were
+ * probes  numbers of wires, inner ones too; one that is named twice counts once, and there may be none
+ * reading at least 8,192 bytes.
+ *         accepted:        the first 8,192 bytes are all written: byte w is wire w's value where some probe reads that wire, and
+ *                          MASKED_UNREAD elsewhere; further bytes are as they were
+ *         any refusal:     as it was */
 uint64_t masked_read_probes(const uint16_t *table, size_t table_len, uint16_t *notes, size_t notes_len,
                             const uint8_t *shares, size_t shares_len, const uint8_t *tape, size_t tape_len,
                             uint8_t *values, size_t values_len, const uint16_t *probes, size_t probes_len,
                             uint8_t *reading, size_t reading_len, uint64_t *a, uint64_t *b, uint64_t *c);
 
-/* Reads lines of hexadecimal words into a table. */
+/* Reads a text, lines of hexadecimal words, into a table; it judges no more than that. Rules 20, 3 to 6 and 21, line by line: 21
+ * also where the words do not fit the lent table.
+ *
+ * table   accepted:        the first *a words are those of the text; the rest is as it was. They are what masked_check takes.
+ *         any refusal:     the words of the lines before the refused one are written; the rest is as it was */
 uint64_t masked_read_text(const uint8_t *text, size_t text_len, uint16_t *table, size_t table_len, uint64_t *a, uint64_t *b);
 
 #ifdef __cplusplus

@@ -6,4 +6,5 @@ pub mod limits;
 pub mod near;
 pub mod probes;
 pub mod random;
+pub mod slips;
 pub mod text;

@@ -69,6 +69,7 @@ pub fn walk(table: &[u16], rules: Rules) -> (Circuit, Option<Refusal>) {
         if rest.len() < length {
             return (circuit, Some(Refusal::new(6, frame, 0)));
         }
+        circuit.starts.push(circuit.wires.len());
         if let Err((rule, word)) = take_frame(&mut circuit, &rest[..length], rules) {
             return (circuit, Some(Refusal::new(rule, frame, word)));
         }

@@ -42,11 +42,13 @@ pub struct Circuit {
     pub randoms: usize,
     pub latency: usize,
     pub wires: Vec<Wire>,
+    /// How many wires there were before each frame, HEAD first.
+    pub starts: Vec<usize>,
 }
 
 impl Circuit {
     pub fn new(d: usize) -> Circuit {
-        Circuit { d, inputs: 0, randoms: 0, latency: 0, wires: Vec::new() }
+        Circuit { d, inputs: 0, randoms: 0, latency: 0, wires: Vec::new(), starts: vec![0] }
     }
 
     pub fn counts(&self) -> Counts {

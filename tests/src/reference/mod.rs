@@ -3,7 +3,10 @@ pub mod check;
 pub mod circuit;
 pub mod count;
 pub mod evaluate;
+pub mod form;
+pub mod found;
 mod gadgets;
+pub mod names;
 pub mod reach;
 pub mod text;
 

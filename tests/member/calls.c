@@ -1,0 +1,119 @@
+/* What include/masked.h says of slices and buffers, tried from C: null with length 0, and what each buffer holds afterwards.
+ * Exit status: 0 where all of it holds. */
+#include "masked.h"
+#include <stdio.h>
+#include <string.h>
+
+#define JUNK 0xA5
+
+static uint16_t table[MASKED_MOST_WORDS], notes[MASKED_NOTES_WORDS + 2];
+static uint8_t values[MASKED_MOST_WIRES + 2], reading[MASKED_MOST_WIRES + 2];
+static uint64_t a, b, c;
+static int passed, failed;
+
+static void is(const char *what, int holds)
+{
+    passed += holds != 0;
+    failed += holds == 0;
+    if (!holds)
+        printf("FAILED calls.c: %s\n", what);
+}
+
+/* The result and the numbers of the last call. */
+static void answer(const char *what, uint64_t got, uint64_t rule, uint64_t first, uint64_t second, uint64_t third)
+{
+    is(what, got == rule && a == first && b == second && c == third);
+}
+
+static void junk(void)
+{
+    memset(notes, JUNK, sizeof notes);
+    memset(values, JUNK, sizeof values);
+    memset(reading, JUNK, sizeof reading);
+    a = b = c = UINT64_MAX;
+}
+
+/* Bytes from a place on that are as they were. */
+static int kept(const void *buffer, size_t from, size_t size)
+{
+    const uint8_t *bytes = buffer;
+    for (size_t at = from; at < size; at++)
+        if (bytes[at] != JUNK)
+            return 0;
+    return 1;
+}
+
+static size_t read_text(const char *text)
+{
+    uint64_t words, word;
+    is("a text is read", masked_read_text((const uint8_t *)text, strlen(text), table, MASKED_MOST_WORDS, &words, &word) == 0);
+    return words;
+}
+
+static void empty_slices(void)
+{
+    size_t words = read_text("0000 0002\n");
+    junk();
+    answer("check, all null", masked_check(NULL, 0, NULL, 0, &a, &b, &c), MASKED_NOTES_TOO_SHORT, 0, 0, 0);
+    answer("check, no table", masked_check(NULL, 0, notes, MASKED_NOTES_WORDS, &a, &b, &c), MASKED_NO_HEAD, 0, 0, 0);
+    answer("evaluate, no shares and tape",
+           masked_evaluate(table, words, notes, MASKED_NOTES_WORDS, NULL, 0, NULL, 0, values, MASKED_MOST_WIRES, &a, &b, &c),
+           MASKED_ACCEPTED, 0, 0, 0);
+    answer("evaluate, no values", masked_evaluate(table, words, notes, MASKED_NOTES_WORDS, NULL, 0, NULL, 0, NULL, 0, &a, &b, &c),
+           MASKED_BUFFER_TOO_SHORT, 0, 0, 0);
+    answer("read_probes, no probes",
+           masked_read_probes(table, words, notes, MASKED_NOTES_WORDS, NULL, 0, NULL, 0, values, MASKED_MOST_WIRES, NULL, 0,
+                              reading, MASKED_MOST_WIRES, &a, &b, &c),
+           MASKED_ACCEPTED, 0, 0, 0);
+    answer("read_probes, no reading",
+           masked_read_probes(table, words, notes, MASKED_NOTES_WORDS, NULL, 0, NULL, 0, values, MASKED_MOST_WIRES, NULL, 0,
+                              NULL, 0, &a, &b, &c),
+           MASKED_BUFFER_TOO_SHORT, 0, 0, 0);
+    answer("read_text, no text", masked_read_text(NULL, 0, table, MASKED_MOST_WORDS, &a, &b), MASKED_NO_HEAD, 0, 0, 0);
+    answer("read_text, no table", masked_read_text((const uint8_t *)"0000 0002\n", 10, NULL, 0, &a, &b), MASKED_NO_ROOM, 0, 0, 0);
+}
+
+static void buffers(void)
+{
+    const uint8_t shares[] = {1, 0, 1, 1}, tape[] = {1}, wrong[] = {1, 0, 1, 2};
+    const uint16_t probe[] = {24}, none[] = {26};
+    size_t words = read_text("0000 0002\n0001 0001\n0001 0000\n0006 0000 0000 0001 0002 0003\n0008 0018 0019\n");
+    junk();
+    answer("accepted", masked_read_probes(table, words, notes, MASKED_NOTES_WORDS, shares, 4, tape, 1, values, MASKED_MOST_WIRES,
+                                          probe, 1, reading, sizeof reading, &a, &b, &c), MASKED_ACCEPTED, 26, 1, 2);
+    is("an output's note", notes[48] == 0 && notes[49] == 2 && notes[50] == 1 && notes[51] == 2);
+    is("an inner wire's note", notes[46] == MASKED_INNER && notes[47] == MASKED_INNER);
+    is("notes behind the last wire", kept(notes, 2 * 2 * 26, sizeof notes));
+    is("values", values[24] == 1 && values[18] == 1 && values[23] == 0 && kept(values, 26, sizeof values));
+    is("the reading", reading[8] == 1 && reading[13] == 0 && reading[17] == 0 && reading[24] == MASKED_UNREAD
+                          && reading[MASKED_MOST_WIRES - 1] == MASKED_UNREAD && kept(reading, MASKED_MOST_WIRES, sizeof reading));
+    junk();
+    answer("rule 18", masked_evaluate(table, words, notes, MASKED_NOTES_WORDS, wrong, 4, tape, 1, values, MASKED_MOST_WIRES,
+                                      &a, &b, &c), MASKED_BYTE_NOT_A_BIT, 0, 3, 0);
+    is("18 leaves the notes as accepted, no values", notes[48] == 0 && notes[49] == 2 && kept(values, 0, sizeof values));
+    junk();
+    answer("rule 19", masked_read_probes(table, words, notes, MASKED_NOTES_WORDS, shares, 4, tape, 1, values, MASKED_MOST_WIRES,
+                                         none, 1, reading, MASKED_MOST_WIRES, &a, &b, &c), MASKED_NO_SUCH_PROBE, 0, 0, 0);
+    is("19 leaves values and reading", kept(values, 0, sizeof values) && kept(reading, 0, sizeof reading));
+    junk();
+    table[words - 1] = 26;
+    answer("rule 8", masked_check(table, words, notes, MASKED_NOTES_WORDS, &a, &b, &c), MASKED_WIRE_NOT_MADE, 4, 2, 0);
+    is("8 leaves the earlier frames' notes", notes[48] == 0 && notes[49] == 2 && kept(notes, 2 * 2 * 26, sizeof notes));
+    junk();
+    table[1] = 9;
+    answer("rule 4", masked_check(table, words, notes, MASKED_NOTES_WORDS, &a, &b, &c), MASKED_SHARE_COUNT, 0, 1, 0);
+    is("4 leaves the notes", kept(notes, 0, sizeof notes));
+    memset(table, JUNK, sizeof table);
+    c = 0;
+    answer("text, rule 5", masked_read_text((const uint8_t *)"0000 0002\n0009 0000\n", 20, table, MASKED_MOST_WORDS, &a, &b),
+           MASKED_UNKNOWN_KIND, 1, 0, 0);
+    is("the words of the lines before", table[0] == 0 && table[1] == 2 && kept(table, 4, sizeof table));
+}
+
+int main(void)
+{
+    empty_slices();
+    buffers();
+    printf("calls.c: %d passed, %d failed\n", passed, failed);
+    return failed != 0;
+}

@@ -1,0 +1,107 @@
+"""Tries bindings/python/masked.py by itself, and null with length 0 through ctypes. Exit status: 0 where all passed."""
+from __future__ import annotations
+
+import ctypes
+import subprocess
+import sys
+import unittest
+from array import array
+from pathlib import Path
+
+ROOT = Path(__file__).resolve().parents[2]
+sys.path.insert(0, str(ROOT / "bindings" / "python"))
+
+import masked
+
+TEXT = (ROOT / "examples" / "circuit-a.hex").read_bytes()
+TABLE = masked.read_text(TEXT)
+A1 = [1, 0, 1, 1, 1, 1, 1, 1, 1, 1, 0, 0, 0, 0, 0, 0, 0, 0, 1, 1, 0, 0, 0, 0, 1, 1]
+
+
+def words(count: int) -> array:
+    return masked.words([0xA5A5] * count)
+
+
+class Functions(unittest.TestCase):
+    def refused(self, rule: int, frame: int, word: int, function, *arguments, **named) -> None:
+        with self.assertRaises(masked.Refused) as caught:
+            function(*arguments, **named)
+        self.assertEqual((rule, frame, word), (caught.exception.rule, caught.exception.frame, caught.exception.word))
+
+    def test_check(self) -> None:
+        notes = words(masked.NOTES_WORDS)
+        self.assertEqual((26, 1, 2), masked.check(TABLE, notes))
+        self.assertEqual((0, 2), masked.label_and_stage(notes, 24))
+        self.assertIsNone(masked.label_and_stage(notes, 23))
+        self.assertEqual(0xA5A5, notes[52])
+        self.refused(2, 0, 0, masked.check, TABLE, words(16383))
+        self.refused(8, 4, 1, masked.check, list(TABLE[:-2]) + [26, 25])
+        self.refused(1, 0, 0, masked.check, [0] * 8193)
+
+    def test_evaluate(self) -> None:
+        values = bytearray(b"\xa5" * masked.MOST_WIRES)
+        self.assertEqual((26, 1, 2), masked.evaluate(TABLE, [1, 0, 1, 1], [1], values))
+        self.assertEqual(A1, list(values[:26]))
+        self.assertEqual(0xA5, values[26])
+        self.refused(15, 0, 0, masked.evaluate, TABLE, [1, 0, 1], [1])
+        self.refused(18, 0, 4, masked.evaluate, TABLE, [1, 0, 1, 1], [2])
+        self.refused(17, 0, 0, masked.evaluate, TABLE, [1, 0, 1, 1], [1], bytearray(8191))
+
+    def test_read_probes(self) -> None:
+        reading = bytearray(masked.MOST_WIRES)
+        for probe, read in ((24, {8: 1, 13: 0, 17: 0}), (14, {3: 1, 4: 1}), (16, {0: 1, 15: 0})):
+            masked.read_probes(TABLE, [1, 0, 1, 1], [1], [probe], reading)
+            self.assertEqual(read, {wire: value for wire, value in enumerate(reading) if value != 2})
+        self.refused(19, 0, 1, masked.read_probes, TABLE, [1, 0, 1, 1], [1], [0, 26], reading)
+
+    def test_read_text(self) -> None:
+        table = words(20)
+        self.assertEqual(15, len(masked.read_text(TEXT, table)))
+        self.assertEqual((2, 0xA5A5), (table[1], table[15]))
+        self.refused(21, 3, 0, masked.read_text, TEXT, words(10))
+        self.refused(20, 1, 0, masked.read_text, b"0000 0002\n0001 00f0\n")
+
+    def test_buffers_of_another_kind(self) -> None:
+        for wrong in (bytearray(16384), bytes(32768), array("I", bytes(65536))):
+            with self.assertRaises(TypeError):
+                masked.check(TABLE, wrong)
+        with self.assertRaises(TypeError):
+            masked.evaluate(TABLE, [1, 0, 1, 1], [1], bytes(8192))
+
+    def test_its_own_example(self) -> None:
+        """The example of the module's first lines runs."""
+        example = "".join(line[4:] + "\n" for line in masked.__doc__.splitlines() if line.startswith("    "))
+        script = f"import sys; sys.path.insert(0, 'bindings/python')\n{example}print(values[24], [reading[w] for w in (8, 13, 17)])"
+        done = subprocess.run([sys.executable, "-c", script], cwd=ROOT, capture_output=True, text=True, check=True)
+        self.assertEqual("1 [1, 0, 0]\n", done.stdout)
+
+
+class Null(unittest.TestCase):
+    """An empty slice may be null."""
+
+    def call(self, name: str, *buffers, numbers: int = 3) -> list[int]:
+        function = getattr(masked.library(), name)
+        function.restype = ctypes.c_uint64
+        written = [ctypes.c_uint64(99) for _ in range(numbers)]
+        arguments = []
+        for buffer in buffers:
+            pointer = None if buffer is None else (ctypes.c_char * memoryview(buffer).nbytes).from_buffer(buffer)
+            arguments += [ctypes.c_void_p(None) if pointer is None else ctypes.byref(pointer), ctypes.c_size_t(len(buffer or ()))]
+        result = function(*arguments, *map(ctypes.byref, written))
+        return [result] + [number.value for number in written]
+
+    def test_null(self) -> None:
+        head, notes, values = masked.words([0, 2]), words(masked.NOTES_WORDS), bytearray(masked.MOST_WIRES)
+        reading, table = bytearray(masked.MOST_WIRES), words(masked.MOST_WORDS)
+        self.assertEqual([2, 0, 0, 0], self.call("masked_check", None, None))
+        self.assertEqual([3, 0, 0, 0], self.call("masked_check", None, notes))
+        self.assertEqual([0, 0, 0, 0], self.call("masked_evaluate", head, notes, None, None, values))
+        self.assertEqual([17, 0, 0, 0], self.call("masked_evaluate", head, notes, None, None, None))
+        self.assertEqual([0, 0, 0, 0], self.call("masked_read_probes", head, notes, None, None, values, None, reading))
+        self.assertEqual({2}, set(reading))
+        self.assertEqual([3, 0, 0], self.call("masked_read_text", None, table, numbers=2))
+        self.assertEqual([21, 0, 0], self.call("masked_read_text", bytearray(b"0000 0002\n"), None, numbers=2))
+
+
+if __name__ == "__main__":
+    unittest.main()

@@ -1,0 +1,244 @@
+"""Shows what stands in a masked circuit: its wires, their values, and what probes read. `./show --help` says more.
+
+Verdicts, labels, stages, values and readings are the proved calls' (bindings/python/masked.py); the names of wires are
+circuit.py's.
+"""
+from __future__ import annotations
+
+import argparse
+import os
+import signal
+import subprocess
+import sys
+from array import array
+from pathlib import Path
+
+ROOT = Path(__file__).resolve().parents[1]
+sys.path.insert(0, str(ROOT / "bindings" / "python"))
+
+import masked
+from circuit import IN, JUDGED_BYTES, KINDS, OUT, Circuit, circuit_of, lines_of
+from explain import MEANINGS, explanation, shown
+from inputs import Inputs, digits, finding, inputs_of, wire
+
+TROUBLE = 2
+STDIN = "standard input"
+EXAMPLES = """examples:
+  ./show wires examples/circuit-a.hex
+  ./show values examples/circuit-a.hex --shares 1011 --tape 1
+  ./show values examples/circuit-a.hex --secrets 11
+  ./show reading examples/circuit-a.hex --secrets 11 --probe 24 --probe 0x0E
+
+FILE is a circuit's text, as docs/FORMAT.md describes it; - is standard input.
+The proved library is built on first use, which takes three to five minutes
+and needs the Rattle toolchain (rt) and a C compiler (cc).
+Exit status: 0 shown, 1 refused by a rule, 2 trouble."""
+WIRES_HELP = "the number (decimal, hexadecimal), line, name, label and stage of each wire, and whether a probe stops at it"
+VALUES_HELP = "the value of each wire, and the shares of each IN and OUT with their sum"
+READING_HELP = "the wires that the probes read together, with their values"
+
+
+class Trouble(Exception):
+    """Something that keeps the command from being done."""
+
+
+class Refusal(Exception):
+    """A rule that the circuit or the inputs broke, in plain words."""
+
+
+class Parser(argparse.ArgumentParser):
+    """Help that cannot be written is trouble; argparse would pass over it."""
+
+    def print_help(self, file=None) -> None:
+        sys.stdout.write(self.format_help())
+
+
+def options_of(words: list[str]) -> argparse.Namespace:
+    parser = Parser(prog="show", description="Shows what stands in a masked circuit.", epilog=EXAMPLES,
+                    formatter_class=argparse.RawDescriptionHelpFormatter)
+    commands = parser.add_subparsers(dest="command", metavar="COMMAND", required=True)
+    by_name = {}
+    for name, text in (("wires", WIRES_HELP), ("values", VALUES_HELP), ("reading", READING_HELP)):
+        command = by_name[name] = commands.add_parser(name, help=text, description=f"Shows {text}.")
+        command.add_argument("file", metavar="FILE", help="a circuit's text; - is standard input")
+        if name == "wires":
+            continue
+        command.add_argument("--shares", type=digits, metavar="BITS",
+                             help="a digit 0 or 1 for each share, IN by IN, label by label")
+        command.add_argument("--tape", type=digits, metavar="BITS", help="a digit 0 or 1 for each random bit")
+        command.add_argument("--secrets", type=digits, metavar="BITS",
+                             help="a digit 0 or 1 for each IN: shares and tape are drawn, and told")
+        command.add_argument("--seed", type=int, metavar="N", help="what to draw by; the same number draws the same again")
+        if name == "reading":
+            command.add_argument("--probe", type=wire, action="append", required=True, metavar="WIRE",
+                                 help="a wire's number, decimal or as 0x..; may be given again")
+    options = parser.parse_args(words)
+    options.file = STDIN if options.file == "-" else options.file
+    if options.command != "wires":
+        check_inputs(by_name[options.command], options)
+    return options
+
+
+def check_inputs(parser: argparse.ArgumentParser, options: argparse.Namespace) -> None:
+    """Shares and tape, or secrets: one of the two."""
+    given = options.shares is not None or options.tape is not None
+    if given == (options.secrets is not None):
+        parser.error("give either --shares and --tape, or --secrets")
+    if options.seed is not None and given:
+        parser.error("--seed goes with --secrets")
+    for place, secret in enumerate(options.secrets or []):
+        if secret > 1:
+            raise Refusal(f"refused 18: {MEANINGS[18]}\n  here: digit {place + 1} of the secrets is {secret}")
+
+
+def read(name: str) -> bytes:
+    """All of a text, as far as it is judged and a byte more."""
+    try:
+        if name == STDIN:
+            if sys.stdin is None:
+                raise Trouble("standard input is closed")
+            return sys.stdin.buffer.read(JUDGED_BYTES + 1)
+        with open(name, "rb") as file:
+            return file.read(JUDGED_BYTES + 1)
+    except OSError as error:
+        raise Trouble(f"{name}: {error.strerror}") from None
+
+
+def build() -> None:
+    """Builds the library where it is missing, old or damaged."""
+    if subprocess.run(["bash", str(ROOT / "tools" / "build"), "library", "show"], stdin=subprocess.DEVNULL).returncode:
+        sys.exit(TROUBLE)
+    try:
+        masked.library()
+    except OSError as error:
+        raise Trouble(f"the library does not run on this machine: {error}") from None
+
+
+def checked(name: str, text: bytes, notes: array) -> tuple[array, masked.Accepted]:
+    """The table of a text and the check's answer, or the refusal explained."""
+    try:
+        table = masked.read_text(text[:JUDGED_BYTES])
+        return table, masked.check(table, notes)
+    except masked.Refused as refused:
+        raise Refusal(f"{name}: {refused}\n{explanation(text, refused.rule, refused.frame, refused.word)}") from None
+
+
+def place(number: int, circuit: Circuit) -> str:
+    """A wire's number, hexadecimal number, line, kind and name."""
+    wire = circuit.wires[number]
+    return f"{number:5}  {number:04X}  {wire.frame + 1:5}  {KINDS[wire.kind]:4}  {wire.name:7}"
+
+
+PLACE = " wire   hex   line  kind  name   "
+
+
+def show_wires(circuit: Circuit, lines: list[bytes], notes: array, answer: masked.Accepted) -> list[str]:
+    rows = [PLACE + "  label  stage  stop"]
+    numbers = iter(range(answer.wires))
+    number = next(numbers, None)
+    for frame, line in enumerate(lines):
+        rows.append(f"line {frame + 1}: {shown(line)}")
+        while number is not None and circuit.wires[number].frame == frame:
+            known = masked.label_and_stage(notes, number)
+            label, stage = ("inner", "-") if known is None else known
+            rows.append(f"{place(number, circuit)}  {label:>5}  {stage:>5}  {'yes' if circuit.wires[number].stop else 'no'}")
+            number = next(numbers, None)
+    rows.append(f"next wire {answer.wires} ({answer.wires:04X}), next free random number {answer.randoms} ({answer.randoms:04X})")
+    return rows
+
+
+def show_values(circuit: Circuit, values: bytearray) -> list[str]:
+    rows = [PLACE + "  value"]
+    rows += [f"{place(number, circuit)}  {values[number]:5}" for number in range(len(circuit.wires))]
+    made: dict[int, list[int]] = {}
+    for number, wire in enumerate(circuit.wires):
+        made.setdefault(wire.frame, []).append(number)
+    for frame, words in enumerate(circuit.frames):
+        if words[0] not in (IN, OUT):
+            continue
+        row = made[frame] if words[0] == IN else words[1:]
+        bits = [values[number] for number in row]
+        wires = " ".join(map(str, row))
+        rows.append(f"{KINDS[words[0]]} on line {frame + 1}: wires {wires}, shares {' '.join(map(str, bits))}, sum {sum(bits) % 2}")
+    return rows
+
+
+def show_reading(circuit: Circuit, probes: list[int], reading: bytearray) -> list[str]:
+    rows = []
+    for probe in probes:
+        wire = circuit.wires[probe]
+        rows.append(f"probe {probe} ({probe:04X}), {wire.name} on line {wire.frame + 1}")
+    rows.append(PLACE + "  value")
+    rows += [f"{place(number, circuit)}  {value:5}" for number, value in enumerate(reading) if value != 2]
+    return rows
+
+
+def evaluated(options: argparse.Namespace, circuit: Circuit, table: array, inputs: Inputs) -> list[str]:
+    """The values, or the reading, by a proved call; its refusal in plain words."""
+    values, reading = bytearray(masked.MOST_WIRES), bytearray(masked.MOST_WIRES)
+    try:
+        if options.command == "values":
+            masked.evaluate(table, inputs.shares, inputs.tape, values)
+            return show_values(circuit, values)
+        # no wire has the largest word, so a number past it is refused in its place
+        probes = [min(probe, 0xFFFF) for probe in options.probe]
+        masked.read_probes(table, inputs.shares, inputs.tape, probes, reading, values)
+        return show_reading(circuit, options.probe, reading)
+    except masked.Refused as refused:
+        found = finding(refused.rule, refused.word, circuit, options, inputs)
+        raise Refusal(f"refused {int(refused.rule)}: {MEANINGS[refused.rule]}\n  here: {found}") from None
+
+
+def run(options: argparse.Namespace) -> list[str]:
+    text = read(options.file)
+    build()
+    notes = masked.words([0] * masked.NOTES_WORDS)
+    table, answer = checked(options.file, text, notes)
+    lines = lines_of(text)
+    circuit = circuit_of(lines)
+    if options.command == "wires":
+        return show_wires(circuit, lines, notes, answer)
+    inputs = inputs_of(options, circuit)
+    rows = evaluated(options, circuit, table, inputs)
+    return [inputs.drawn] + rows if inputs.drawn else rows
+
+
+def say(text: str) -> None:
+    if sys.stderr is not None:
+        sys.stderr.write(f"show: {text}\n")
+
+
+def status_of() -> int:
+    """Does what the command's words ask; the exit status."""
+    try:
+        rows = run(options_of(sys.argv[1:]))
+        sys.stdout.write("\n".join(rows) + "\n")
+        return 0
+    except Refusal as refusal:
+        say(str(refusal))
+        return 1
+    except Trouble as trouble:
+        say(str(trouble))
+    except SystemExit as end:
+        return end.code
+    except KeyboardInterrupt:
+        say("interrupted")
+    return TROUBLE
+
+
+def main() -> int:
+    signal.signal(signal.SIGPIPE, signal.SIG_DFL)
+    if sys.stdout is None:
+        say("standard output is closed, so nothing can be shown")
+        return TROUBLE
+    try:
+        status = status_of()
+        sys.stdout.flush()
+        return status
+    except OSError as error:
+        say(f"not all could be written: {error.strerror}")
+        os._exit(TROUBLE)
+
+
+if __name__ == "__main__":
+    sys.exit(main())
