@@ -6,7 +6,7 @@ ghost use lib.ListN.{length};
 ghost use Rattle.circuit.specs.Limits.{notesRoom, wireLimit};
 ghost use Rattle.circuit.specs.Lists.{nth};
 ghost use Rattle.checker.specs.Internal.Notes.{noted, labelFound, stageFound};
-ghost use Rattle.checker.specs.Internal.Adding.{spot, none, _andThen_, stageNumber, labelNumber, valueNumber, likeNumber, rowBroken, productBroken, refreshBroken, rowAfter, wiresAt, Judges};
+ghost use Rattle.checker.specs.Internal.Adding.{spot, none, _andThen_, stageNumber, labelNumber, valueNumber, likeNumber, rowBroken, productBroken, refreshBroken, gadgetAfter, wiresAt, Judges};
 use super::notes;
 use super::notes::Found;
 use super::notes::Made;
@@ -34,6 +34,23 @@ fn put(made: Made, wires: usize, notes: &mut [u16]) -> Spot
     }
     notes::write(notes, wires, made);
     Spot { rule: 0, word: 0 }
+}
+
+// One named wire written, unless it breaks rule 13 or 14.
+fn put_one(label: u16, stage: usize, wires: usize, notes: &mut [u16]) -> Spot
+    requires { ⌜ (wires ≤ wireLimit) × (notesRoom ≤ length (now notes)) ⌝ }
+    ensures { λ r. ⌜ Judges none (wiresAt 1 label stage) wires (now (notes .entry)) (now (notes .exit)) r ⌝ }
+{
+    put(
+        Made {
+            inner: 0,
+            named: 1,
+            label: label as usize,
+            stage: stage,
+        },
+        wires,
+        notes,
+    )
 }
 
 // What wires in a row break that have the labels 0, 1 and so on and one stage, that much before another; from a word on.
@@ -104,16 +121,7 @@ pub(crate) fn constant(
     if circuit::LAST_STAGE < stage as usize {
         return Spot { rule: 7, word: 3 };
     }
-    put(
-        Made {
-            inner: 0,
-            named: 1,
-            label: label as usize,
-            stage: stage as usize,
-        },
-        wires,
-        notes,
-    )
+    put_one(label, stage as usize, wires, notes)
 }
 
 // XOR: two wires of one label and stage.
@@ -135,16 +143,7 @@ pub(crate) fn sum(first: u16, second: u16, wires: usize, notes: &mut [u16]) -> S
                     word: 2,
                 };
             }
-            put(
-                Made {
-                    inner: 0,
-                    named: 1,
-                    label: label as usize,
-                    stage: stage as usize,
-                },
-                wires,
-                notes,
-            )
+            put_one(label, stage as usize, wires, notes)
         }
     }
 }
@@ -159,16 +158,7 @@ pub(crate) fn copy(wire: u16, after: usize, wires: usize, notes: &mut [u16]) -> 
     match found {
         Found::Missing => Spot { rule: 8, word: 1 },
         Found::Inner => Spot { rule: 9, word: 1 },
-        Found::Named { label, stage } => put(
-            Made {
-                inner: 0,
-                named: 1,
-                label: label as usize,
-                stage: stage as usize + after,
-            },
-            wires,
-            notes,
-        ),
+        Found::Named { label, stage } => put_one(label, stage as usize + after, wires, notes),
     }
 }
 
@@ -193,6 +183,23 @@ pub(crate) fn row(ops: &[u16], stage: usize, wires: usize, notes: &mut [u16]) ->
     )
 }
 
+// A gadget's wires written, unless they break rule 13 or 14: inner ones, then a row one stage after another.
+fn put_gadget(inner: usize, d: usize, stage: usize, wires: usize, notes: &mut [u16]) -> Spot
+    requires { ⌜ (wires ≤ wireLimit) × (notesRoom ≤ length (now notes)) × (d ≤ 8) × (stage < 65536) ⌝ }
+    ensures { λ r. ⌜ Judges none (gadgetAfter inner d stage) wires (now (notes .entry)) (now (notes .exit)) r ⌝ }
+{
+    put(
+        Made {
+            inner: inner,
+            named: d,
+            label: 0,
+            stage: stage + 1,
+        },
+        wires,
+        notes,
+    )
+}
+
 // AND: the first random, then the rows a and b.
 pub(crate) fn product(
     inner: usize,
@@ -204,7 +211,7 @@ pub(crate) fn product(
 ) -> Spot
     requires { ⌜ (wires ≤ wireLimit) × (notesRoom ≤ length (now notes)) × (1 ≤ d) × (d ≤ 8) × (length (now ops) ≡ 1 + d + d) ⌝ }
     ensures { λ r. ⌜ Judges (productBroken d used (noted (now (notes .entry)) wires) (now (ops .entry)))
-        (rowAfter inner d (noted (now (notes .entry)) wires (nth (now (ops .entry)) 1))) wires (now (notes .entry)) (now (notes .exit)) r ⌝ }
+        (gadgetAfter inner d (stageFound (noted (now (notes .entry)) wires (nth (now (ops .entry)) 1)))) wires (now (notes .entry)) (now (notes .exit)) r ⌝ }
 {
     let stage = notes::stage_shown(notes, wires, ops[1]);
     if ops[0] as usize != used {
@@ -220,16 +227,7 @@ pub(crate) fn product(
     if b.rule != 0 {
         return b;
     }
-    put(
-        Made {
-            inner: inner,
-            named: d,
-            label: 0,
-            stage: stage + 1,
-        },
-        wires,
-        notes,
-    )
+    put_gadget(inner, d, stage, wires, notes)
 }
 
 // REF: the first random, then a row.
@@ -243,7 +241,7 @@ pub(crate) fn refresh(
 ) -> Spot
     requires { ⌜ (wires ≤ wireLimit) × (notesRoom ≤ length (now notes)) × (1 ≤ d) × (d ≤ 8) × (length (now ops) ≡ 1 + d) ⌝ }
     ensures { λ r. ⌜ Judges (refreshBroken d used (noted (now (notes .entry)) wires) (now (ops .entry)))
-        (rowAfter inner d (noted (now (notes .entry)) wires (nth (now (ops .entry)) 1))) wires (now (notes .entry)) (now (notes .exit)) r ⌝ }
+        (gadgetAfter inner d (stageFound (noted (now (notes .entry)) wires (nth (now (ops .entry)) 1)))) wires (now (notes .entry)) (now (notes .exit)) r ⌝ }
 {
     let stage = notes::stage_shown(notes, wires, ops[1]);
     if ops[0] as usize != used {
@@ -254,14 +252,5 @@ pub(crate) fn refresh(
     if a.rule != 0 {
         return a;
     }
-    put(
-        Made {
-            inner: inner,
-            named: d,
-            label: 0,
-            stage: stage + 1,
-        },
-        wires,
-        notes,
-    )
+    put_gadget(inner, d, stage, wires, notes)
 }

@@ -64,29 +64,15 @@ same-shape kind form {b = b} e f g = λ i. record { kind = kind; form = form; wo
 -- the form of each kind means it, and so does what the code holds of a kind
 pub means : (d : ℕ) (kind : Kind) → Means d (formOf kind) kind
 unfolding shape newStage
-means d kind = record { rules = rules kind; stages = λ k ops. stages k ops kind }
-  where
-    rules : (kind : Kind) → rulesOf d (formOf kind) ≡ shape d kind .rules
-    rules HEAD = refl
-    rules IN = refl
-    rules CON = refl
-    rules XOR = refl
-    rules NOT = refl
-    rules REG = refl
-    rules AND = refl
-    rules REF = refl
-    rules OUT = refl
-
-    stages : (k : Circuit) (ops : List ℕ) (kind : Kind) → stageMade (formOf kind) ops (λ i. stageShown (place k (nth ops i))) ≡ newStage k ops kind
-    stages k ops HEAD = refl
-    stages k ops IN = refl
-    stages k ops CON = refl
-    stages k ops XOR = refl
-    stages k ops NOT = omega arith
-    stages k ops REG = omega arith
-    stages k ops AND = omega arith
-    stages k ops REF = omega arith
-    stages k ops OUT = refl
+means d HEAD = record { rules = refl; stages = λ k ops. refl }
+means d IN = record { rules = refl; stages = λ k ops. refl }
+means d CON = record { rules = refl; stages = λ k ops. refl }
+means d XOR = record { rules = refl; stages = λ k ops. refl }
+means d NOT = record { rules = refl; stages = λ k ops. omega arith }
+means d REG = record { rules = refl; stages = λ k ops. omega arith }
+means d AND = record { rules = refl; stages = λ k ops. omega arith }
+means d REF = record { rules = refl; stages = λ k ops. omega arith }
+means d OUT = record { rules = refl; stages = λ k ops. refl }
 
 pub decided : {d : ℕ} {kind : Kind} {sh : ShapeCode} → sh ≡ shapeCode d kind → (sh ≡ shapeCode d kind) × Means d (sh .form) kind
 decided {d} {kind} e = (e, subst (λ f. Means d f kind) (sym (ap (λ s. s .form) e)) (means d kind))

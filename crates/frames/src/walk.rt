@@ -44,7 +44,7 @@ pub enum Step {
 }
 
 // The word at a place of a part of the table; 0 past its end.
-pub fn word_at(words: &[u16], i: usize) -> u16
+fn word_at(words: &[u16], i: usize) -> u16
     ensures { λ r. ⌜ r ≡ nth (now (words .entry)) i ⌝ }
 {
     if i < words.len() { words[i] } else { 0 }

@@ -29,8 +29,8 @@ fn judge(text: &[u8], table: &mut [u16], notes: &mut [u16]) -> Verdict
 // The first 49,152 bytes of standard input are judged. A read that fails counts as the end of the input.
 fn main() {
     let mut text = [0u8; 49152];
-    let mut table = [0u16; 8192];
-    let mut notes = [0u16; 16384];
+    let mut table = [0u16; circuit::TABLE_WORDS];
+    let mut notes = [0u16; circuit::NOTES_WORDS];
     let mut out = [0u8; 96];
     let size = io::read_full(STDIN_FILENO, &mut text);
     let verdict = judge(&text[..size], &mut table, &mut notes);

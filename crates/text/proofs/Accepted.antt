@@ -14,8 +14,8 @@ use Rattle.circuit.specs.Rules.{Judgement, pass, refuse, need, _then_}
 use Rattle.circuit.proofs.Base.{and-left, and-right, Every}
 use Rattle.text.specs.Lines.{Line, linesOf, areWords}
 use Rattle.text.specs.Reader.{Read, onward, wordsOf, formRule, headLineRule, frameLineRule, roomRule, frameLines, allLines, readText}
-use Rattle.text.proofs.Reading.{then-pass, need-pass}
-use Rattle.text.proofs.Progress.{both-pass, room-passes}
+use Rattle.circuit.proofs.Judging.{then-pass, need-pass, need-then}
+use Rattle.text.proofs.Progress.{room-passes}
 
 -- a line that its line feed ends, of words with one space between
 pub record Formed (l : Line) : Type 0 where
@@ -53,8 +53,8 @@ frame-line-passes d n l h =
     let x = nth (wordsOf l) 0 in
     let kindRule = need (leb 1 x && leb x 8) 5 n 0 in
     let countRule = need (eqb (length (wordsOf l)) (suc (words d (kindOf x)))) 6 n 0 in
-    let p = both-pass (formRule n l) (kindRule then countRule) h in
-    let q = then-pass (leb 1 x && leb x 8) 5 n 0 countRule (p .1) in
+    let p = then-pass (formRule n l) (kindRule then countRule) h in
+    let q = need-then (leb 1 x && leb x 8) 5 n 0 countRule (p .1) in
     record {
       form = formed-line n l (p .0);
       least = leb-true 1 x (and-left (leb 1 x) (leb x 8) (q .0));
@@ -82,7 +82,7 @@ lines-pass room d n found (l ∷ ls) s h =
     let rest = frameLines room d (suc n) (found ++ wordsOf l) ls in
     let room-here = roomRule room n (length found + length (wordsOf l)) in
     let p = onward-pass (frameLineRule d n l then room-here) found rest h in
-    let q = both-pass (frameLineRule d n l) room-here (p .0) in
+    let q = then-pass (frameLineRule d n l) room-here (p .0) in
     let e = length-append found (wordsOf l) in
     let s′ = room-passes room n (length found + length (wordsOf l)) (q .1) .1 in
     let r = lines-pass room d (suc n) (found ++ wordsOf l) ls (omega arith) (sym (ap (λ (x : Read). x .judgement) (p .1)) ∙ h) in
@@ -108,9 +108,9 @@ all-pass room text (l ∷ ls) f h =
     let headRule = need (eqb (length ws) 2 && eqb (nth ws 0) 0) 3 0 0 in
     let orderRule = need (leb 2 d && leb d 8) 4 0 1 in
     let p = onward-pass (headLineRule l then roomRule room 0 (length ws)) [] rest h in
-    let q = both-pass (headLineRule l) (roomRule room 0 (length ws)) (p .0) in
-    let form = both-pass (formRule 0 l) (headRule then orderRule) (q .0) in
-    let two = then-pass (eqb (length ws) 2 && eqb (nth ws 0) 0) 3 0 0 orderRule (form .1) in
+    let q = then-pass (headLineRule l) (roomRule room 0 (length ws)) (p .0) in
+    let form = then-pass (formRule 0 l) (headRule then orderRule) (q .0) in
+    let two = need-then (eqb (length ws) 2 && eqb (nth ws 0) 0) 3 0 0 orderRule (form .1) in
     let shareCount = need-pass (leb 2 d && leb d 8) 4 0 1 (two .1) in
     let r = lines-pass room d 1 ws ls (room-passes room 0 (length ws) (q .1) .1) (sym (ap (λ (x : Read). x .judgement) (p .1)) ∙ h) in
     subst (λ (x : Read). AcceptedText text (x .found)) (sym (p .1))

@@ -16,7 +16,8 @@ use Rattle.text.specs.Lines.{linesOf}
 use Rattle.text.specs.Reader.{onward, frameLines, readText, roomRule}
 use Rattle.text.specs.Answer.{tableAfter}
 use Rattle.text.specs.Internal.Scan.{valueIn, countFrom, wordsAt, ruled, headByCount, frameByCount}
-use Rattle.text.proofs.Reading.{then-pass, need-pass, words-length, stop, frame-line, head-line, line-fits}
+use Rattle.circuit.proofs.Judging.{then-pass, need-pass, need-then}
+use Rattle.text.proofs.Reading.{words-length, stop, frame-line, head-line, line-fits}
 
 -- at the head of the loop: the answer is that of the lines from here on, and the table is touched only up to `stored`
 pub record Progress (text table₀ : List ℕ) (room d : ℕ) (table : List ℕ) (at line stored : ℕ) : Type 0 where
@@ -57,21 +58,17 @@ room-passes room n count h =
       leb-true count tableLimit (and-right (leb count room) (leb count tableLimit) k),
     )
 
-pub both-pass : (i j : Judgement) → (i then j) ≡ pass → (i ≡ pass) × (j ≡ pass)
-both-pass pass j h = (refl, h)
-both-pass (refuse rule f w) j h = let z : _≡_ {A = ℕ} 0 1 = cc in absurd (omega arith)
-
 module _ (room d n stored kind count : ℕ) (h : frameByCount room d n stored kind count ≡ pass) where
   abbrev kindRules : Judgement
   kindRules = need (leb 1 kind && leb kind 8) 5 n 0 then need (eqb count (suc (words d (kindOf kind)))) 6 n 0
 
   pub frame-room : (stored + count ≤ room) × (stored + count ≤ tableLimit)
   frame-room = room-passes room n (stored + count)
-      (both-pass (need (ltb 0 count) 20 n 0 then kindRules) (roomRule room n (stored + count)) h .1)
+      (then-pass (need (ltb 0 count) 20 n 0 then kindRules) (roomRule room n (stored + count)) h .1)
 
   pub frame-count : 0 < count
-  frame-count = ltb-true 0 count (then-pass (ltb 0 count) 20 n 0 kindRules
-      (both-pass (need (ltb 0 count) 20 n 0 then kindRules) (roomRule room n (stored + count)) h .0) .0)
+  frame-count = ltb-true 0 count (need-then (ltb 0 count) 20 n 0 kindRules
+      (then-pass (need (ltb 0 count) 20 n 0 then kindRules) (roomRule room n (stored + count)) h .0) .0)
 
 module _ (text table₀ : List ℕ) (room d : ℕ) (table : List ℕ) (at line stored : ℕ)
     (p : Progress text table₀ room d table at line stored) where
@@ -147,14 +144,14 @@ module _ (text table : List ℕ) (room : ℕ) (e : pass ≡ headHere text room) 
       then need (leb 2 (valueIn (drop 5 text)) && leb (valueIn (drop 5 text)) 8) 4 0 1
 
   parts : ((need (ltb 0 count) 20 0 0 then lineRules) ≡ pass) × (roomRule room 0 count ≡ pass)
-  parts = both-pass (need (ltb 0 count) 20 0 0 then lineRules) (roomRule room 0 count)
-      (then-pass (ltb 0 (length text)) 3 0 0 ((need (ltb 0 count) 20 0 0 then lineRules) then roomRule room 0 count) (sym e) .1)
+  parts = then-pass (need (ltb 0 count) 20 0 0 then lineRules) (roomRule room 0 count)
+      (need-then (ltb 0 (length text)) 3 0 0 ((need (ltb 0 count) 20 0 0 then lineRules) then roomRule room 0 count) (sym e) .1)
 
   two : count ≡ 2
   two =
-      let k = then-pass (ltb 0 count) 20 0 0 lineRules (parts .0) .1 in
+      let k = need-then (ltb 0 count) 20 0 0 lineRules (parts .0) .1 in
       eqb-true count 2 (and-left (eqb count 2) (eqb (valueIn text) 0)
-      (then-pass (eqb count 2 && eqb (valueIn text) 0) 3 0 0
+      (need-then (eqb count 2 && eqb (valueIn text) 0) 3 0 0
       (need (leb 2 (valueIn (drop 5 text)) && leb (valueIn (drop 5 text)) 8) 4 0 1) k .0))
 
   pub head-fits : (10 ≤ length text) × (2 ≤ room)

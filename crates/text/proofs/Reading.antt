@@ -10,16 +10,7 @@ use Rattle.circuit.specs.Rules.{Judgement, pass, need, _then_}
 use Rattle.text.specs.Lines.{Line, linesOf, areWords}
 use Rattle.text.specs.Reader.{Read, onward, wordsOf, frameLines, allLines, readText}
 use Rattle.text.specs.Internal.Scan.{valueIn, countFrom, wordsAt, headByCount, frameByCount}
-use Rattle.text.proofs.Splitting.{firstLine, afterLine, lines-split, Told, unformed, formed, told}
-
--- judgements that pass
-pub then-pass : (b : Bool) (rule f w : ℕ) (j : Judgement) → (need b rule f w then j) ≡ pass → (b ≡ true) × (j ≡ pass)
-then-pass true rule f w j h = (refl, h)
-then-pass false rule f w j h = let z : _≡_ {A = ℕ} 0 1 = cc in absurd (omega arith)
-
-pub need-pass : (b : Bool) (rule f w : ℕ) → need b rule f w ≡ pass → b ≡ true
-need-pass true rule f w h = refl
-need-pass false rule f w h = let z : _≡_ {A = ℕ} 0 1 = cc in absurd (omega arith)
+use Rattle.text.proofs.Splitting.{firstLine, afterLine, lines-split, Counted, unformed, formed, counted}
 
 pub words-length : (n : ℕ) (bytes : List ℕ) → length (wordsAt n bytes) ≡ n
 unfolding wordsAt
@@ -44,7 +35,7 @@ module _ (room d n : ℕ) (found : List ℕ) (l : Line) (ls : List Line) where
   good-line g m bytes w = rw (g, w, words-length m (drop 5 bytes), lt-ltb 0 (suc m) (omega arith))
 
 -- a line at the start of some bytes, by its count of words
-frame-told : (room d n : ℕ) (found : List ℕ) (b : ℕ) (bs : List ℕ) (k : ℕ) → Told 1 (b ∷ bs) k
+frame-told : (room d n : ℕ) (found : List ℕ) (b : ℕ) (bs : List ℕ) (k : ℕ) → Counted 1 (b ∷ bs) k
     → frameLines room d n found (linesOf (b ∷ bs))
     ≡ onward (frameByCount room d n (length found) (valueIn (b ∷ bs)) k) found
     (frameLines room d (suc n) (found ++ wordsAt k (b ∷ bs)) (linesOf (drop (5 * k) (b ∷ bs))))
@@ -66,7 +57,7 @@ pub frame-line : (room d n : ℕ) (found bs : List ℕ) → 0 < length bs
     ≡ onward (frameByCount room d n (length found) (valueIn bs) (countFrom 1 bs)) found
     (frameLines room d (suc n) (found ++ wordsAt (countFrom 1 bs) bs) (linesOf (drop (5 * countFrom 1 bs) bs)))
 frame-line room d n found [] h = absurd (omega arith)
-frame-line room d n found (b ∷ bs) h = frame-told room d n found b bs (countFrom 1 (b ∷ bs)) (told 1 (b ∷ bs))
+frame-line room d n found (b ∷ bs) h = frame-told room d n found b bs (countFrom 1 (b ∷ bs)) (counted 1 (b ∷ bs))
 
 -- the first line
 module _ (room : ℕ) (l : Line) (ls : List Line) where
@@ -79,7 +70,7 @@ module _ (room : ℕ) (l : Line) (ls : List Line) where
   good-head g (suc m) size bytes h w =
       rw (g, w, words-length m (drop 5 (drop 5 bytes)), lt-ltb 0 size h, lt-ltb 0 (suc (suc m)) (omega arith))
 
-head-told : (room b : ℕ) (bs : List ℕ) (k : ℕ) → Told 1 (b ∷ bs) k
+head-told : (room b : ℕ) (bs : List ℕ) (k : ℕ) → Counted 1 (b ∷ bs) k
     → readText (b ∷ bs) room
     ≡ onward (headByCount room (length (b ∷ bs)) k (valueIn (b ∷ bs)) (valueIn (drop 5 (b ∷ bs)))) []
     (frameLines room (valueIn (drop 5 (b ∷ bs))) 1 (wordsAt k (b ∷ bs)) (linesOf (drop (5 * k) (b ∷ bs))))
@@ -98,11 +89,11 @@ pub head-line : (room : ℕ) (text : List ℕ)
     (frameLines room (valueIn (drop 5 text)) 1 (wordsAt (countFrom 1 text) text) (linesOf (drop (5 * countFrom 1 text) text)))
 unfolding readText linesOf
 head-line room [] = refl
-head-line room (b ∷ bs) = head-told room b bs (countFrom 1 (b ∷ bs)) (told 1 (b ∷ bs))
+head-line room (b ∷ bs) = head-told room b bs (countFrom 1 (b ∷ bs)) (counted 1 (b ∷ bs))
 
 -- a line of the form lies in the text
 pub line-fits : (bs : List ℕ) → 5 * countFrom 1 bs ≤ length bs
-line-fits bs = fits (countFrom 1 bs) (told 1 bs) where
-  fits : (k : ℕ) → Told 1 bs k → 5 * k ≤ length bs
+line-fits bs = fits (countFrom 1 bs) (counted 1 bs) where
+  fits : (k : ℕ) → Counted 1 bs k → 5 * k ≤ length bs
   fits k (unformed z g) = omega arith
   fits k (formed m z g w t l) = omega arith

@@ -9,7 +9,7 @@ use lib.ListN.{length, getD, drop, set, length-drop, length-append}
 use lib.Seq.{sets, drop-drop}
 use borrow.Author.Tests.{eqb-true, leb-true, leb-false, le-leb}
 use Rattle.circuit.proofs.Base.{cases}
-use Rattle.circuit.proofs.Sizes.{labels-map}
+use Rattle.frames.proofs.KindTable.{words-AND, words-REF, words-OUT}
 use Rattle.circuit.specs.Limits.{tableLimit}
 use Rattle.circuit.specs.Circuit.{empty}
 use Rattle.circuit.specs.Kinds.{Kind, HEAD, IN, CON, XOR, NOT, REG, AND, REF, OUT, shareCount, share, before, row, shape, kindOf, words}
@@ -73,9 +73,9 @@ words-most d CON = omega arith
 words-most d XOR = omega arith
 words-most d NOT = omega arith
 words-most d REG = omega arith
-words-most d AND = omega (arith, length-append (row share 1 d) (row before 1 d), labels-map d (λ i. share i 1), labels-map d (λ i. before i 1))
-words-most d REF = omega (arith, labels-map d (λ i. share i 1))
-words-most d OUT = omega (arith, labels-map d (λ i. share i 0))
+words-most d AND = omega (arith, words-AND d)
+words-most d REF = omega (arith, words-REF d)
+words-most d OUT = omega (arith, words-OUT d)
 
 -- the words that fit a table are those that fit its limit
 pub same-room : (room n count : ℕ) → roomRule (limitOf room) n count ≡ roomRule room n count

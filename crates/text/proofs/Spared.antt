@@ -14,7 +14,9 @@ use Rattle.circuit.specs.Gadgets.{labels}
 use Rattle.circuit.specs.Kinds.{Kind, HEAD, IN, CON, XOR, NOT, REG, AND, REF, OUT, kindOf, WordRule, shareCount, label, value, stage, random, like, share, before, row, shape, words}
 use Rattle.circuit.specs.Circuit.{Circuit, size, empty, place, labelOf, stageShown, newStage, extend}
 use Rattle.circuit.specs.Rules.{Judgement, pass, refuse, need, _then_, isNamed, wireRule, wordRule, wordsRule, frameRule, Checked, onward, frames, headRule, checked}
+use Rattle.circuit.specs.Composition.{kindWord}
 use Rattle.circuit.proofs.Base.{Every, every-map, every-append}
+use Rattle.circuit.proofs.Fitting.{known}
 use Rattle.text.specs.Lines.{Line}
 use Rattle.text.specs.Reader.{wordsOf, readText}
 use Rattle.text.proofs.Accepted.{FrameLine, text-accepted}
@@ -37,57 +39,33 @@ past-onward pass k rest p q = q
 past-onward (refuse rule f w) k rest p q = p
 
 -- the rule of d stands on HEAD alone
-abbrev NotOrder : WordRule → Type 0
-NotOrder shareCount = ⊥
-NotOrder label = Unit {0}
-NotOrder value = Unit {0}
-NotOrder stage = Unit {0}
-NotOrder random = Unit {0}
-NotOrder (like p) = Unit {0}
-NotOrder (share i p) = Unit {0}
-NotOrder (before i p) = Unit {0}
+abbrev NotShareCount : WordRule → Type 0
+NotShareCount shareCount = ⊥
+NotShareCount label = Unit {0}
+NotShareCount value = Unit {0}
+NotShareCount stage = Unit {0}
+NotShareCount random = Unit {0}
+NotShareCount (like p) = Unit {0}
+NotShareCount (share i p) = Unit {0}
+NotShareCount (before i p) = Unit {0}
 
-abbrev NotHead : Kind → Type 0
-NotHead HEAD = ⊥
-NotHead IN = Unit {0}
-NotHead CON = Unit {0}
-NotHead XOR = Unit {0}
-NotHead NOT = Unit {0}
-NotHead REG = Unit {0}
-NotHead AND = Unit {0}
-NotHead REF = Unit {0}
-NotHead OUT = Unit {0}
+shares : (place d : ℕ) → Every NotShareCount (row share place d)
+shares place d = every-map NotShareCount (λ i. share i place) (labels d) (λ i h. tt)
 
-not-head : (x : ℕ) → 1 ≤ x → x ≤ 8 → NotHead (kindOf x)
-unfolding kindOf
-not-head zero h l = absurd (omega arith)
-not-head (suc zero) h l = tt
-not-head (suc (suc zero)) h l = tt
-not-head (suc (suc (suc zero))) h l = tt
-not-head (suc (suc (suc (suc zero)))) h l = tt
-not-head (suc (suc (suc (suc (suc zero))))) h l = tt
-not-head (suc (suc (suc (suc (suc (suc zero)))))) h l = tt
-not-head (suc (suc (suc (suc (suc (suc (suc zero))))))) h l = tt
-not-head (suc (suc (suc (suc (suc (suc (suc (suc zero)))))))) h l = tt
-not-head (suc (suc (suc (suc (suc (suc (suc (suc (suc x))))))))) h l = absurd (omega arith)
+befores : (place d : ℕ) → Every NotShareCount (row before place d)
+befores place d = every-map NotShareCount (λ i. before i place) (labels d) (λ i h. tt)
 
-shares : (place d : ℕ) → Every NotOrder (row share place d)
-shares place d = every-map NotOrder (λ i. share i place) (labels d) (λ i h. tt)
-
-befores : (place d : ℕ) → Every NotOrder (row before place d)
-befores place d = every-map NotOrder (λ i. before i place) (labels d) (λ i h. tt)
-
-no-order : (d : ℕ) (kind : Kind) → NotHead kind → Every NotOrder (shape d kind .rules)
+no-share-count : (d : ℕ) (kind : Kind) → 1 ≤ kindWord kind → Every NotShareCount (shape d kind .rules)
 unfolding shape
-no-order d HEAD h = absurd h
-no-order d IN h = (tt, tt)
-no-order d CON h = (tt, (tt, (tt, tt)))
-no-order d XOR h = (tt, (tt, tt))
-no-order d NOT h = (tt, tt)
-no-order d REG h = (tt, tt)
-no-order d AND h = (tt, every-append NotOrder (row share 1 d) (row before 1 d) (shares 1 d) (befores 1 d))
-no-order d REF h = (tt, shares 1 d)
-no-order d OUT h = shares 0 d
+no-share-count d HEAD h = absurd (omega arith)
+no-share-count d IN h = (tt, tt)
+no-share-count d CON h = (tt, (tt, (tt, tt)))
+no-share-count d XOR h = (tt, (tt, tt))
+no-share-count d NOT h = (tt, tt)
+no-share-count d REG h = (tt, tt)
+no-share-count d AND h = (tt, every-append NotShareCount (row share 1 d) (row before 1 d) (shares 1 d) (befores 1 d))
+no-share-count d REF h = (tt, shares 1 d)
+no-share-count d OUT h = shares 0 d
 
 module _ (k : Circuit) (f : ℕ) (ops : List ℕ) where
   -- the label and the stage that a wire shows
@@ -104,7 +82,7 @@ module _ (k : Circuit) (f : ℕ) (ops : List ℕ) where
       (past-then (need (isNamed (place k x)) 9 f w) (need labelRight 10 f w then need stageRight 11 f w) (past-need (isNamed (place k x)) 9 f w (omega arith))
       (past-then (need labelRight 10 f w) (need stageRight 11 f w) (past-need labelRight 10 f w (omega arith)) (past-need stageRight 11 f w (omega arith))))
 
-  past-word : (r : WordRule) (w x : ℕ) → NotOrder r → PastSix (wordRule k f ops r w x)
+  past-word : (r : WordRule) (w x : ℕ) → NotShareCount r → PastSix (wordRule k f ops r w x)
   past-word shareCount w x h = absurd h
   past-word label w x h = past-need (ltb x (k .d)) 7 f w (omega arith)
   past-word value w x h = past-need (leb x 1) 7 f w (omega arith)
@@ -114,7 +92,7 @@ module _ (k : Circuit) (f : ℕ) (ops : List ℕ) where
   past-word (share i p) w x h = past-wire (eqb (l x) i) (eqb (t x) (t (nth ops p))) w x
   past-word (before i p) w x h = past-wire (eqb (l x) i) (eqb (suc (t x)) (t (nth ops p))) w x
 
-  past-words : (w : ℕ) (rs : List WordRule) (xs : List ℕ) → Every NotOrder rs → PastSix (wordsRule k f ops w rs xs)
+  past-words : (w : ℕ) (rs : List WordRule) (xs : List ℕ) → Every NotShareCount rs → PastSix (wordsRule k f ops w rs xs)
   unfolding wordsRule
   past-words w [] xs h = tt
   past-words w (r ∷ rs) [] h = tt
@@ -130,7 +108,7 @@ past-frame k f x rest h l n =
     let sizeRule = need (leb (size k + shape (k .d) kind .wires) wireLimit) 14 f 0 in
     rw (le-leb 1 x h, le-leb x 8 l, le-leb (words (k .d) kind) (length rest) n)
     (past-then (wordsRule k f ops 1 (shape (k .d) kind .rules) ops) (stageRule then sizeRule)
-    (past-words k f ops 1 (shape (k .d) kind .rules) ops (no-order (k .d) kind (not-head x h l)))
+    (past-words k f ops 1 (shape (k .d) kind .rules) ops (no-share-count (k .d) kind (omega (arith, known x l))))
     (past-then stageRule sizeRule (past-need (leb (newStage k ops kind) stageLimit) 13 f 0 (omega arith))
     (past-need (leb (size k + shape (k .d) kind .wires) wireLimit) 14 f 0 (omega arith))))
 

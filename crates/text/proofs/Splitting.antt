@@ -88,20 +88,20 @@ module _ (a b c e : ℕ) (bs : List ℕ) (h : areDigits a b c e ≡ true) where
   word-after = rw (plain .0, plain .1, plain .2, plain .3)
 
 -- what the count k of the words of the first line, its first being the n-th, tells
-pub data Told (n : ℕ) (bs : List ℕ) (k : ℕ) : Type 0 where
-  unformed : k ≡ 0 → good bs ≡ false → Told n bs k
+pub data Counted (n : ℕ) (bs : List ℕ) (k : ℕ) : Type 0 where
+  unformed : k ≡ 0 → good bs ≡ false → Counted n bs k
   formed : (m : ℕ) → k ≡ n + m → good bs ≡ true → wordsOn (firstLine bs .content) ≡ wordsAt (suc m) bs
-      → afterLine bs ≡ drop (5 * suc m) bs → 5 * suc m ≤ length bs → Told n bs k
+      → afterLine bs ≡ drop (5 * suc m) bs → 5 * suc m ≤ length bs → Counted n bs k
 
 -- a line of one word
-last-word : (n a b c e : ℕ) (rest : List ℕ) → areDigits a b c e ≡ true → Told n (a ∷ b ∷ c ∷ e ∷ lineFeed ∷ rest) n
+last-word : (n a b c e : ℕ) (rest : List ℕ) → areDigits a b c e ≡ true → Counted n (a ∷ b ∷ c ∷ e ∷ lineFeed ∷ rest) n
 unfolding firstLine afterLine areWords wordsOn wordsAt valueIn
 last-word n a b c e rest h =
     let f = word-first a b c e (lineFeed ∷ rest) h in
     formed 0 (omega arith) (rw (f, h)) (rw (f, word-value a b c e h)) (word-after a b c e (lineFeed ∷ rest) h) (omega arith)
 
 -- a word in front of a line
-more-words : (n a b c e : ℕ) (rest : List ℕ) (k : ℕ) → areDigits a b c e ≡ true → Told (suc n) rest k → Told n (a ∷ b ∷ c ∷ e ∷ space ∷ rest) k
+more-words : (n a b c e : ℕ) (rest : List ℕ) (k : ℕ) → areDigits a b c e ≡ true → Counted (suc n) rest k → Counted n (a ∷ b ∷ c ∷ e ∷ space ∷ rest) k
 unfolding firstLine afterLine areWords wordsOn wordsAt valueIn
 more-words n a b c e rest k h (unformed z g) =
     unformed z (rw (word-first a b c e (space ∷ rest) h, h) g)
@@ -116,17 +116,17 @@ bad-mark : (a b c e s : ℕ) (rest : List ℕ) → areDigits a b c e ≡ true �
 unfolding firstLine areWords
 bad-mark a b c e s rest h p q = rw (word-first a b c e (s ∷ rest) h, p) (cases (firstLine rest .ended) (λ t. rw (t, h, q)) (λ t. rw t))
 
-pub told : (n : ℕ) (bs : List ℕ) → Told n bs (countFrom n bs)
+pub counted : (n : ℕ) (bs : List ℕ) → Counted n bs (countFrom n bs)
 unfolding countFrom
-told n [] = unformed refl (short-bad [] (omega arith))
-told n (a ∷ []) = unformed refl (short-bad (a ∷ []) (omega arith))
-told n (a ∷ b ∷ []) = unformed refl (short-bad (a ∷ b ∷ []) (omega arith))
-told n (a ∷ b ∷ c ∷ []) = unformed refl (short-bad (a ∷ b ∷ c ∷ []) (omega arith))
-told n (a ∷ b ∷ c ∷ e ∷ []) = unformed refl (short-bad (a ∷ b ∷ c ∷ e ∷ []) (omega arith))
-told n (a ∷ b ∷ c ∷ e ∷ s ∷ rest) = cases (areDigits a b c e)
+counted n [] = unformed refl (short-bad [] (omega arith))
+counted n (a ∷ []) = unformed refl (short-bad (a ∷ []) (omega arith))
+counted n (a ∷ b ∷ []) = unformed refl (short-bad (a ∷ b ∷ []) (omega arith))
+counted n (a ∷ b ∷ c ∷ []) = unformed refl (short-bad (a ∷ b ∷ c ∷ []) (omega arith))
+counted n (a ∷ b ∷ c ∷ e ∷ []) = unformed refl (short-bad (a ∷ b ∷ c ∷ e ∷ []) (omega arith))
+counted n (a ∷ b ∷ c ∷ e ∷ s ∷ rest) = cases (areDigits a b c e)
     (λ h. cases (eqb s lineFeed)
     (λ p. rw (h, p) (rw (eqb-true s lineFeed p) (last-word n a b c e rest h)))
     (λ p. cases (eqb s space)
-    (λ q. rw (h, p, q) (rw (eqb-true s space q) (more-words n a b c e rest (countFrom (suc n) rest) h (told (suc n) rest))))
+    (λ q. rw (h, p, q) (rw (eqb-true s space q) (more-words n a b c e rest (countFrom (suc n) rest) h (counted (suc n) rest))))
     (λ q. rw (h, p, q) (unformed refl (bad-mark a b c e s rest h p q)))))
     (λ h. rw h (unformed refl (bad-word a b c e (s ∷ rest) h)))

@@ -2,6 +2,7 @@
 ghost use mathlib.Core.Path.{_≡_};
 ghost use Prim.Native.Nat.{ℕ, _+_, _*_, _≤_};
 ghost use lib.ListN.{length, drop};
+ghost use Rattle.circuit.specs.Limits.{tableLimit};
 ghost use Rattle.text.specs.Reader.{roomRule};
 ghost use Rattle.text.specs.Internal.Scan.{codeTable, limitOf, ruled, headWord, countFrom, behindLine, valueIn, headByCount, frameByCount};
 use super::digits;
@@ -12,12 +13,16 @@ use frames::kinds;
 pub(crate) fn limit(room: usize) -> usize
     ensures { λ r. ⌜ r ≡ limitOf room ⌝ }
 {
-    if room <= 8192 { room } else { 8192 }
+    if room <= circuit::TABLE_WORDS {
+        room
+    } else {
+        circuit::TABLE_WORDS
+    }
 }
 
 // 21: a line's words fit the table behind those stored, and do not pass 8,192.
 fn room_rule(room: usize, stored: usize, count: usize) -> usize
-    requires { ⌜ (stored ≤ room) × (room ≤ 8192) ⌝ }
+    requires { ⌜ (stored ≤ room) × (room ≤ tableLimit) ⌝ }
     ensures { λ r. ⌜ ((n : ℕ) → ruled r n 0 ≡ roomRule room n (stored + count)) ⌝ }
 {
     if room - stored < count { 21 } else { 0 }
@@ -25,7 +30,7 @@ fn room_rule(room: usize, stored: usize, count: usize) -> usize
 
 // The first line: 3 where there is none; 20; 3, two words and kind 0; 4, its d; 21.
 pub(crate) fn head_rule(codes: &[u8; 512], text: &[u8], room: usize) -> usize
-    requires { ⌜ (now codes ≡ codeTable) × (room ≤ 8192) ⌝ }
+    requires { ⌜ (now codes ≡ codeTable) × (room ≤ tableLimit) ⌝ }
     ensures { λ r. ⌜ ruled r 0 (headWord r) ≡ headByCount room (length (now (text .entry))) (countFrom 1 (now (text .entry))) (valueIn (now (text .entry))) (valueIn (drop 5 (now (text .entry)))) ⌝ }
 {
     if text.len() == 0 {
@@ -68,7 +73,7 @@ pub(crate) fn frame_rule(
     stored: usize,
     room: usize,
 ) -> usize
-    requires { ⌜ (now codes ≡ codeTable) × (at ≤ length (now text)) × (end ≡ behindLine at (countFrom 1 (drop at (now text)))) × (stored ≤ room) × (room ≤ 8192) ⌝ }
+    requires { ⌜ (now codes ≡ codeTable) × (at ≤ length (now text)) × (end ≡ behindLine at (countFrom 1 (drop at (now text)))) × (stored ≤ room) × (room ≤ tableLimit) ⌝ }
     ensures { λ r. ⌜ ((n : ℕ) → ruled r n 0 ≡ frameByCount room d n stored (valueIn (drop at (now (text .entry)))) (countFrom 1 (drop at (now (text .entry))))) ⌝ }
 {
     if end == 0 {

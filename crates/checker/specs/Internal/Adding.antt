@@ -85,8 +85,8 @@ module _ (d used : ℕ) (look : ℕ → Found) (ops : List ℕ) where
 abbrev pub wiresAt : (named label stage : ℕ) → Made
 wiresAt n l t = record { inner = 0; named = n; label = l; stage = t }
 
-abbrev pub rowAfter : (inner d : ℕ) → Found → Made
-rowAfter n d found = record { inner = n; named = d; label = 0; stage = stageFound found + 1 }
+abbrev pub gadgetAfter : (inner d stage : ℕ) → Made
+gadgetAfter n d t = record { inner = n; named = d; label = 0; stage = t + 1 }
 
 abbrev pub madeIn : Form → (d inner : ℕ) (look : ℕ → Found) (ops : List ℕ) → Made
 madeIn ShareCount d n look ops = wiresAt 0 0 0
@@ -94,8 +94,8 @@ madeIn Stage d n look ops = wiresAt d 0 (nth ops 0)
 madeIn Constant d n look ops = wiresAt 1 (nth ops 0) (nth ops 2)
 madeIn Sum d n look ops = wiresAt 1 (labelFound (look (nth ops 0))) (stageFound (look (nth ops 0)))
 madeIn (Copy after) d n look ops = wiresAt 1 (labelFound (look (nth ops 0))) (stageFound (look (nth ops 0)) + after)
-madeIn Product d n look ops = rowAfter n d (look (nth ops 1))
-madeIn Refresh d n look ops = rowAfter n d (look (nth ops 1))
+madeIn Product d n look ops = gadgetAfter n d (stageFound (look (nth ops 1)))
+madeIn Refresh d n look ops = gadgetAfter n d (stageFound (look (nth ops 1)))
 madeIn Row d n look ops = wiresAt 0 0 (stageFound (look (nth ops 0)))
 
 -- rules 13 and 14 of new wires behind so many; the notes with them, where no rule is broken

@@ -15,4 +15,4 @@ constant-spec =
     (λ c. rw (lt-ltb _ _ (c .before .before .if1 .left), le-leb _ _ (c .before .if2 .left), lt-leb _ _ (c .if3 .taken)) (record { spot-is = refl; notes-are = refl }))
     (λ c κs. search needs)
     (λ c. search needs)
-    (λ c. rw (lt-ltb _ _ (c .before .before .before .before .before .before .if1 .left), le-leb _ _ (c .before .before .before .before .before .if2 .left), le-leb _ _ (c .before .before .before .before .if3 .left)) (c .before .before .put .ensures)))
+    (λ c. rw (lt-ltb _ _ (c .before .before .before .before .before .before .if1 .left), le-leb _ _ (c .before .before .before .before .before .if2 .left), le-leb _ _ (c .before .before .before .before .if3 .left)) (c .before .before .put-one .ensures)))

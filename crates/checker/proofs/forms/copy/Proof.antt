@@ -18,7 +18,6 @@ copy-spec =
     (λ c. search needs)
     (λ c. search needs)
     (λ c. search needs)
-    (λ c. search needs)
     (λ c κs. search needs)
     (λ c. search needs)
     (λ c. rw (← c .before .before .look-up .ensures, c .enum-told .given .1) (record { spot-is = refl; notes-are = refl }))
@@ -27,4 +26,4 @@ copy-spec =
     (λ c. search needs)
     (λ c.
     let f = c .before .before .before .before .before in
-    rw (← f .before .before .look-up .ensures, f .found .given .1, like-self (f .found .given .0 .0) (f .found .given .0 .1 .0)) (c .before .before .put .ensures)))
+    rw (← f .before .before .look-up .ensures, f .found .given .1, like-self (f .found .given .0 .0) (f .found .given .0 .1 .0)) (c .before .before .put-one .ensures)))

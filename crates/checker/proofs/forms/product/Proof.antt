@@ -63,7 +63,6 @@ product-spec =
     let r = before-b s in
     rw (eq-eqb _ _ (r .before .before .before .if1 .left), ← shown r .stage-shown .ensures .0, ← a-row r, ← b-row s)
     (passed-first (r .row-rule .result) (s .row-rule2 .result) (s .before .before .before .if2 .left) (refused (s .row-rule2 .result) (c .if3 .taken))))
-    (λ c. search needs)
     (λ c κs. search needs)
     (λ c. search needs)
     (λ c.
@@ -71,4 +70,4 @@ product-spec =
     let s = b .before .before in
     let r = before-b s in
     rw (eq-eqb _ _ (r .before .before .before .if1 .left), ← shown r .stage-shown .ensures .0, ← a-row r, ← b-row s)
-    (passed-first (r .row-rule .result) (s .row-rule2 .result) (s .before .before .before .if2 .left) (passed (s .row-rule2 .result) (b .if3 .left) (c .before .before .put .ensures)))))
+    (passed-first (r .row-rule .result) (s .row-rule2 .result) (s .before .before .before .if2 .left) (passed (s .row-rule2 .result) (b .if3 .left) (c .before .before .put-gadget .ensures)))))

@@ -6,7 +6,7 @@ use borrow.Author.Needs.{needs}
 use Rattle.circuit.specs.Lists.{nth}
 use Rattle.checker.specs.declared.notes.Found.{Found}
 use Rattle.checker.specs.Internal.Notes.{noted, stageFound}
-use Rattle.checker.specs.Internal.Adding.{rowBroken, rowAfter, wiresAt}
+use Rattle.checker.specs.Internal.Adding.{rowBroken, gadgetAfter, wiresAt}
 use Rattle.checker.proofs.Adding.{nothing-made, asked, fits, adds}
 use Rattle.checker.proofs.frame.add.Statement.{statement}
 use Rattle.checker.proofs.frame.add.Tie as tie
@@ -17,8 +17,8 @@ module _ (s : tie.Start) where
   look = noted (s .args .notes .now) (s .args .tally .wires)
 
   made-after : {inner : ℕ} → inner ≡ s .args .shape .wires - s .args .d
-      → rowAfter inner (s .args .d) (look (nth (s .args .ops .now) 1)) ≡ rowAfter (s .args .shape .wires - s .args .d) (s .args .d) (look (nth (s .args .ops .now) 1))
-  made-after e = ap (λ n. rowAfter n (s .args .d) (look (nth (s .args .ops .now) 1))) e
+      → gadgetAfter inner (s .args .d) (stageFound (look (nth (s .args .ops .now) 1))) ≡ gadgetAfter (s .args .shape .wires - s .args .d) (s .args .d) (stageFound (look (nth (s .args .ops .now) 1)))
+  made-after e = ap (λ n. gadgetAfter n (s .args .d) (stageFound (look (nth (s .args .ops .now) 1)))) e
 
   row-spot : {t : ℕ} → t ≡ stageFound (look (nth (s .args .ops .now) 0))
       → rowBroken look t 0 1 0 (s .args .ops .now) ≡ rowBroken look (stageFound (look (nth (s .args .ops .now) 0))) 0 1 0 (s .args .ops .now)
@@ -33,49 +33,55 @@ add-spec =
     (λ c. search needs)
     (λ c. omega (arith, asked (c .before .before .before .before .before .pre .1) (c .before .enum-told2 .given .1)))
     (λ c κs. search needs)
-    (λ c κs. fits (c .before .before .before .before .before .before .before .before .before .pre .1) (c .before .before .before .before .before .enum-told2 .given .1) (c .before .before .stage .ensures) refl refl (c .before .before .before .before .before .before .before .before .before .pre .0))
+    (λ c κs. let p = c .before .before in let s = p .before .before .before .before .before .before .before in fits (s .pre .1) (p .before .before .before .enum-told2 .given .1) (p .stage .ensures) refl refl (s .pre .0))
     (λ c. search needs)
     (λ c. omega (arith, asked (c .before .before .before .before .before .pre .1) (c .before .enum-told3 .given .1)))
     (λ c. omega (arith, asked (c .before .before .before .before .before .before .pre .1) (c .before .before .enum-told3 .given .1)))
     (λ c. omega (arith, asked (c .before .before .before .before .before .before .before .pre .1) (c .before .before .before .enum-told3 .given .1)))
     (λ c κs. search needs)
-    (λ c κs. fits (c .before .before .before .before .before .before .before .before .before .before .before .pre .1) (c .before .before .before .before .before .before .before .enum-told3 .given .1) (c .before .before .constant .ensures) refl refl (c .before .before .before .before .before .before .before .before .before .before .before .pre .0))
+    (λ c κs. let p = c .before .before in let s = p .before .before .before .before .before .before .before .before .before in fits (s .pre .1) (p .before .before .before .before .before .enum-told3 .given .1) (p .constant .ensures) refl refl (s .pre .0))
     (λ c. search needs)
     (λ c. omega (arith, asked (c .before .before .before .before .before .pre .1) (c .before .enum-told4 .given .1)))
     (λ c. omega (arith, asked (c .before .before .before .before .before .before .pre .1) (c .before .before .enum-told4 .given .1)))
     (λ c κs. search needs)
-    (λ c κs. fits (c .before .before .before .before .before .before .before .before .before .before .pre .1) (c .before .before .before .before .before .before .enum-told4 .given .1) (c .before .before .sum .ensures) refl refl (c .before .before .before .before .before .before .before .before .before .before .pre .0))
+    (λ c κs. let p = c .before .before in let s = p .before .before .before .before .before .before .before .before in fits (s .pre .1) (p .before .before .before .before .enum-told4 .given .1) (p .sum .ensures) refl refl (s .pre .0))
     (λ c. search needs)
     (λ c. omega (arith, asked (c .before .before .before .before .before .before .pre .1) (c .before .before .form .given .1)))
     (λ c. search needs)
     (λ c κs. search needs)
-    (λ c κs. fits (c .before .before .before .before .before .before .before .before .before .before .pre .1) (c .before .before .before .before .before .before .form .given .1) (c .before .before .copy .ensures) refl refl (c .before .before .before .before .before .before .before .before .before .before .pre .0))
+    (λ c κs. let p = c .before .before in let s = p .before .before .before .before .before .before .before .before in fits (s .pre .1) (p .before .before .before .before .form .given .1) (p .copy .ensures) refl refl (s .pre .0))
     (λ c. search needs)
     (λ c κs. search needs)
     (λ c κs. let s = c .before .before .before .before .before .before in (s .pre .0 .wires, omega (arith, s .pre .0 .room), omega (arith, s .pre .1 .least), s .pre .1 .most, asked (s .pre .1) (c .before .before .enum-told5 .given .1)))
-    (λ c κs. fits (c .before .before .before .before .before .before .before .before .before .pre .1) (c .before .before .before .before .before .enum-told5 .given .1) (c .before .before .product .ensures) refl (made-after (c .before .before .before .before .before .before .before .before .before) (c .before .before .before .before .less .ensures)) (c .before .before .before .before .before .before .before .before .before .pre .0))
+    (λ c κs. let p = c .before .before in let s = p .before .before .before .before .before .before .before in fits (s .pre .1) (p .before .before .before .enum-told5 .given .1) (p .product .ensures) refl (made-after s (p .before .before .less .ensures)) (s .pre .0))
     (λ c. search needs)
     (λ c κs. search needs)
     (λ c κs. let s = c .before .before .before .before .before .before in (s .pre .0 .wires, omega (arith, s .pre .0 .room), omega (arith, s .pre .1 .least), s .pre .1 .most, asked (s .pre .1) (c .before .before .enum-told6 .given .1)))
-    (λ c κs. fits (c .before .before .before .before .before .before .before .before .before .pre .1) (c .before .before .before .before .before .enum-told6 .given .1) (c .before .before .refresh .ensures) refl (made-after (c .before .before .before .before .before .before .before .before .before) (c .before .before .before .before .less2 .ensures)) (c .before .before .before .before .before .before .before .before .before .pre .0))
+    (λ c κs. let p = c .before .before in let s = p .before .before .before .before .before .before .before in fits (s .pre .1) (p .before .before .before .enum-told6 .given .1) (p .refresh .ensures) refl (made-after s (p .before .before .less2 .ensures)) (s .pre .0))
     (λ c. search needs)
     (λ c. omega (arith, asked (c .before .before .before .before .before .before .pre .1) (c .before .before .enum-told7 .given .1)))
     (λ c κs. search needs)
     (λ c κs. let s = c .before .before .before .before .before .before .before .before in (s .pre .0 .wires, omega (arith, s .pre .0 .room), omega (arith, s .pre .1 .most, asked (s .pre .1) (c .before .before .before .before .enum-told7 .given .1))))
     (λ c κs. search needs)
-    (λ c κs. fits (c .before .before .before .before .before .before .before .before .before .before .before .before .pre .1) (c .before .before .before .before .before .before .before .before .enum-told7 .given .1) (c .before .before .before .row .ensures) (row-spot (c .before .before .before .before .before .before .before .before .before .before .before .before) (c .before .before .before .before .before .stage-shown .ensures .0)) (ap (wiresAt 0 0) (c .before .before .before .before .before .stage-shown .ensures .0)) (c .before .before .before .before .before .before .before .before .before .before .before .before .pre .0))
+    (λ c κs.
+    let p = c .before .before .before in
+    let s = p .before .before .before .before .before .before .before .before .before in
+    fits (s .pre .1) (p .before .before .before .before .before .enum-told7 .given .1) (p .row .ensures) (row-spot s (p .before .before .stage-shown .ensures .0)) (ap (wiresAt 0 0) (p .before .before .stage-shown .ensures .0)) (s .pre .0))
     (λ c. adds (c .before .before .before .before .before .pre .1) (c .before .enum-told .given .1) (nothing-made _ _ (c .before .before .before .before .before .pre .0 .wires)) refl refl (c .grown .ensures) refl)
     (λ c. search needs)
-    (λ c. adds (c .before .before .before .before .before .before .before .before .before .before .pre .1) (c .before .before .before .before .before .before .enum-told2 .given .1) (c .before .before .before .stage .ensures) refl refl (c .grown2 .ensures) refl)
+    (λ c. let p = c .before .before .before in let s = p .before .before .before .before .before .before .before in adds (s .pre .1) (p .before .before .before .enum-told2 .given .1) (p .stage .ensures) refl refl (c .grown2 .ensures) refl)
     (λ c. search needs)
-    (λ c. adds (c .before .before .before .before .before .before .before .before .before .before .before .before .pre .1) (c .before .before .before .before .before .before .before .before .enum-told3 .given .1) (c .before .before .before .constant .ensures) refl refl (c .grown3 .ensures) refl)
+    (λ c. let p = c .before .before .before in let s = p .before .before .before .before .before .before .before .before .before in adds (s .pre .1) (p .before .before .before .before .before .enum-told3 .given .1) (p .constant .ensures) refl refl (c .grown3 .ensures) refl)
     (λ c. search needs)
-    (λ c. adds (c .before .before .before .before .before .before .before .before .before .before .before .pre .1) (c .before .before .before .before .before .before .before .enum-told4 .given .1) (c .before .before .before .sum .ensures) refl refl (c .grown4 .ensures) refl)
+    (λ c. let p = c .before .before .before in let s = p .before .before .before .before .before .before .before .before in adds (s .pre .1) (p .before .before .before .before .enum-told4 .given .1) (p .sum .ensures) refl refl (c .grown4 .ensures) refl)
     (λ c. search needs)
-    (λ c. adds (c .before .before .before .before .before .before .before .before .before .before .before .pre .1) (c .before .before .before .before .before .before .before .form .given .1) (c .before .before .before .copy .ensures) refl refl (c .grown5 .ensures) refl)
+    (λ c. let p = c .before .before .before in let s = p .before .before .before .before .before .before .before .before in adds (s .pre .1) (p .before .before .before .before .form .given .1) (p .copy .ensures) refl refl (c .grown5 .ensures) refl)
     (λ c. search needs)
-    (λ c. adds (c .before .before .before .before .before .before .before .before .before .before .pre .1) (c .before .before .before .before .before .before .enum-told5 .given .1) (c .before .before .before .product .ensures) refl (made-after (c .before .before .before .before .before .before .before .before .before .before) (c .before .before .before .before .before .less .ensures)) (c .grown6 .ensures) refl)
+    (λ c. let p = c .before .before .before in let s = p .before .before .before .before .before .before .before in adds (s .pre .1) (p .before .before .before .enum-told5 .given .1) (p .product .ensures) refl (made-after s (p .before .before .less .ensures)) (c .grown6 .ensures) refl)
     (λ c. search needs)
-    (λ c. adds (c .before .before .before .before .before .before .before .before .before .before .pre .1) (c .before .before .before .before .before .before .enum-told6 .given .1) (c .before .before .before .refresh .ensures) refl (made-after (c .before .before .before .before .before .before .before .before .before .before) (c .before .before .before .before .before .less2 .ensures)) (c .grown7 .ensures) refl)
+    (λ c. let p = c .before .before .before in let s = p .before .before .before .before .before .before .before in adds (s .pre .1) (p .before .before .before .enum-told6 .given .1) (p .refresh .ensures) refl (made-after s (p .before .before .less2 .ensures)) (c .grown7 .ensures) refl)
     (λ c. search needs)
-    (λ c. adds (c .before .before .before .before .before .before .before .before .before .before .before .before .before .pre .1) (c .before .before .before .before .before .before .before .before .before .enum-told7 .given .1) (c .before .before .before .before .row .ensures) (row-spot (c .before .before .before .before .before .before .before .before .before .before .before .before .before) (c .before .before .before .before .before .before .stage-shown .ensures .0)) (ap (wiresAt 0 0) (c .before .before .before .before .before .before .stage-shown .ensures .0)) (c .grown8 .ensures) (c .before .larger .ensures)))
+    (λ c.
+    let p = c .before .before .before .before in
+    let s = p .before .before .before .before .before .before .before .before .before in
+    adds (s .pre .1) (p .before .before .before .before .before .enum-told7 .given .1) (p .row .ensures) (row-spot s (p .before .before .stage-shown .ensures .0)) (ap (wiresAt 0 0) (p .before .before .stage-shown .ensures .0)) (c .grown8 .ensures) (c .before .larger .ensures)))

@@ -1,4 +1,4 @@
--- `checker::notes::write_named` meets its contract.
+-- The loop's invariant: the words still to write, written from here on, give what all words written from the start give.
 use mathlib.Core.Path.{_≡_, sym, ap, _∙_}
 use Prim.Native.Nat.{_+_, _*_, _-_, _≤_}
 use native.Mathlib.Omega.{arith}
@@ -21,40 +21,17 @@ abbrev μ-loop : tie.MeasureT-loop
 loop-holds : tie.Need-loop-holds Inv-loop μ-loop
 loop-holds c = (search needs, search needs, search needs, store-start (c .args .notes .now) (c .args .from) (c .args .label) (c .args .count) (λ l k. namedWords l (c .args .stage) k))
 
-slice-write-notes-2 : tie.Need-slice-write-notes-2 Inv-loop μ-loop
-slice-write-notes-2 c =
-    let n = c .before .loop .notes in
-    let i = c .before .loop .i in
-    let from = c .before .before .args .from in
-    let count = c .before .before .args .count in
-    let label = c .before .before .args .label in
-    let stage = c .before .before .args .stage in
-    omega (arith, length-set n (2 * from + 2 * i) (label + i))
-
 loop-again : tie.Need-loop-again Inv-loop μ-loop
 loop-again c =
-    let n = c .before .loop .notes in
-    let i = c .before .loop .i in
-    let from = c .before .before .args .from in
-    let count = c .before .before .args .count in
-    let label = c .before .before .args .label in
-    let stage = c .before .before .args .stage in (
-      search needs,
-      search needs,
-      search needs,
-      c .before .loop .inv .3
-          ∙ store-turn n from i (label + i) stage (namedWords (label + i) stage (count - i)) (namedWords (label + (i + 1)) stage (count - (i + 1))) (named-turn label stage count i (c .loop-test .taken)),
-    )
+    let l = c .before .loop in
+    let a = c .before .before .args in
+    (search needs, search needs, search needs, l .inv .3 ∙ store-turn (l .notes) (a .from) (l .i) (a .label + l .i) (a .stage) _ _ (named-turn (a .label) (a .stage) (a .count) (l .i) (c .loop-test .taken)))
 
 returns : tie.Need-returns Inv-loop μ-loop
 returns c =
-    let n = c .before .loop .notes in
-    let i = c .before .loop .i in
-    let from = c .before .before .args .from in
-    let count = c .before .before .args .count in
-    let label = c .before .before .args .label in
-    let stage = c .before .before .args .stage in
-    sym (c .before .loop .inv .3 ∙ ap (sets n (2 * from + 2 * i)) (named-end label stage count i (c .before .loop .inv .0) (c .loop-test .left)))
+    let l = c .before .loop in
+    let a = c .before .before .args in
+    sym (l .inv .3 ∙ ap (sets (l .notes) (2 * a .from + 2 * l .i)) (named-end (a .label) (a .stage) (a .count) (l .i) (l .inv .0) (c .loop-test .left)))
 
 pub write-named-spec : {M : Type 1} → statement M
 write-named-spec =
@@ -75,7 +52,7 @@ write-named-spec =
     (λ c. search needs)
     (λ c. search needs)
     (λ c. search needs)
-    slice-write-notes-2
+    (λ c. let l = c .before .loop in let a = c .before .before .args in omega (arith, length-set (l .notes) (2 * a .from + 2 * l .i) (a .label + l .i)))
     (λ c. search needs)
     (λ c. search needs)
     loop-again

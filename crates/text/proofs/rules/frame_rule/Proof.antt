@@ -1,4 +1,4 @@
--- `text::rules::frame_rule` meets its contract: each return decides the tests before it.
+-- Each return decides the tests of `frameByCount` before it; a line of the form ends behind its words.
 use mathlib.Core.Path.{_≡_, sym, ap, subst, _∙_}
 use Prim.Native.Nat.{ℕ, suc, _+_, _*_, _≤_, _<_}
 use native.Mathlib.Omega.{arith}

@@ -1,4 +1,4 @@
--- `text::rules::head_rule` meets its contract: each return decides the tests before it.
+-- Each return decides the tests of `headByCount` before it; a first line of ten bytes has two words.
 use mathlib.Core.Path.{_≡_, sym, _∙_}
 use Prim.Native.Nat.{ℕ, _*_, _≤_, _<_}
 use native.Mathlib.Omega.{arith}
