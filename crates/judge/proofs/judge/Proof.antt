@@ -1,6 +1,7 @@
--- `judge::judge` meets its contract: the checker is asked on the words found.
+-- Where the reader accepts, the checker is asked on the words found; else the reader's refusal is the answer.
 use mathlib.Core.Path.{sym, _∙_}
 use Prim.Native.Nat.{ℕ}
+use native.Mathlib.Omega.{arith}
 use lib.ListN.{length}
 use lib.Seq.{length-take-le}
 use denote.Ref.{now}
@@ -20,30 +21,18 @@ found c =
     let e = rw (c .before .read2 .given .1) at (c .before .before .before .before .before .read .ensures .0) in
     counted (now (k .text)) (length (now (k .table))) (count c) (now (k .table)) _ e (c .before .before .before .before .before .read .ensures .1)
 
-slice-reshare-prefix-check : tie.Need-slice-reshare-prefix-check
-slice-reshare-prefix-check c = found c .inside
-
-slice-aggregate-check : tie.Need-slice-aggregate-check
-slice-aggregate-check c = sym (length-take-le (count (c .before)) _ (found (c .before) .inside))
-
-returns : tie.Need-returns
-returns c = c .before .before .check .ensures .0 ∙ found (c .before .before .before .before .before) .asked _
-
-returns-2 : tie.Need-returns-2
-returns-2 c = stopped _ _ _ _ _ _ (rw (c .before .read3 .given .1) at (c .before .before .before .before .before .read .ensures .0))
-
 pub judge-spec : {M : Type 1} → statement M
 judge-spec =
     tie.close
     (tie.spec
     (λ c κs. search needs)
     (λ c. search needs)
-    slice-reshare-prefix-check
-    slice-aggregate-check
+    (λ c. omega (arith, found c .inside))
+    (λ c. sym (length-take-le _ _ (omega (arith, found (c .before) .inside))))
     (λ c κs. search needs)
     (λ c. search needs)
     (λ c. search needs)
     (λ c. search needs)
-    returns
+    (λ c. c .before .before .check .ensures .0 ∙ found (c .before .before .before .before .before) .asked _)
     (λ c. search needs)
-    returns-2)
+    (λ c. stopped _ _ _ _ _ _ (rw (c .before .read3 .given .1) at (c .before .before .before .before .before .read .ensures .0))))
