@@ -12,7 +12,7 @@ use Rattle.circuit.specs.Circuit.{Circuit, place, stageShown, newStage}
 use Rattle.frames.specs.declared.kinds.Kind.{Kind as KindCode}
 use Rattle.frames.specs.declared.kinds.Form.{Form}
 use Rattle.frames.specs.declared.kinds.Shape.{Shape as ShapeCode}
-use Rattle.frames.specs.Walk.{formOf, rulesOf, stageMade, Means, shapeCode}
+use Rattle.frames.specs.Walk.{formOf, rulesOf, stageMade, Means, kindLine, shapeCode}
 
 pub row-length : (rule : ℕ → ℕ → WordRule) (place d : ℕ) → length (row rule place d) ≡ d
 row-length rule place d = labels-map d (λ i. rule i place)
@@ -56,10 +56,8 @@ no-kind (suc (suc (suc (suc (suc (suc (suc (suc zero)))))))) h1 h2 h3 h4 h5 h6 h
 no-kind (suc (suc (suc (suc (suc (suc (suc (suc (suc n))))))))) h1 h2 h3 h4 h5 h6 h7 h8 = refl
 
 -- what the code holds of a kind, number by number
-pub same-shape : (kind : KindCode) (form : Form) {w w′ m m′ u u′ b : ℕ} → w ≡ w′ → m ≡ m′ → u ≡ u′
-    → _≡_ {A = ShapeCode} (record { kind = kind; form = form; words = w; wires = m; randoms = u; inputs = b })
-    (record { kind = kind; form = form; words = w′; wires = m′; randoms = u′; inputs = b })
-same-shape kind form {b = b} e f g = λ i. record { kind = kind; form = form; words = e i; wires = f i; randoms = g i; inputs = b }
+pub same-line : (kind : KindCode) (form : Form) {w w′ m m′ u u′ b : ℕ} → w ≡ w′ → m ≡ m′ → u ≡ u′ → kindLine kind form w m u b ≡ kindLine kind form w′ m′ u′ b
+same-line kind form {b = b} e f g = λ i. kindLine kind form (e i) (f i) (g i) b
 
 -- the form of each kind means it, and so does what the code holds of a kind
 pub means : (d : ℕ) (kind : Kind) → Means d (formOf kind) kind

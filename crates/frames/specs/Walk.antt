@@ -74,15 +74,11 @@ pub record Means (d : ℕ) (form : Form) (kind : Kind) : Type 0 where
   pub stages : (k : Circuit) (ops : List ℕ) → stageMade form ops (λ i. stageShown (place k (nth ops i))) ≡ newStage k ops kind
 
 -- what a kind decides, as the code holds it
+abbrev pub kindLine : KindCode → Form → (words wires randoms inputs : ℕ) → ShapeCode
+kindLine kind form n wires randoms inputs = record { kind = kind; form = form; words = n; wires = wires; randoms = randoms; inputs = inputs }
+
 abbrev pub shapeCode : ℕ → Kind → ShapeCode
-shapeCode d kind = record {
-  kind = kindCode kind;
-  form = formOf kind;
-  words = words d kind;
-  wires = shape d kind .wires;
-  randoms = shape d kind .randoms;
-  inputs = shape d kind .inputs;
-}
+shapeCode d kind = kindLine (kindCode kind) (formOf kind) (words d kind) (shape d kind .wires) (shape d kind .randoms) (shape d kind .inputs)
 
 -- a frame, as the code holds it: a gate with its words, or a gadget
 abbrev pub frameCode : KindCode → List ℕ → Frame

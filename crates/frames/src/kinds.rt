@@ -1,7 +1,7 @@
 // What the kind word decides, once d is known: the one decision over kinds 0 to 8.
 ghost use mathlib.Core.Path.{_≡_};
 ghost use Rattle.circuit.specs.Kinds.{kindOf};
-ghost use Rattle.frames.specs.Walk.{shapeCode, Means};
+ghost use Rattle.frames.specs.Walk.{kindLine, shapeCode, Means};
 
 pub enum Kind {
     Head,
@@ -46,6 +46,27 @@ pub struct Shape {
     pub inputs: usize,
 }
 
+// A line of the kind table.
+fn kind_line(
+    kind: Kind,
+    form: Form,
+    words: usize,
+    wires: usize,
+    randoms: usize,
+    inputs: usize,
+) -> Shape
+    ensures { λ r. ⌜ r ≡ kindLine kind form words wires randoms inputs ⌝ }
+{
+    Shape {
+        kind: kind,
+        form: form,
+        words: words,
+        wires: wires,
+        randoms: randoms,
+        inputs: inputs,
+    }
+}
+
 // The frame that a kind word begins. A word past 8 is no kind and is answered as HEAD.
 pub fn decide(word: u16, d: u16) -> Shape
     ensures shaped { λ r. ⌜ r ≡ shapeCode d (kindOf word) ⌝ }
@@ -55,77 +76,21 @@ pub fn decide(word: u16, d: u16) -> Shape
     let ordered = n * n - n;
     let pairs = ordered / 2;
     match word {
-        1 => Shape {
-            kind: Kind::In,
-            form: Form::Stage,
-            words: 1,
-            wires: n,
-            randoms: 0,
-            inputs: 1,
-        },
-        2 => Shape {
-            kind: Kind::Con,
-            form: Form::Constant,
-            words: 3,
-            wires: 1,
-            randoms: 0,
-            inputs: 0,
-        },
-        3 => Shape {
-            kind: Kind::Xor,
-            form: Form::Sum,
-            words: 2,
-            wires: 1,
-            randoms: 0,
-            inputs: 0,
-        },
-        4 => Shape {
-            kind: Kind::Not,
-            form: Form::Copy { after: 0 },
-            words: 1,
-            wires: 1,
-            randoms: 0,
-            inputs: 0,
-        },
-        5 => Shape {
-            kind: Kind::Reg,
-            form: Form::Copy { after: 1 },
-            words: 1,
-            wires: 1,
-            randoms: 0,
-            inputs: 0,
-        },
-        6 => Shape {
-            kind: Kind::And,
-            form: Form::Product,
-            words: 1 + n + n,
-            wires: 7 * ordered + 4 * n,
-            randoms: pairs,
-            inputs: 0,
-        },
-        7 => Shape {
-            kind: Kind::Ref,
-            form: Form::Refresh,
-            words: 1 + n,
-            wires: pairs + 2 * n,
-            randoms: pairs,
-            inputs: 0,
-        },
-        8 => Shape {
-            kind: Kind::Out,
-            form: Form::Row,
-            words: n,
-            wires: 0,
-            randoms: 0,
-            inputs: 0,
-        },
-        _ => Shape {
-            kind: Kind::Head,
-            form: Form::ShareCount,
-            words: 1,
-            wires: 0,
-            randoms: 0,
-            inputs: 0,
-        },
+        1 => kind_line(Kind::In, Form::Stage, 1, n, 0, 1),
+        2 => kind_line(Kind::Con, Form::Constant, 3, 1, 0, 0),
+        3 => kind_line(Kind::Xor, Form::Sum, 2, 1, 0, 0),
+        4 => kind_line(Kind::Not, Form::Copy { after: 0 }, 1, 1, 0, 0),
+        5 => kind_line(Kind::Reg, Form::Copy { after: 1 }, 1, 1, 0, 0),
+        6 => kind_line(
+            Kind::And,
+            Form::Product,
+            1 + n + n,
+            7 * ordered + 4 * n,
+            pairs,
+            0,
+        ),
+        7 => kind_line(Kind::Ref, Form::Refresh, 1 + n, pairs + 2 * n, pairs, 0),
+        8 => kind_line(Kind::Out, Form::Row, n, 0, 0, 0),
+        _ => kind_line(Kind::Head, Form::ShareCount, 1, 0, 0, 0),
     }
 }
