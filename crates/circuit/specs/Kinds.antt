@@ -35,21 +35,21 @@ pub record Shape : Type 0 where
   pub randoms : ℕ  -- how many random bits
   pub inputs : ℕ  -- how many secret bits
 
-abbrev pub frame : List WordRule → (wires randoms inputs : ℕ) → Shape
-frame rules wires randoms inputs = record { rules = rules; wires = wires; randoms = randoms; inputs = inputs }
+abbrev pub kindShape : List WordRule → (wires randoms inputs : ℕ) → Shape
+kindShape rules wires randoms inputs = record { rules = rules; wires = wires; randoms = randoms; inputs = inputs }
 
 -- words after the kind, wires made, random bits, secret bits. (The first wire of XOR, NOT and REG is only like itself, and so
 -- is the first of a row a.)
 unfoldable pub shape : ℕ → Kind → Shape
-shape d HEAD = frame (shareCount ∷ []) 0 0 0
-shape d IN = frame (stage ∷ []) d 0 1
-shape d CON = frame (label ∷ value ∷ stage ∷ []) 1 0 0
-shape d XOR = frame (like 0 ∷ like 0 ∷ []) 1 0 0
-shape d NOT = frame (like 0 ∷ []) 1 0 0
-shape d REG = frame (like 0 ∷ []) 1 0 0
-shape d AND = frame (random ∷ row share 1 d ++ row before 1 d) (7 * (d * (d - 1)) + 4 * d) (pairs d) 0
-shape d REF = frame (random ∷ row share 1 d) (pairs d + 2 * d) (pairs d) 0
-shape d OUT = frame (row share 0 d) 0 0 0
+shape d HEAD = kindShape (shareCount ∷ []) 0 0 0
+shape d IN = kindShape (stage ∷ []) d 0 1
+shape d CON = kindShape (label ∷ value ∷ stage ∷ []) 1 0 0
+shape d XOR = kindShape (like 0 ∷ like 0 ∷ []) 1 0 0
+shape d NOT = kindShape (like 0 ∷ []) 1 0 0
+shape d REG = kindShape (like 0 ∷ []) 1 0 0
+shape d AND = kindShape (random ∷ row share 1 d ++ row before 1 d) (7 * (d * (d - 1)) + 4 * d) (pairs d) 0
+shape d REF = kindShape (random ∷ row share 1 d) (pairs d + 2 * d) (pairs d) 0
+shape d OUT = kindShape (row share 0 d) 0 0 0
 
 -- how many words follow the kind
 abbrev pub words : ℕ → Kind → ℕ

@@ -30,33 +30,33 @@ abbrev pub line : (a : List ℕ) (x : ℕ) (b : List ℕ) (y : ℕ) (c : List �
 line a x b y c z = field a x ++ field b y ++ field c z ++ 10 ∷ []
 
 -- "accepted wires "
-abbrev pub acceptedWires : List ℕ
-acceptedWires = 97 ∷ 99 ∷ 99 ∷ 101 ∷ 112 ∷ 116 ∷ 101 ∷ 100 ∷ 32 ∷ 119 ∷ 105 ∷ 114 ∷ 101 ∷ 115 ∷ 32 ∷ []
+abbrev pub acceptedName : List ℕ
+acceptedName = 97 ∷ 99 ∷ 99 ∷ 101 ∷ 112 ∷ 116 ∷ 101 ∷ 100 ∷ 32 ∷ 119 ∷ 105 ∷ 114 ∷ 101 ∷ 115 ∷ 32 ∷ []
 
 -- " random "
-abbrev pub random : List ℕ
-random = 32 ∷ 114 ∷ 97 ∷ 110 ∷ 100 ∷ 111 ∷ 109 ∷ 32 ∷ []
+abbrev pub randomName : List ℕ
+randomName = 32 ∷ 114 ∷ 97 ∷ 110 ∷ 100 ∷ 111 ∷ 109 ∷ 32 ∷ []
 
 -- " latency "
-abbrev pub latency : List ℕ
-latency = 32 ∷ 108 ∷ 97 ∷ 116 ∷ 101 ∷ 110 ∷ 99 ∷ 121 ∷ 32 ∷ []
+abbrev pub latencyName : List ℕ
+latencyName = 32 ∷ 108 ∷ 97 ∷ 116 ∷ 101 ∷ 110 ∷ 99 ∷ 121 ∷ 32 ∷ []
 
 -- "refused "
-abbrev pub refusedRule : List ℕ
-refusedRule = 114 ∷ 101 ∷ 102 ∷ 117 ∷ 115 ∷ 101 ∷ 100 ∷ 32 ∷ []
+abbrev pub refusedName : List ℕ
+refusedName = 114 ∷ 101 ∷ 102 ∷ 117 ∷ 115 ∷ 101 ∷ 100 ∷ 32 ∷ []
 
 -- " frame "
-abbrev pub frame : List ℕ
-frame = 32 ∷ 102 ∷ 114 ∷ 97 ∷ 109 ∷ 101 ∷ 32 ∷ []
+abbrev pub frameName : List ℕ
+frameName = 32 ∷ 102 ∷ 114 ∷ 97 ∷ 109 ∷ 101 ∷ 32 ∷ []
 
 -- " word "
-abbrev pub word : List ℕ
-word = 32 ∷ 119 ∷ 111 ∷ 114 ∷ 100 ∷ 32 ∷ []
+abbrev pub wordName : List ℕ
+wordName = 32 ∷ 119 ∷ 111 ∷ 114 ∷ 100 ∷ 32 ∷ []
 
 -- the line of an answer
 abbrev pub lineOf : Answer → List ℕ
-lineOf (accepted wires randoms stages) = line acceptedWires wires random randoms latency stages
-lineOf (refused rule frames words) = line refusedRule rule frame frames word words
+lineOf (accepted wires randoms stages) = line acceptedName wires randomName randoms latencyName stages
+lineOf (refused rule frames words) = line refusedName rule frameName frames wordName words
 
 -- a buffer that held `old`, once some bytes are written at its start: the rest is untouched, and their number is given
 pub record Written (bytes old : List ℕ) (given : ℕ) (new : List ℕ) : Type 0 where

@@ -41,28 +41,28 @@ circuitOf table notes = checked table (length notes) .circuit
 
 -- a call on a table, with notes of these words, shares and tape
 module _ (table notes shares tape : List ℕ) where
-  abbrev made : Circuit
-  made = circuitOf table notes
+  abbrev k : Circuit
+  k = circuitOf table notes
 
   -- its judgement: the checker's, then 15 to 19. Evaluation takes a value sheet and no probes, readings a reading sheet too
   unfoldable pub callRule : (sheets : List (List ℕ)) (probes : List ℕ) → Judgement
   callRule sheets probes = checked table (length notes) .judgement
-      then need (eqb (length shares) (made .inputs * made .d)) 15 0 0
-      then need (eqb (length tape) (made .randoms)) 16 0 0
+      then need (eqb (length shares) (k .inputs * k .d)) 15 0 0
+      then need (eqb (length tape) (k .randoms)) 16 0 0
       then sheetsRule sheets
       then bytesRule 0 (shares ++ tape)
-      then probesRule made 0 probes
+      then probesRule k 0 probes
 
   -- its answer, and the notes after it
   abbrev pub callAnswer : (sheets : List (List ℕ)) (probes : List ℕ) → Answer
-  callAnswer sheets probes = answer made (callRule sheets probes)
+  callAnswer sheets probes = answer k (callRule sheets probes)
 
   abbrev pub callNotes : List ℕ
-  callNotes = notesAfter made notes
+  callNotes = notesAfter k notes
 
   -- the values of the circuit's wires, and the reading of probes
   abbrev pub valueBytes : List ℕ
-  valueBytes = bytes (valuesOf (made .wires) (bits shares) (bits tape))
+  valueBytes = bytes (valuesOf (k .wires) (bits shares) (bits tape))
 
   abbrev pub readingBytes : (probes : List ℕ) → List ℕ
-  readingBytes probes = readingOf (made .wires) probes (bits shares) (bits tape)
+  readingBytes probes = readingOf (k .wires) probes (bits shares) (bits tape)

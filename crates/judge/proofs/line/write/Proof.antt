@@ -2,19 +2,19 @@
 use native.Mathlib.Nat.{le-trans}
 use native.Mathlib.Omega.{arith}
 use borrow.Author.Needs.{needs}
-use Rattle.judge.specs.Printed.{acceptedWires, random, latency, refusedRule, frame, word}
+use Rattle.judge.specs.Printed.{acceptedName, randomName, latencyName, refusedName, frameName, wordName}
 use Rattle.judge.proofs.Lengths.{short-line}
 use Rattle.judge.proofs.line.write.Statement.{statement}
 use Rattle.judge.proofs.line.write.Tie as tie
 
 put-line-requires : tie.Need-put-line-requires
 put-line-requires c κs =
-    le-trans (short-line acceptedWires _ random _ latency _ (search needs) (search needs) (search needs) (omega arith))
+    le-trans (short-line acceptedName _ randomName _ latencyName _ (search needs) (search needs) (search needs) (omega arith))
     (c .before .before .before .before .before .before .before .before .pre)
 
 put-line-requires-2 : tie.Need-put-line-requires-2
 put-line-requires-2 c κs =
-    le-trans (short-line refusedRule _ frame _ word _ (search needs) (search needs) (search needs) (omega arith))
+    le-trans (short-line refusedName _ frameName _ wordName _ (search needs) (search needs) (search needs) (omega arith))
     (c .before .before .before .before .before .before .before .before .pre)
 
 returns : tie.Need-returns
