@@ -10,20 +10,20 @@ use Rattle.circuit.specs.Kinds.{pairs}
 use Rattle.circuit.proofs.Base.{xor-assoc}
 use Rattle.circuit.proofs.Sizes.{pairs-twice}
 use Rattle.semantics.specs.Values.{byte, xorSum}
-use Rattle.simulation.specs.Internal.Places.{cellRow, ownAt, outAt, maskAt, sumAt}
-use Rattle.simulation.specs.Internal.Filling.{Values, Known, Fills, Copied, Drawn, Owned, Multiplied, AndValues, Masked, Held, RefValues}
+use Rattle.simulation.specs.Internal.Places.{crossStart, productAt, outAt, maskAt, sumAt}
+use Rattle.simulation.specs.Internal.Filling.{Values, Known, Fills, Copied, Drawn, ShareProducts, Multiplied, AndValues, Masked, Held, RefValues}
 use Rattle.simulation.specs.Internal.Gadgets.{Sums}
 use Rattle.simulation.proofs.Adding.{xorSum-others}
 use Rattle.simulation.proofs.Filled.{known-all, fills-next, fills-for, fills-at, fills-set}
 
 pub and-filled : (d first : ℕ) (a b : ℕ → ℕ) (tape : List ℕ) (used : ℕ) (old one two three : List ℕ) (count : ℕ) → count ≡ pairs d
-    → Fills (Drawn tape used first count) first (first + 2 * count) old one → Fills (Owned d first a b) (ownAt d first 0) (ownAt d first d) one two
-    → Fills (Multiplied d first a) (first + cellRow d 0) (outAt d first d) two three
+    → Fills (Drawn tape used first count) first (first + 2 * count) old one → Fills (ShareProducts d first a b) (productAt d first 0) (productAt d first d) one two
+    → Fills (Multiplied d first a) (first + crossStart d 0) (outAt d first d) two three
     → Fills (AndValues d first a b tape used) first (first + (7 * (d * (d - 1)) + 4 * d)) old three
-and-filled d first a b tape used old one two three count e draws owns outs =
+and-filled d first a b tape used old one two three count e draws products outs =
     fills-next (omega arith) (omega arith) (λ v q k. q .multiplied)
-    (fills-next (omega (arith, e, pairs-twice d)) (omega arith) (λ v q k. q .owned)
-    (fills-for (λ v q. subst (λ (n : ℕ). Drawn tape used first n v) (sym e) (q .drawn)) (fills-at refl (omega (arith, e, pairs-twice d)) draws)) owns)
+    (fills-next (omega (arith, e, pairs-twice d)) (omega arith) (λ v q k. q .products)
+    (fills-for (λ v q. subst (λ (n : ℕ). Drawn tape used first n v) (sym e) (q .drawn)) (fills-at refl (omega (arith, e, pairs-twice d)) draws)) products)
     (fills-at (omega arith) (omega arith) outs)
 
 -- one sum of REF

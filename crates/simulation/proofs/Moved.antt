@@ -14,9 +14,9 @@ use Rattle.circuit.specs.Kinds.{pairs}
 use Rattle.circuit.proofs.Base.{cases, or-cases, or-left, or-right, In}
 use Rattle.circuit.proofs.Sizes.{pairs-twice}
 use Rattle.semantics.specs.Probes.{isStop, operands}
-use Rattle.simulation.specs.Internal.Places.{slotOf, cellRow, pairAt, cellAt, ownAt, outAt, maskAt, sumAt, heldAt}
-use Rattle.simulation.specs.Internal.Gates.{gateAt, OwnGates, CellGates, CellsGates, RowsGates, OwnsGates, OutGates, AndGates, RefGates}
-use Rattle.simulation.specs.Internal.Marks.{markAll, propagated, sixes, outWires, Moving, Moves}
+use Rattle.simulation.specs.Internal.Places.{slotOf, crossStart, pairAt, crossAt, productAt, outAt, maskAt, sumAt, heldAt}
+use Rattle.simulation.specs.Internal.Gates.{gateAt, ProductGates, CrossGates, CrossRowGates, CrossAllGates, ProductsGates, OutGates, AndGates, RefGates}
+use Rattle.simulation.specs.Internal.Marks.{markAll, propagated, sixApart, outWires, Moving, Moves}
 use Rattle.simulation.proofs.Bits.{set-low}
 use Rattle.simulation.proofs.Ranges.{others-is, map-append}
 use Rattle.simulation.proofs.Adding.{range-turn, range-end}
@@ -81,53 +81,53 @@ moves-gate x z marks e k = moves-hand x (operands z) marks (λ g h. ap isStop (k
     (λ g h y i. subst (λ (t : Gate). In y (operands t)) (sym (k g h)) i) (λ g h y i. subst (λ (t : Gate). In y (operands t)) (k g h) i)
 
 -- the wires U and W that an output takes
-sixes-append : (a m n : ℕ) → sixes a (m + n) ≡ sixes a m ++ sixes (a + 6 * m) n
-unfolding sixes
-sixes-append a zero n =
+six-apart-append : (a m n : ℕ) → sixApart a (m + n) ≡ sixApart a m ++ sixApart (a + 6 * m) n
+unfolding sixApart
+six-apart-append a zero n =
     let e : 0 + n ≡ n = omega arith in
     let f : a ≡ a + 6 * 0 = omega arith in
-    ap₂ sixes f e
-sixes-append a (suc m) n =
+    ap₂ sixApart f e
+six-apart-append a (suc m) n =
     let e : suc m + n ≡ suc (m + n) = omega arith in
     let f : a + 6 + 6 * m ≡ a + 6 * suc m = omega arith in
-    ap (sixes a) e ∙ ap (λ l. a ∷ l) (sixes-append (a + 6) m n ∙ ap (λ z. sixes (a + 6) m ++ sixes z n) f)
+    ap (sixApart a) e ∙ ap (λ l. a ∷ l) (six-apart-append (a + 6) m n ∙ ap (λ z. sixApart (a + 6) m ++ sixApart z n) f)
 
-sixes-map : (f : ℕ → ℕ) (a m n : ℕ) → ((q : ℕ) → q < n → f (m + q) ≡ a + 6 * q) → map f (range m n) ≡ sixes a n
-unfolding sixes
-sixes-map f a m zero h = refl
-sixes-map f a m (suc n) h =
+six-apart-map : (f : ℕ → ℕ) (a m n : ℕ) → ((q : ℕ) → q < n → f (m + q) ≡ a + 6 * q) → map f (range m n) ≡ sixApart a n
+unfolding sixApart
+six-apart-map f a m zero h = refl
+six-apart-map f a m (suc n) h =
     let e : m ≡ m + 0 = omega arith in
     let z : a + 6 * 0 ≡ a = omega arith in
-    ap₂ (λ x l. x ∷ l) (ap f e ∙ h 0 (omega arith) ∙ z) (sixes-map f (a + 6) (suc m) n (λ q l.
+    ap₂ (λ x l. x ∷ l) (ap f e ∙ h 0 (omega arith) ∙ z) (six-apart-map f (a + 6) (suc m) n (λ q l.
     let i : suc m + q ≡ m + suc q = omega arith in
     let j : a + 6 * suc q ≡ a + 6 + 6 * q = omega arith in
     ap f i ∙ h (suc q) (omega arith) ∙ j))
 
-row-sixes : (d first i k : ℕ) → i < d → map (λ j. cellAt d first i j + k) (others d i) ≡ sixes (first + cellRow d i + k) (d - 1)
-row-sixes d first i k l =
-    let f : ℕ → ℕ = λ j. cellAt d first i j + k in
-    let a = first + cellRow d i + k in
+row-six-apart : (d first i k : ℕ) → i < d → map (λ j. crossAt d first i j + k) (others d i) ≡ sixApart (first + crossStart d i + k) (d - 1)
+row-six-apart d first i k l =
+    let f : ℕ → ℕ = λ j. crossAt d first i j + k in
+    let a = first + crossStart d i + k in
     let e : i + (d - suc i) ≡ d - 1 = omega arith in
     ap (map f) (others-is d i l) ∙ map-append f (range 0 i) (range (suc i) (d - suc i))
     ∙ ap₂ (λ x y. x ++ y)
-    (sixes-map f a 0 i (λ q h. low q h))
-    (sixes-map f (a + 6 * i) (suc i) (d - suc i) (λ q h. high q))
-    ∙ sym (sixes-append a i (d - suc i)) ∙ ap (sixes a) e
+    (six-apart-map f a 0 i (λ q h. low q h))
+    (six-apart-map f (a + 6 * i) (suc i) (d - suc i) (λ q h. high q))
+    ∙ sym (six-apart-append a i (d - suc i)) ∙ ap (sixApart a) e
   where
-    low : (q : ℕ) → q < i → cellAt d first i (0 + q) + k ≡ first + cellRow d i + k + 6 * q
+    low : (q : ℕ) → q < i → crossAt d first i (0 + q) + k ≡ first + crossStart d i + k + 6 * q
     low q h = omega (arith, slot-low i (0 + q) (omega arith))
 
-    high : (q : ℕ) → cellAt d first i (suc i + q) + k ≡ first + cellRow d i + k + 6 * i + 6 * q
+    high : (q : ℕ) → crossAt d first i (suc i + q) + k ≡ first + crossStart d i + k + 6 * i + 6 * q
     high q = omega (arith, slot-high i (suc i + q) (omega arith))
 
 pub out-wires : (d first i : ℕ) → i < d
-    → (ownAt d first i + 2) ∷ map (λ j. cellAt d first i j + 1) (others d i) ++ map (λ j. cellAt d first i j + 5) (others d i) ≡ outWires d first i
-out-wires d first i l = ap₂ (λ x y. ((ownAt d first i + 2) ∷ x) ++ y) (row-sixes d first i 1 l) (row-sixes d first i 5 l)
+    → (productAt d first i + 2) ∷ map (λ j. crossAt d first i j + 1) (others d i) ++ map (λ j. crossAt d first i j + 5) (others d i) ≡ outWires d first i
+out-wires d first i l = ap₂ (λ x y. ((productAt d first i + 2) ∷ x) ++ y) (row-six-apart d first i 1 l) (row-six-apart d first i 5 l)
 
 -- the wires of two shares
-pub cell-moved : (x a b r : ℕ) (marks : List ℕ)
-    → Moves (CellGates x a b r) x (x + 6) marks (propagated x (a ∷ (r + 1) ∷ []) (propagated (x + 2) (b ∷ r ∷ []) (propagated (x + 4) (a ∷ (x + 3) ∷ []) marks)))
-cell-moved x a b r marks =
+pub cross-moved : (x a b r : ℕ) (marks : List ℕ)
+    → Moves (CrossGates x a b r) x (x + 6) marks (propagated x (a ∷ (r + 1) ∷ []) (propagated (x + 2) (b ∷ r ∷ []) (propagated (x + 4) (a ∷ (x + 3) ∷ []) marks)))
+cross-moved x a b r marks =
     let one = propagated (x + 4) (a ∷ (x + 3) ∷ []) marks in
     let two = propagated (x + 2) (b ∷ r ∷ []) one in
     moves-then (omega arith) (moves-at refl (omega arith) (moves-stop (x + 5) marks (λ g h. ap isStop (h .5))))
@@ -137,46 +137,46 @@ cell-moved x a b r marks =
     (moves-then (omega arith) (moves-at refl (omega arith) (moves-stop (x + 1) two (λ g h. ap isStop (h .1))))
     (moves-gate x (andNot a (r + 1)) two refl (λ g h. h .0))))))
 
-pub sixes-turn : (x count k : ℕ) → k < count → sixes x (count - k) ≡ x ∷ sixes (x + 6) (count - (k + 1))
-unfolding sixes
-sixes-turn x count k h = let e : count - k ≡ suc (count - (k + 1)) = omega arith in ap (sixes x) e
+pub six-apart-turn : (x count k : ℕ) → k < count → sixApart x (count - k) ≡ x ∷ sixApart (x + 6) (count - (k + 1))
+unfolding sixApart
+six-apart-turn x count k h = let e : count - k ≡ suc (count - (k + 1)) = omega arith in ap (sixApart x) e
 
-pub sixes-end : (x count k : ℕ) → count ≤ k → sixes x (count - k) ≡ []
-unfolding sixes
-sixes-end x count k h = let e : count - k ≡ 0 = omega arith in ap (sixes x) e
+pub six-apart-end : (x count k : ℕ) → count ≤ k → sixApart x (count - k) ≡ []
+unfolding sixApart
+six-apart-end x count k h = let e : count - k ≡ 0 = omega arith in ap (sixApart x) e
 
 -- an output
 pub out-moved : (d first i : ℕ) (marks : List ℕ) → i < d → Moves (OutGates d first) (outAt d first i) (outAt d first (i + 1)) marks (propagated (outAt d first i) (outWires d first i) marks)
 out-moved d first i marks l =
-    let ops = (ownAt d first i + 2) ∷ map (λ j. cellAt d first i j + 1) (others d i) ++ map (λ j. cellAt d first i j + 5) (others d i) in
+    let ops = (productAt d first i + 2) ∷ map (λ j. crossAt d first i j + 1) (others d i) ++ map (λ j. crossAt d first i j + 5) (others d i) in
     moves-at refl (omega arith) (subst (λ (w : List ℕ). Moves (OutGates d first) (outAt d first i) (outAt d first i + 1) marks (propagated (outAt d first i) w marks)) (out-wires d first i l)
     (moves-gate (outAt d first i) (sum ops) marks refl (λ g h. h i l)))
 
 -- the wires of the share i and each from j on
-pub row-moved : (d first : ℕ) (a b : ℕ → ℕ) (i j top : ℕ) (old mid new : List ℕ) → j < d → (j ≡ i → ⊥) → cellAt d first i (j + 1) ≤ top
-    → Moves (CellsGates d first a b i) (cellAt d first i (j + 1)) top old mid → Moves (CellGates (cellAt d first i j) (a i) (b j) (pairAt d first i j)) (cellAt d first i j) (cellAt d first i j + 6) mid new
-    → Moves (CellsGates d first a b i) (cellAt d first i j) top old new
+pub row-moved : (d first : ℕ) (a b : ℕ → ℕ) (i j top : ℕ) (old mid new : List ℕ) → j < d → (j ≡ i → ⊥) → crossAt d first i (j + 1) ≤ top
+    → Moves (CrossRowGates d first a b i) (crossAt d first i (j + 1)) top old mid → Moves (CrossGates (crossAt d first i j) (a i) (b j) (pairAt d first i j)) (crossAt d first i j) (crossAt d first i j + 6) mid new
+    → Moves (CrossRowGates d first a b i) (crossAt d first i j) top old new
 row-moved d first a b i j top old mid new l ne h f g = moves-then h f (moves-at refl (omega (arith, slot-next i j ne)) (moves-for (λ z q. q j l ne) g))
 
 -- both halves of a row
 pub rows-moved : (d first : ℕ) (a b : ℕ → ℕ) (i : ℕ) (old mid one two : List ℕ) → i < d
-    → Moves (RowsGates d first a b) (first + cellRow d (i + 1)) (first + cellRow d d) old mid
-    → Moves (CellsGates d first a b i) (cellAt d first i (i + 1)) (cellAt d first i d) mid one → Moves (CellsGates d first a b i) (cellAt d first i 0) (cellAt d first i i) one two
-    → Moves (RowsGates d first a b) (first + cellRow d i) (first + cellRow d d) old two
+    → Moves (CrossAllGates d first a b) (first + crossStart d (i + 1)) (first + crossStart d d) old mid
+    → Moves (CrossRowGates d first a b i) (crossAt d first i (i + 1)) (crossAt d first i d) mid one → Moves (CrossRowGates d first a b i) (crossAt d first i 0) (crossAt d first i i) one two
+    → Moves (CrossAllGates d first a b) (first + crossStart d i) (first + crossStart d d) old two
 rows-moved d first a b i old mid one two l f g h =
     moves-then (row-room d first i l) f
-    (moves-then (omega (arith, slot-high i (i + 1) (omega arith), last-slot)) (moves-at (omega (arith, slot-low i i (omega arith), slot-high i (i + 1) (omega arith))) (ap (λ n. first + cellRow d i + 6 * n) (slot-high i d l) ∙ row-next d first i) (moves-for (λ z q. q i l) g))
+    (moves-then (omega (arith, slot-high i (i + 1) (omega arith), last-slot)) (moves-at (omega (arith, slot-low i i (omega arith), slot-high i (i + 1) (omega arith))) (ap (λ n. first + crossStart d i + 6 * n) (slot-high i d l) ∙ row-next d first i) (moves-for (λ z q. q i l) g))
     (moves-at (omega (arith, slot-low i 0 (omega arith))) refl (moves-for (λ z q. q i l) h)))
   where
-    last-slot : cellAt d first i i ≤ first + cellRow d (i + 1)
-    last-slot = within (cellRow d i) (cellRow d (i + 1)) (slotOf i i) (slot-low i i (omega arith)) (row-next d first i)
+    last-slot : crossAt d first i i ≤ first + crossStart d (i + 1)
+    last-slot = within (crossStart d i) (crossStart d (i + 1)) (slotOf i i) (slot-low i i (omega arith)) (row-next d first i)
       where
         within : (x y n : ℕ) → n ≡ i → first + x + 6 * (d - 1) ≡ first + y → first + x + 6 * n ≤ first + y
         within x y n e k = omega arith
 
 -- B, m and M
-pub own-moved : (x a b : ℕ) (marks : List ℕ) → Moves (OwnGates x a b) x (x + 3) marks (propagated (x + 1) (a ∷ x ∷ []) marks)
-own-moved x a b marks =
+pub product-moved : (x a b : ℕ) (marks : List ℕ) → Moves (ProductGates x a b) x (x + 3) marks (propagated (x + 1) (a ∷ x ∷ []) marks)
+product-moved x a b marks =
     let new = propagated (x + 1) (a ∷ x ∷ []) marks in
     moves-then (omega arith) (moves-at refl (omega arith) (moves-stop (x + 2) marks (λ g h. ap isStop (h .2))))
     (moves-then (omega arith) (moves-at refl (omega arith) (moves-gate (x + 1) (product a x) marks refl (λ g h. h .1))) (moves-stop x new (λ g h. ap isStop (h .0))))
@@ -190,34 +190,34 @@ moves-pairs from (suc n) marks k =
     (moves-then (omega arith) (moves-stop (from + 2 * n) marks (λ g h. k g h n (omega arith) .0)) (moves-pairs from n marks (λ g h q l. k g h q (omega arith))))
 
 pub and-moved : (d first : ℕ) (a b : ℕ → ℕ) (old one two three : List ℕ) → Moves (OutGates d first) (outAt d first 0) (outAt d first d) old one
-    → Moves (RowsGates d first a b) (first + cellRow d 0) (first + cellRow d d) one two
-    → Moves (OwnsGates d first a b) (ownAt d first 0) (ownAt d first d) two three
+    → Moves (CrossAllGates d first a b) (first + crossStart d 0) (first + crossStart d d) one two
+    → Moves (ProductsGates d first a b) (productAt d first 0) (productAt d first d) two three
     → Moves (λ g. AndGates g d first a b) first (first + (7 * (d * (d - 1)) + 4 * d)) old three
-and-moved d first a b old one two three outs rows owns =
+and-moved d first a b old one two three outs rows products =
     moves-then (omega arith) (moves-at (omega arith) (omega arith) (moves-for (λ g h. h .outs) outs))
-    (moves-then (omega arith) (moves-for (λ g h. h .cells) rows)
-    (moves-then (omega arith) (moves-at refl (omega arith) (moves-for (λ g h. h .owns) owns))
+    (moves-then (omega arith) (moves-for (λ g h. h .crosses) rows)
+    (moves-then (omega arith) (moves-at refl (omega arith) (moves-for (λ g h. h .products) products))
     (moves-at refl (omega (arith, pairs-twice d)) (moves-pairs first (pairs d) three (λ g h q l. (ap isStop (h .draws q l .0), ap isStop (h .draws q l .1)))))))
 
 pub zero-is : (n : ℕ) → n ≤ 0 → n ≡ 0
 zero-is n h = omega arith
 
 -- an output's marks, as the code sets them
-pub out-handed : (d first i : ℕ) (marks one two : List ℕ) (wire row : ℕ) → wire ≡ outAt d first i → row ≡ first + cellRow d i → 1 ≤ nth marks wire
-    → one ≡ markAll (set marks (ownAt d first i + 2) 1) (sixes (row + 1) (d - 1)) → two ≡ markAll one (sixes (row + 5) (d - 1))
+pub out-handed : (d first i : ℕ) (marks one two : List ℕ) (wire row : ℕ) → wire ≡ outAt d first i → row ≡ first + crossStart d i → 1 ≤ nth marks wire
+    → one ≡ markAll (set marks (productAt d first i + 2) 1) (sixApart (row + 1) (d - 1)) → two ≡ markAll one (sixApart (row + 5) (d - 1))
     → set two wire 0 ≡ propagated (outAt d first i) (outWires d first i) marks
 out-handed d first i marks one two wire row w r h e f =
-    let start = set marks (ownAt d first i + 2) 1 in
-    let all : two ≡ markAll marks (outWires d first i) = f ∙ ap₂ (λ l n. markAll l (sixes (n + 5) (d - 1))) (e ∙ ap (λ n. markAll start (sixes (n + 1) (d - 1))) r) r
-    ∙ sym (mark-append start (sixes (first + cellRow d i + 1) (d - 1)) (sixes (first + cellRow d i + 5) (d - 1))) in
+    let start = set marks (productAt d first i + 2) 1 in
+    let all : two ≡ markAll marks (outWires d first i) = f ∙ ap₂ (λ l n. markAll l (sixApart (n + 5) (d - 1))) (e ∙ ap (λ n. markAll start (sixApart (n + 1) (d - 1))) r) r
+    ∙ sym (mark-append start (sixApart (first + crossStart d i + 1) (d - 1)) (sixApart (first + crossStart d i + 5) (d - 1))) in
     ap₂ (λ l n. set l n 0) all w ∙ sym (ap (λ b. cond b marks (set (markAll marks (outWires d first i)) (outAt d first i) 0)) (le-ltb (nth marks (outAt d first i)) 1 (subst (λ (n : ℕ). 1 ≤ nth marks n) w h)))
 
 pub below-is : (n m : ℕ) → m ≤ n → n ≤ m → n ≡ m
 below-is n m h k = omega arith
 
 -- the wires of a later share stand later
-pub slots-up : (d first i j k : ℕ) → j ≤ k → cellAt d first i j ≤ cellAt d first i k
-slots-up d first i j k h = within (cellRow d i) (slotOf i j) (slotOf i k) (slots i j k h)
+pub slots-up : (d first i j k : ℕ) → j ≤ k → crossAt d first i j ≤ crossAt d first i k
+slots-up d first i j k h = within (crossStart d i) (slotOf i j) (slotOf i k) (slots i j k h)
   where
     within : (x s t : ℕ) → s ≤ t → first + x + 6 * s ≤ first + x + 6 * t
     within x s t z = omega arith

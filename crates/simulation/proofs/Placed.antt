@@ -14,7 +14,7 @@ use Rattle.circuit.proofs.Base.{cases, In, in-head, in-tail, Has}
 use Rattle.circuit.proofs.Parts.{index-lt, Pair, others-pair, InAND, is-r, is-R, is-B, is-m, is-M, is-u, is-U, is-v, is-V, is-w, is-W, and-has, InREF, fresh, added, ref-has}
 use Rattle.circuit.proofs.Sizes.{and-size, ref-size, gadget-size}
 use Rattle.circuit.proofs.Building.{part-at, output-at}
-use Rattle.simulation.specs.Internal.Places.{rowStart, pairAt, ownAt, cellAt, outAt, maskAt, sumAt, heldAt}
+use Rattle.simulation.specs.Internal.Places.{rowStart, pairAt, productAt, crossAt, outAt, maskAt, sumAt, heldAt}
 use Rattle.simulation.specs.Internal.Gates.{nothing, gateAt, AndGates, RefGates}
 use Rattle.simulation.proofs.Sites.{row-next, row-last, site, and-site, r-site, R-site, refSite, ref-site, fresh-site}
 
@@ -96,19 +96,19 @@ module _ (ws more : List Wire) (d : ℕ) (a b : ℕ → ℕ) (start end : ℕ) w
         placed (first + 2 * q + 1) (is-R i j o h) (omega (arith, k .is)) ∙ ap reg (wire-at (is-r i j o h) ∙ e),
       )
 
-  owned : (i : ℕ) → i < d → let x = ownAt d first i in (g x ≡ reg (b i)) × (g (x + 1) ≡ product (a i) x) × (g (x + 2) ≡ reg (x + 1))
-  owned i l =
-      let x = ownAt d first i in (
+  products : (i : ℕ) → i < d → let x = productAt d first i in (g x ≡ reg (b i)) × (g (x + 1) ≡ product (a i) x) × (g (x + 2) ≡ reg (x + 1))
+  products i l =
+      let x = productAt d first i in (
         placed x (is-B i l) (omega arith),
         placed (x + 1) (is-m i l) (omega arith) ∙ ap (product (a i)) (wire-at (is-B i l) ∙ omega arith),
         placed (x + 2) (is-M i l) (omega arith) ∙ ap reg (wire-at (is-m i l) ∙ omega arith),
       )
 
-  crossed : (i : ℕ) → i < d → (j : ℕ) → j < d → (j ≡ i → ⊥) → let x = cellAt d first i j in let y = pairAt d first i j in
+  crossed : (i : ℕ) → i < d → (j : ℕ) → j < d → (j ≡ i → ⊥) → let x = crossAt d first i j in let y = pairAt d first i j in
       (g x ≡ andNot (a i) (y + 1)) × (g (x + 1) ≡ reg x) × (g (x + 2) ≡ sum (b j ∷ y ∷ [])) × (g (x + 3) ≡ reg (x + 2))
       × (g (x + 4) ≡ product (a i) (x + 3)) × (g (x + 5) ≡ reg (x + 4))
   crossed i l j k ne =
-      let x = cellAt d first i j in
+      let x = crossAt d first i j in
       let y = pairAt d first i j in
       let o = apart l k ne in
       let R-at : wire (sorted parts.R i j) ≡ y + 1 = omega (arith, R-site d i j o) in
@@ -122,17 +122,17 @@ module _ (ws more : List Wire) (d : ℕ) (a b : ℕ → ℕ) (start end : ℕ) w
       )
 
   outputs : (i : ℕ) → i < d
-      → g (outAt d first i) ≡ sum ((ownAt d first i + 2) ∷ map (λ j. cellAt d first i j + 1) (others d i) ++ map (λ j. cellAt d first i j + 5) (others d i))
+      → g (outAt d first i) ≡ sum ((productAt d first i + 2) ∷ map (λ j. crossAt d first i j + 1) (others d i) ++ map (λ j. crossAt d first i j + 5) (others d i))
   outputs i l =
       let e : first + length (inAND d) + i ≡ outAt d first i = omega (arith, and-size d) in
-      let x : wire (parts.M i) ≡ ownAt d first i + 2 = wire-at (is-M i l) ∙ omega arith in
-      let us = map-on (λ j. wire (parts.U i j)) (λ j. cellAt d first i j + 1) (others d i) (λ j k. wire-at (is-U i j (others-pair d i j l k)) ∙ omega arith) in
-      let vs = map-on (λ j. wire (parts.W i j)) (λ j. cellAt d first i j + 5) (others d i) (λ j k. wire-at (is-W i j (others-pair d i j l k)) ∙ omega arith) in
+      let x : wire (parts.M i) ≡ productAt d first i + 2 = wire-at (is-M i l) ∙ omega arith in
+      let us = map-on (λ j. wire (parts.U i j)) (λ j. crossAt d first i j + 1) (others d i) (λ j k. wire-at (is-U i j (others-pair d i j l k)) ∙ omega arith) in
+      let vs = map-on (λ j. wire (parts.W i j)) (λ j. crossAt d first i j + 5) (others d i) (λ j k. wire-at (is-W i j (others-pair d i j l k)) ∙ omega arith) in
       subst (λ (n : ℕ). g n ≡ gate d a b wire (parts.c i)) e (outer-gate ws more d a b (inAND d) parts.c start end i l)
       ∙ λ n. sum ((x n ∷ us n) ++ vs n)
 
   pub and-gates : AndGates g d first a b
-  and-gates = record { draws = drawn; owns = owned; cells = crossed; outs = outputs }
+  and-gates = record { draws = drawn; products = products; crosses = crossed; outs = outputs }
 
 -- REF
 module _ (ws more : List Wire) (d : ℕ) (a b : ℕ → ℕ) (start end : ℕ) where

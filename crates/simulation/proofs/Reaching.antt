@@ -14,8 +14,9 @@ use Rattle.circuit.proofs.Base.{cases, or-cases, or-left, lt-ne, In, in-head, i
 use Rattle.circuit.proofs.Numbered.{all-get}
 use Rattle.semantics.specs.Probes.{isStop, operands, stops}
 use Rattle.semantics.proofs.Reading.{probe, stop-reads, gate-reads}
-use Rattle.simulation.specs.Internal.Gates.{nothing, gateAt}
-use Rattle.simulation.specs.Internal.Marks.{markAll, propagated, Ordered, Marked, Source, Moving}
+use Rattle.simulation.specs.Internal.Gates.{nothing, gateAt, OrderedFrom}
+use Rattle.simulation.specs.Internal.Marks.{markAll, propagated, Marked, Source, Moving}
+use Rattle.simulation.specs.Internal.Reading.{OnStops}
 use Rattle.simulation.proofs.Bits.{set-low, set-high}
 use Rattle.simulation.proofs.Marked.{mark-keep, mark-new, mark-cases, clear-cases, clear-other}
 
@@ -50,7 +51,7 @@ moving-start ws probes marks e l = record {
   settled = λ x h m. let k = l x (sym (e x) ∙ m) in absurd (omega arith);
 }
 
-module _ (ws : List Wire) (early : Ordered ws) (probes marks : List ℕ) (w : ℕ) (l : w < length ws) (room : length ws ≤ length marks) (h : Moving ws probes marks (suc w)) where
+module _ (ws : List Wire) (early : OrderedFrom 0 ws) (probes marks : List ℕ) (w : ℕ) (l : w < length ws) (room : length ws ≤ length marks) (h : Moving ws probes marks (suc w)) where
   abbrev g : Gate
   g = gateAt ws w
 
@@ -111,14 +112,13 @@ module _ (ws : List Wire) (early : Ordered ws) (probes marks : List ℕ) (w : �
   moving-stop e = stays (λ m. e)
 
 -- at the end the marked wires are the stops read
-pub moving-end : (ws : List Wire) → Ordered ws → (probes marks : List ℕ) → Moving ws probes marks 0 → (x : ℕ)
-    → (isSet (nth marks x) ≡ mem x (stops ws probes)) × (Marked marks x → x < length ws)
-moving-end ws early probes marks h x = (
-  same-test (isSet (nth marks x)) (mem x (stops ws probes))
+pub moving-end : (ws : List Wire) → OrderedFrom 0 ws → (probes marks : List ℕ) → Moving ws probes marks 0 → OnStops ws probes marks
+moving-end ws early probes marks h = record {
+  is = λ x. same-test (isSet (nth marks x)) (mem x (stops ws probes))
       (λ m. h .into x x m (rw (alone x m) (in-head x [])))
-      (λ i. let s = h .from x i in subst (Marked marks) (sym (in-one x (s .wire) (subst (In x) (alone (s .wire) (s .marked)) (s .reads)))) (s .marked)),
-  h .made x,
-)
+      (λ i. let s = h .from x i in subst (Marked marks) (sym (in-one x (s .wire) (subst (In x) (alone (s .wire) (s .marked)) (s .reads)))) (s .marked));
+  made = h .made;
+}
   where
     alone : (y : ℕ) → Marked marks y → probe ws y ≡ y ∷ []
     alone y m = stop-reads ws early nothing y (h .made y m) (h .settled y (omega arith) m)

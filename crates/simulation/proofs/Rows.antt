@@ -13,7 +13,7 @@ use Rattle.circuit.specs.Kinds.{pairs}
 use Rattle.circuit.proofs.Base.{cases}
 use Rattle.circuit.proofs.Sizes.{pairs-twice}
 use Rattle.semantics.specs.Values.{byte, xorSum}
-use Rattle.simulation.specs.Internal.Places.{slotOf, cellRow, pairSite, pairAt, ownAt, cellAt}
+use Rattle.simulation.specs.Internal.Places.{slotOf, crossStart, pairSite, pairAt, productAt, crossAt}
 use Rattle.simulation.specs.Internal.Filling.{Values, Known, Fills, crossingAt}
 use Rattle.simulation.specs.Internal.Gadgets.{CrossedBy, Crosses, RowCrossedBy, CrossesRow}
 use Rattle.simulation.proofs.Bounds.{eights}
@@ -42,14 +42,14 @@ slots i j k h = cases (ltb i j)
     (λ f. let t = ltb-false i k f in omega (arith, slot-low i j q, slot-low i k t)))
 
 -- r stands before B
-pub pair-early : (d first i j : ℕ) → i < d → j < d → (j ≡ i → ⊥) → pairAt d first i j < ownAt d first 0
+pub pair-early : (d first i j : ℕ) → i < d → j < d → (j ≡ i → ⊥) → pairAt d first i j < productAt d first 0
 pair-early d first i j l k ne = below (pairSite d i j) (pairs d) (d * (d - 1)) (pair-lt d i j l k ne) (pairs-twice d)
   where
     below : (x p n : ℕ) → x < p → p * 2 ≡ n → first + 2 * x < first + n + 3 * 0
     below x p n h e = omega arith
 
-pub own-early : (d first i j : ℕ) → j < d → ownAt d first j + 2 < first + cellRow d i
-own-early d first i j l = below (d * (d - 1)) (i * (d - 1))
+pub product-early : (d first i j : ℕ) → j < d → productAt d first j + 2 < first + crossStart d i
+product-early d first i j l = below (d * (d - 1)) (i * (d - 1))
   where
     below : (n m : ℕ) → first + n + 3 * j + 2 < first + (n + 3 * d + 6 * m)
     below n m = omega arith
@@ -60,13 +60,13 @@ slot-most d i j l k ne = cases (ltb i j)
     (λ e. let h = ltb-true i j e in omega (arith, slot-high i j h))
     (λ e. let h = ltb-false i j e in omega (arith, slot-low i j h, ne))
 
-pub row-next : (d first i : ℕ) → first + cellRow d i + 6 * (d - 1) ≡ first + cellRow d (i + 1)
+pub row-next : (d first i : ℕ) → first + crossStart d i + 6 * (d - 1) ≡ first + crossStart d (i + 1)
 row-next d first i = spread (d - 1) (d * (d - 1) + 3 * d)
   where
     spread : (n m : ℕ) → first + (m + 6 * (i * n)) + 6 * n ≡ first + (m + 6 * ((i + 1) * n))
     spread n m = omega arith
 
-pub row-room : (d first i : ℕ) → i < d → first + cellRow d (i + 1) ≤ first + cellRow d d
+pub row-room : (d first i : ℕ) → i < d → first + crossStart d (i + 1) ≤ first + crossStart d d
 row-room d first i l = more (mul-le-mul {n₁ = i + 1} {m₁ = d - 1} {n₂ = d} {m₂ = d - 1} (omega arith) (omega arith)) (d * (d - 1) + 3 * d)
   where
     more : (i + 1) * (d - 1) ≤ d * (d - 1) → (m : ℕ) → first + (m + 6 * ((i + 1) * (d - 1))) ≤ first + (m + 6 * (d * (d - 1)))
@@ -75,15 +75,15 @@ row-room d first i l = more (mul-le-mul {n₁ = i + 1} {m₁ = d - 1} {n₂ = d}
 -- the numbers of the share i of an AND
 pub record ShareOf (d first i : ℕ) : Type 0 where
   pub few : d * (d - 1) ≤ 64
-  pub own : ownAt d first i + 2 < first + cellRow d d
-  pub next : first + cellRow d i + 6 * (d - 1) ≡ first + cellRow d (i + 1)
-  pub room : first + cellRow d (i + 1) ≤ first + cellRow d d
+  pub product : productAt d first i + 2 < first + crossStart d d
+  pub next : first + crossStart d i + 6 * (d - 1) ≡ first + crossStart d (i + 1)
+  pub room : first + crossStart d (i + 1) ≤ first + crossStart d d
 
 pub share-of : (d first i : ℕ) → d ≤ 8 → i < d → ShareOf d first i
-share-of d first i few l = record { few = eights d (d - 1) few (omega arith); own = own-early d first d i l; next = row-next d first i; room = row-room d first i l }
+share-of d first i few l = record { few = eights d (d - 1) few (omega arith); product = product-early d first d i l; next = row-next d first i; room = row-room d first i l }
 
-pub cell-room : (d first i j : ℕ) → i < d → j < d → (j ≡ i → ⊥) → cellAt d first i j + 6 ≤ first + cellRow d d
-cell-room d first i j l k ne = within (cellRow d i) (cellRow d (i + 1)) (cellRow d d) (slotOf i j) (slot-most d i j l k ne) (row-next d first i) (row-room d first i l)
+pub cross-room : (d first i j : ℕ) → i < d → j < d → (j ≡ i → ⊥) → crossAt d first i j + 6 ≤ first + crossStart d d
+cross-room d first i j l k ne = within (crossStart d i) (crossStart d (i + 1)) (crossStart d d) (slotOf i j) (slot-most d i j l k ne) (row-next d first i) (row-room d first i l)
   where
     within : (x y z s : ℕ) → s + 1 ≤ d - 1 → first + x + 6 * (d - 1) ≡ first + y → first + y ≤ first + z → first + x + 6 * s + 6 ≤ first + z
     within x y z s h e m = omega arith
@@ -92,15 +92,15 @@ cell-room d first i j l k ne = within (cellRow d i) (cellRow d (i + 1)) (cellRow
 pub record RowOn (d first i a bit from to : ℕ) (old values : List ℕ) (sum j : ℕ) : Type 0 where
   pub low : from ≤ j
   pub high : j ≤ to
-  pub fills : Fills (RowCrossedBy d first i a) (cellAt d first i from) (cellAt d first i j) old values
-  pub adds : (y : Bool) → bit ≡ byte y → (v : Values) (e : RowCrossedBy d first i a v) → Known v 0 (cellAt d first i from) old
+  pub fills : Fills (RowCrossedBy d first i a) (crossAt d first i from) (crossAt d first i j) old values
+  pub adds : (y : Bool) → bit ≡ byte y → (v : Values) (e : RowCrossedBy d first i a v) → Known v 0 (crossAt d first i from) old
       → Adds (y ⊕ xorSum (range from (to - from)) (crossingAt d first i (e .x) v)) sum (xorSum (range j (to - j)) (crossingAt d first i (e .x) v))
 
 pub row-start : (d first i a bit from to : ℕ) (old : List ℕ) → from ≤ to → RowOn d first i a bit from to old old bit from
 row-start d first i a bit from to old h = record {
   low = omega arith;
   high = h;
-  fills = fills-none (cellAt d first i from) old;
+  fills = fills-none (crossAt d first i from) old;
   adds = λ y p v e k. adds-start y (xorSum (range from (to - from)) (crossingAt d first i (e .x) v)) p;
 }
 
@@ -109,34 +109,34 @@ module _ (d first i a bit from to : ℕ) (l : i < d) (most : to ≤ d) (apart : 
   row-end h =
       let e : j ≡ to = omega (arith, on .high) in
       record {
-        fills = subst (λ (n : ℕ). Fills (RowCrossedBy d first i a) (cellAt d first i from) (cellAt d first i n) old values) e (on .fills);
+        fills = subst (λ (n : ℕ). Fills (RowCrossedBy d first i a) (crossAt d first i from) (crossAt d first i n) old values) e (on .fills);
         adds = λ y p v q k. adds-end (on .adds y p v q k) (xorSum-end (crossingAt d first i (q .x) v) to j h);
       }
 
-  module _ (h : j < to) (new : List ℕ) (s : ℕ) (c : Crosses (cellAt d first i j) a (nth values (ownAt d first j)) (nth values (pairAt d first i j)) values new s) where
+  module _ (h : j < to) (new : List ℕ) (s : ℕ) (c : Crosses (crossAt d first i j) a (nth values (productAt d first j)) (nth values (pairAt d first i j)) values new s) where
     ne : j ≡ i → ⊥
     ne = apart j (on .low) h
 
-    later : cellAt d first i from ≤ cellAt d first i j
-    later = within (cellRow d i) (slotOf i from) (slotOf i j) (slots i from j (on .low))
+    later : crossAt d first i from ≤ crossAt d first i j
+    later = within (crossStart d i) (slotOf i from) (slotOf i j) (slots i from j (on .low))
       where
         within : (x s t : ℕ) → s ≤ t → first + x + 6 * s ≤ first + x + 6 * t
         within x s t h = omega arith
 
-    own-known : (v : Values) → Known v 0 (cellAt d first i j) values → nth values (ownAt d first j) ≡ byte (v (ownAt d first j))
-    own-known v k = k (ownAt d first j) (omega arith) (omega (arith, own-early d first i j (omega arith)))
+    product-known : (v : Values) → Known v 0 (crossAt d first i j) values → nth values (productAt d first j) ≡ byte (v (productAt d first j))
+    product-known v k = k (productAt d first j) (omega arith) (omega (arith, product-early d first i j (omega arith)))
 
-    pair-known : (v : Values) → Known v 0 (cellAt d first i j) values → nth values (pairAt d first i j) ≡ byte (v (pairAt d first i j))
-    pair-known v k = k (pairAt d first i j) (omega arith) (omega (arith, pair-early d first i j l (omega arith) ne, own-early d first i 0 (omega arith)))
+    pair-known : (v : Values) → Known v 0 (crossAt d first i j) values → nth values (pairAt d first i j) ≡ byte (v (pairAt d first i j))
+    pair-known v k = k (pairAt d first i j) (omega arith) (omega (arith, pair-early d first i j l (omega arith) ne, product-early d first i 0 (omega arith)))
 
-    by : (v : Values) → RowCrossedBy d first i a v → Known v 0 (cellAt d first i j) values
-        → CrossedBy (cellAt d first i j) a (nth values (ownAt d first j)) (nth values (pairAt d first i j)) v
+    by : (v : Values) → RowCrossedBy d first i a v → Known v 0 (crossAt d first i j) values
+        → CrossedBy (crossAt d first i j) a (nth values (productAt d first j)) (nth values (pairAt d first i j)) v
     by v e k = record {
       x = e .x;
-      y = v (ownAt d first j);
+      y = v (productAt d first j);
       z = v (pairAt d first i j);
       a-is = e .a-is;
-      b-is = own-known v k;
+      b-is = product-known v k;
       r-is = pair-known v k;
       crossed = e .crossed j (omega arith) ne;
     }
@@ -150,10 +150,10 @@ module _ (d first i a bit from to : ℕ) (l : i < d) (most : to ≤ d) (apart : 
           let f = crossingAt d first i (e .x) v in
           let known = known-all (on .fills) v e k in
           adds-turn s (f j) (xorSum (range (j + 1) (to - (j + 1))) f) (on .adds y p v e k) (xorSum-turn f to j h)
-          (c .adds (e .x) (v (ownAt d first j)) (v (pairAt d first i j)) (e .a-is) (own-known v known) (pair-known v known));
+          (c .adds (e .x) (v (productAt d first j)) (v (pairAt d first i j)) (e .a-is) (product-known v known) (pair-known v known));
     }
 
   -- the same, with places as the code finds them
-  pub row-turn-at : j < to → (p q : ℕ) → q ≡ cellAt d first i j → p ≡ pairAt d first i j → (new : List ℕ) (s : ℕ) → Crosses q a (nth values (ownAt d first j)) (nth values p) values new s
+  pub row-turn-at : j < to → (p q : ℕ) → q ≡ crossAt d first i j → p ≡ pairAt d first i j → (new : List ℕ) (s : ℕ) → Crosses q a (nth values (productAt d first j)) (nth values p) values new s
       → RowOn d first i a bit from to old new (bitXor sum s) (j + 1)
-  row-turn-at h p q eq ep new s c = row-turn h new s (subst₂ (λ x y. Crosses x a (nth values (ownAt d first j)) (nth values y) values new s) eq ep c)
+  row-turn-at h p q eq ep new s c = row-turn h new s (subst₂ (λ x y. Crosses x a (nth values (productAt d first j)) (nth values y) values new s) eq ep c)

@@ -14,7 +14,7 @@ use Rattle.circuit.proofs.Base.{cases, ltb-other, AllFrom, all-append}
 use Rattle.circuit.proofs.Numbered.{at-all}
 use Rattle.circuit.proofs.Parts.{index-at, Pair, other, InAND, is-r, is-R, and-has, InREF, fresh, ref-has, cell1, cell2, cell3, sec1, sec2, sec3, fresh1}
 use Rattle.circuit.proofs.Sizes.{pairs-twice}
-use Rattle.simulation.specs.Internal.Places.{rowStart, pairSite, slotOf, cellRow}
+use Rattle.simulation.specs.Internal.Places.{rowStart, pairSite, slotOf, crossStart}
 use Rattle.simulation.proofs.Ranges.{above-is, others-is, Follows, concatMap-length, all-each, concatMap-append}
 
 -- the first pair of the next row, and the number of all pairs
@@ -62,12 +62,12 @@ site d (R i j) = 2 * (rowStart d i + (j - i - 1)) + 1
 site d (B i) = d * (d - 1) + 3 * i
 site d (m i) = d * (d - 1) + 3 * i + 1
 site d (M i) = d * (d - 1) + 3 * i + 2
-site d (u i j) = cellRow d i + 6 * slotOf i j
-site d (U i j) = cellRow d i + 6 * slotOf i j + 1
-site d (v i j) = cellRow d i + 6 * slotOf i j + 2
-site d (V′ i j) = cellRow d i + 6 * slotOf i j + 3
-site d (w i j) = cellRow d i + 6 * slotOf i j + 4
-site d (W i j) = cellRow d i + 6 * slotOf i j + 5
+site d (u i j) = crossStart d i + 6 * slotOf i j
+site d (U i j) = crossStart d i + 6 * slotOf i j + 1
+site d (v i j) = crossStart d i + 6 * slotOf i j + 2
+site d (V′ i j) = crossStart d i + 6 * slotOf i j + 3
+site d (w i j) = crossStart d i + 6 * slotOf i j + 4
+site d (W i j) = crossStart d i + 6 * slotOf i j + 5
 site d (c i) = 0
 site d (s i) = 0
 site d (S i) = 0
@@ -121,20 +121,20 @@ module _ (d : ℕ) where
   length2 : length (sec2 d) ≡ 3 * d
   length2 = omega (arith, concatMap-length cell2 (λ i. d * (d - 1) + 3 * i) 0 d follows2)
 
-  row3 : (i : ℕ) → i < d → AllFrom At (cellRow d i) (concatMap (others d i) (cell3 i))
+  row3 : (i : ℕ) → i < d → AllFrom At (crossStart d i) (concatMap (others d i) (cell3 i))
   row3 i l =
-      let low : ℕ → ℕ = λ j. cellRow d i + 6 * j in
-      let high : ℕ → ℕ = λ j. cellRow d i + 6 * (j - 1) in
-      let none : low 0 ≡ cellRow d i = omega arith in
-      let count : cellRow d i + length (concatMap (range 0 i) (cell3 i)) ≡ high (suc i) = omega (arith, concatMap-length (cell3 i) low 0 i (λ j k z. omega arith)) in
+      let low : ℕ → ℕ = λ j. crossStart d i + 6 * j in
+      let high : ℕ → ℕ = λ j. crossStart d i + 6 * (j - 1) in
+      let none : low 0 ≡ crossStart d i = omega arith in
+      let count : crossStart d i + length (concatMap (range 0 i) (cell3 i)) ≡ high (suc i) = omega (arith, concatMap-length (cell3 i) low 0 i (λ j k z. omega arith)) in
       rw (others-is d i l, concatMap-append (range 0 i) (range (suc i) (d - suc i)) (cell3 i))
-      (all-append At (cellRow d i) (concatMap (range 0 i) (cell3 i)) (concatMap (range (suc i) (d - suc i)) (cell3 i))
+      (all-append At (crossStart d i) (concatMap (range 0 i) (cell3 i)) (concatMap (range (suc i) (d - suc i)) (cell3 i))
       (subst (λ (n : ℕ). AllFrom At n (concatMap (range 0 i) (cell3 i))) none
       (all-each (cell3 i) low At 0 i (λ j k z. omega arith) (λ j k z. six i j j (ap (λ b. cond b (j - 1) j) (le-ltb i j (omega arith))))))
       (subst (λ (n : ℕ). AllFrom At n (concatMap (range (suc i) (d - suc i)) (cell3 i))) (sym count)
       (all-each (cell3 i) high At (suc i) (d - suc i) (λ j k z. omega arith) (λ j k z. six i j (j - 1) (ap (λ b. cond b (j - 1) j) (lt-ltb i j (omega arith)))))))
     where
-      six : (i j n : ℕ) → slotOf i j ≡ n → AllFrom At (cellRow d i + 6 * n) (cell3 i j)
+      six : (i j n : ℕ) → slotOf i j ≡ n → AllFrom At (crossStart d i + 6 * n) (cell3 i j)
       six i j n e = (omega (arith, e), (omega (arith, e), (omega (arith, e), (omega (arith, e), (omega (arith, e), (omega (arith, e), tt))))))
 
   row3-length : (i : ℕ) → i < d → length (concatMap (others d i) (cell3 i)) ≡ 6 * (d - 1)
@@ -157,12 +157,12 @@ module _ (d : ℕ) where
   sites =
       let none : 2 * rowStart d 0 ≡ 0 = omega arith in
       let two : d * (d - 1) + 3 * 0 ≡ 0 + length (sec1 d) = omega (arith, length1) in
-      let three : cellRow d 0 ≡ 0 + length (sec1 d ++ sec2 d) = omega (arith, length1, length2, length-append (sec1 d) (sec2 d)) in
+      let three : crossStart d 0 ≡ 0 + length (sec1 d ++ sec2 d) = omega (arith, length1, length2, length-append (sec1 d) (sec2 d)) in
       all-append At 0 (sec1 d ++ sec2 d) (sec3 d)
       (all-append At 0 (sec1 d) (sec2 d)
       (subst (λ (n : ℕ). AllFrom At n (sec1 d)) none (all-each (λ i. concatMap (above d i) (cell1 i)) (λ i. 2 * rowStart d i) At 0 d follows1 (λ i k z. row1 i (omega arith))))
       (subst (λ (n : ℕ). AllFrom At n (sec2 d)) two (all-each cell2 (λ i. d * (d - 1) + 3 * i) At 0 d follows2 (λ i k z. (refl, (omega arith, (omega arith, tt)))))))
-      (subst (λ (n : ℕ). AllFrom At n (sec3 d)) three (all-each (λ i. concatMap (others d i) (cell3 i)) (cellRow d) At 0 d
+      (subst (λ (n : ℕ). AllFrom At n (sec3 d)) three (all-each (λ i. concatMap (others d i) (cell3 i)) (crossStart d) At 0 d
       (λ i k z. omega (arith, row3-length i (omega arith))) (λ i k z. row3 i (omega arith))))
 
   pub and-site : {p : Part} → InAND d p → index p (inAND d) ≡ site d p

@@ -1,7 +1,7 @@
 // Where the wires of AND and REF stand, as offsets from the gadget's first wire.
 ghost use mathlib.Core.Path.{_≡_};
 ghost use Prim.Native.Nat.{_*_, _/_, _-_, _≤_, _<_};
-ghost use Rattle.simulation.specs.Internal.Places.{rowStart, pairSite, slotOf, cellRow};
+ghost use Rattle.simulation.specs.Internal.Places.{rowStart, pairSite, slotOf, crossStart};
 
 // How many pairs two of d shares make.
 pub(crate) fn pairs(d: usize) -> usize
@@ -41,9 +41,9 @@ pub(crate) fn slot(i: usize, j: usize) -> usize
 }
 
 // Where the parts of AND begin that belong to the share i and another; of i = d, where the outputs begin.
-pub(crate) fn cell_row(d: usize, i: usize) -> usize
+pub(crate) fn cross_start(d: usize, i: usize) -> usize
     requires { ⌜ (i ≤ d) × (0 < d) × (d ≤ 8) ⌝ }
-    ensures { λ r. ⌜ (r ≡ cellRow d i) × (r ≤ 512) ⌝ }
+    ensures { λ r. ⌜ (r ≡ crossStart d i) × (r ≤ 512) ⌝ }
 {
     d * (d - 1) + 3 * d + 6 * (i * (d - 1))
 }

@@ -3,13 +3,14 @@ ghost use mathlib.Core.Path.{_≡_};
 ghost use mathlib.Core.List.{[], _∷_, map};
 ghost use Prim.Native.Nat.{ℕ, _+_, _-_, _*_, _≤_, _<_};
 ghost use lib.ListN.{length};
+ghost use Rattle.circuit.specs.Limits.{wireLimit};
 ghost use Rattle.circuit.specs.Lists.{range};
 ghost use Rattle.circuit.specs.Gadgets.{others};
 ghost use Rattle.circuit.specs.Kinds.{pairs};
-ghost use Rattle.simulation.specs.Internal.Places.{wordA, wordB, ownAt, cellRow, cellAt, outAt, maskAt, sumAt};
-ghost use Rattle.simulation.specs.Internal.Gates.{CellGates, CellsGates, RowsGates, OwnsGates, OutGates, AndGates, SumGates, RefGates};
+ghost use Rattle.simulation.specs.Internal.Places.{wordA, wordB, productAt, crossStart, crossAt, outAt, maskAt, sumAt};
+ghost use Rattle.simulation.specs.Internal.Gates.{CrossGates, CrossRowGates, CrossAllGates, ProductsGates, OutGates, AndGates, SumGates, RefGates};
 ghost use Rattle.simulation.specs.Internal.Gadgets.{Small, RowBefore, Roomy};
-ghost use Rattle.simulation.specs.Internal.Marks.{markAll, propagated, sixes, outWires, Moves};
+ghost use Rattle.simulation.specs.Internal.Marks.{markAll, propagated, sixApart, outWires, Moves};
 use super::places;
 
 // The mark of a wire goes to two others.
@@ -26,9 +27,9 @@ pub(crate) fn propagate(marks: &mut [u8], wire: usize, one: usize, other: usize)
 }
 
 // Marks on so many wires, six apart.
-fn mark_sixes(marks: &mut [u8], from: usize, count: usize)
-    requires { ⌜ (from + 6 * count ≤ length (now marks) + 5) × (from ≤ 16384) × (count ≤ 8) ⌝ }
-    ensures { λ _. ⌜ now (marks .exit) ≡ markAll (now (marks .entry)) (sixes from count) ⌝ }
+fn mark_six_apart(marks: &mut [u8], from: usize, count: usize)
+    requires { ⌜ (from + 6 * count ≤ length (now marks) + 5) × (from ≤ 2 * wireLimit) × (count ≤ 8) ⌝ }
+    ensures { λ _. ⌜ now (marks .exit) ≡ markAll (now (marks .entry)) (sixApart from count) ⌝ }
 {
     let mut x = from;
     let mut k = 0;
@@ -44,14 +45,14 @@ fn propagate_output(marks: &mut [u8], first: usize, d: usize, i: usize)
     requires { ⌜ Small first d × (i < d) × Roomy d first (now marks) ⌝ }
     ensures { λ _. ⌜ now (marks .exit) ≡ propagated (outAt d first i) (outWires d first i) (now (marks .entry)) ⌝ }
 {
-    let wire = first + places::cell_row(d, d) + i;
+    let wire = first + places::cross_start(d, d) + i;
     if marks[wire] < 1 {
         return;
     }
-    let row = first + places::cell_row(d, i);
+    let row = first + places::cross_start(d, i);
     marks[first + d * (d - 1) + 3 * i + 2] = 1;
-    mark_sixes(marks, row + 1, d - 1);
-    mark_sixes(marks, row + 5, d - 1);
+    mark_six_apart(marks, row + 1, d - 1);
+    mark_six_apart(marks, row + 5, d - 1);
     marks[wire] = 0;
 }
 
@@ -70,7 +71,7 @@ fn propagate_outputs(marks: &mut [u8], first: usize, d: usize)
 // The wires w, v and u of two shares, from the wire u on, with a(i), b(j) and r(i,j).
 fn propagate_cross(marks: &mut [u8], at: usize, a: usize, b: usize, r: usize)
     requires { ⌜ (at + 6 ≤ length (now marks)) × (a < at) × (b < at) × (r + 1 < at) ⌝ }
-    ensures { λ _. ⌜ Moves (CellGates at a b r) at (at + 6) (now (marks .entry)) (now (marks .exit)) ⌝ }
+    ensures { λ _. ⌜ Moves (CrossGates at a b r) at (at + 6) (now (marks .entry)) (now (marks .exit)) ⌝ }
 {
     propagate(marks, at + 4, a, at + 3);
     propagate(marks, at + 2, b, r);
@@ -88,10 +89,10 @@ fn propagate_row(
     to: usize,
 )
     requires { ⌜ Small first d × (i < d) × (to ≤ d) × Roomy d first (now marks) × ((j : ℕ) → from ≤ j → j < to → j ≡ i → ⊥) × (from ≤ to) × (length (now ops) ≡ 1 + d + d) × RowBefore first d (wordA (now ops)) × RowBefore first d (wordB d (now ops)) ⌝ }
-    ensures { λ _. ⌜ Moves (CellsGates d first (wordA (now (ops .entry))) (wordB d (now (ops .entry))) i) (cellAt d first i from) (cellAt d first i to) (now (marks .entry)) (now (marks .exit)) ⌝ }
+    ensures { λ _. ⌜ Moves (CrossRowGates d first (wordA (now (ops .entry))) (wordB d (now (ops .entry))) i) (crossAt d first i from) (crossAt d first i to) (now (marks .entry)) (now (marks .exit)) ⌝ }
 {
     let a = ops[1 + i] as usize;
-    let start = first + places::cell_row(d, i);
+    let start = first + places::cross_start(d, i);
     let mut j = to;
     while from < j {
         j -= 1;
@@ -104,7 +105,7 @@ fn propagate_row(
 // The same of every share and each other.
 fn propagate_rows(marks: &mut [u8], first: usize, d: usize, ops: &[u16])
     requires { ⌜ Small first d × Roomy d first (now marks) × (length (now ops) ≡ 1 + d + d) × RowBefore first d (wordA (now ops)) × RowBefore first d (wordB d (now ops)) ⌝ }
-    ensures { λ _. ⌜ Moves (RowsGates d first (wordA (now (ops .entry))) (wordB d (now (ops .entry)))) (first + cellRow d 0) (first + cellRow d d) (now (marks .entry)) (now (marks .exit)) ⌝ }
+    ensures { λ _. ⌜ Moves (CrossAllGates d first (wordA (now (ops .entry))) (wordB d (now (ops .entry)))) (first + crossStart d 0) (first + crossStart d d) (now (marks .entry)) (now (marks .exit)) ⌝ }
 {
     let mut i = d;
     while 0 < i {
@@ -117,15 +118,15 @@ fn propagate_rows(marks: &mut [u8], first: usize, d: usize, ops: &[u16])
 // The wires m of all shares. Their B and M are stops.
 fn propagate_products(marks: &mut [u8], first: usize, d: usize, ops: &[u16])
     requires { ⌜ Small first d × Roomy d first (now marks) × (length (now ops) ≡ 1 + d + d) × RowBefore first d (wordA (now ops)) ⌝ }
-    ensures { λ _. ⌜ Moves (OwnsGates d first (wordA (now (ops .entry))) (wordB d (now (ops .entry)))) (ownAt d first 0) (ownAt d first d) (now (marks .entry)) (now (marks .exit)) ⌝ }
+    ensures { λ _. ⌜ Moves (ProductsGates d first (wordA (now (ops .entry))) (wordB d (now (ops .entry)))) (productAt d first 0) (productAt d first d) (now (marks .entry)) (now (marks .exit)) ⌝ }
 {
     let start = first + d * (d - 1);
     let mut i = d;
     while 0 < i {
         i -= 1;
         let a = ops[1 + i] as usize;
-        let own = start + 3 * i;
-        propagate(marks, own + 1, a, own);
+        let product = start + 3 * i;
+        propagate(marks, product + 1, a, product);
     }
 }
 

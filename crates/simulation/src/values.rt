@@ -3,12 +3,12 @@ ghost use mathlib.Core.Path.{_≡_};
 ghost use mathlib.Core.Bool.{not};
 ghost use Prim.Native.Nat.{_+_, _≤_, _<_};
 ghost use lib.ListN.{length};
-ghost use Rattle.circuit.specs.Lists.{_⊕_};
+ghost use Rattle.circuit.specs.Lists.{_⊕_, overwrite};
 ghost use Rattle.circuit.specs.Circuit.{isSet};
-ghost use Rattle.semantics.specs.Values.{byte};
-ghost use Rattle.simulation.specs.Internal.Filling.{Fills, Bits, FrameValues, frameMakes};
-ghost use Rattle.simulation.specs.Internal.Gadgets.{Small, FrameReady};
-ghost use Rattle.simulation.specs.Internal.Evaluating.{Evaluable, Evaluates};
+ghost use Rattle.semantics.specs.Values.{byte, bits, bytes, valuesOf};
+ghost use Rattle.simulation.specs.Internal.Filling.{Fills, Bits, FrameValues, frameWires};
+ghost use Rattle.simulation.specs.Internal.Gadgets.{Small, FrameEarly, FrameSupplied};
+ghost use Rattle.simulation.specs.Internal.Accepting.{Evaluable, circuitIn};
 use super::gadget;
 use frames::walk::Frame;
 use frames::walk::Gate;
@@ -75,8 +75,8 @@ fn write_frame(
     shares: &[u8],
     tape: &[u8],
 )
-    requires { ⌜ Small (ends .wires) d × (ends .wires + frameMakes frame d ≤ length (now values)) × FrameReady frame d (ends .wires) (ends .shares) (ends .randoms) (now ops) (length (now shares)) (length (now tape)) × Bits (now shares) × Bits (now tape) ⌝ }
-    ensures { λ _. ⌜ Fills (FrameValues frame d (ends .wires) (ends .shares) (ends .randoms) (now (ops .entry)) (now (shares .entry)) (now (tape .entry))) (ends .wires) (ends .wires + frameMakes frame d) (now (values .entry)) (now (values .exit)) ⌝ }
+    requires { ⌜ Small (ends .wires) d × (ends .wires + frameWires frame d ≤ length (now values)) × FrameEarly frame d (ends .wires) (now ops) × FrameSupplied frame d (ends .shares) (ends .randoms) (length (now shares)) (length (now tape)) × Bits (now shares) × Bits (now tape) ⌝ }
+    ensures { λ _. ⌜ Fills (FrameValues frame d (ends .wires) (ends .shares) (ends .randoms) (now (ops .entry)) (now (shares .entry)) (now (tape .entry))) (ends .wires) (ends .wires + frameWires frame d) (now (values .entry)) (now (values .exit)) ⌝ }
 {
     let first = ends.wires;
     match frame {
@@ -103,7 +103,7 @@ fn write_frame(
 // The values of an accepted table's wires.
 pub fn fill(table: &[u16], shares: &[u8], tape: &[u8], values: &mut [u8])
     requires { ⌜ Evaluable (now table) (now shares) (now tape) (length (now values)) ⌝ }
-    ensures { λ _. ⌜ Evaluates (now (table .entry)) (now (shares .entry)) (now (tape .entry)) (now (values .entry)) (now (values .exit)) ⌝ }
+    ensures { λ _. ⌜ now (values .exit) ≡ overwrite (bytes (valuesOf (circuitIn (now (table .entry)) .wires) (bits (now (shares .entry))) (bits (now (tape .entry))))) (now (values .entry)) ⌝ }
 {
     let d = table[1];
     let n = d as usize;

@@ -13,8 +13,8 @@ pairs-requires c κs = (omega arith, omega arith)
 draws-requires : tie.Need-draws-requires
 draws-requires c κs = (omega arith, omega arith, c .before .before .before .before .before .pre .6)
 
-owns-requires : tie.Need-owns-requires
-owns-requires c κs = (c .before .before .before .before .before .before .before .before .before .pre .0, c .before .before .before .before .before .before .before .before .before .pre .1, c .before .before .before .before .before .before .before .before .before .pre .2, c .before .before .before .before .before .before .before .before .before .pre .3, omega arith)
+share-products-requires : tie.Need-share-products-requires
+share-products-requires c κs = (c .before .before .before .before .before .before .before .before .before .pre .0, c .before .before .before .before .before .before .before .before .before .pre .1, c .before .before .before .before .before .before .before .before .before .pre .2, c .before .before .before .before .before .before .before .before .before .pre .3, omega arith)
 
 cross-all-requires : tie.Need-cross-all-requires
 cross-all-requires c κs = (c .before .before .before .before .before .before .before .before .before .before .before .before .before .pre .0, omega arith, c .before .before .before .before .before .before .before .before .before .before .before .before .before .pre .2, omega arith)
@@ -22,10 +22,10 @@ cross-all-requires c κs = (c .before .before .before .before .before .before .b
 returns : tie.Need-returns
 returns c =
     let a = c .before .before .before .before .before .before .before .before .before .before .before .before .before .before .before .before .args in
-    and-filled (a .d) (a .first) (wordA (a .ops .now)) (wordB (a .d) (a .ops .now)) (a .tape .now) (a .used) (a .values .now) (c .before .before .before .before .before .before .before .before .before .before .draws .last .0) (c .before .before .before .before .before .before .owns .last .0) (c .before .before .cross-all .last .0)
-    (c .before .before .before .before .before .before .before .before .before .before .before .pairs .result) (c .before .before .before .before .before .before .before .before .before .before .before .pairs .ensures .0) (c .before .before .before .before .before .before .before .before .before .before .draws .ensures) (c .before .before .before .before .before .before .owns .ensures) (c .before .before .cross-all .ensures)
+    and-filled (a .d) (a .first) (wordA (a .ops .now)) (wordB (a .d) (a .ops .now)) (a .tape .now) (a .used) (a .values .now) (c .before .before .before .before .before .before .before .before .before .before .draws .last .0) (c .before .before .before .before .before .before .share-products .last .0) (c .before .before .cross-all .last .0)
+    (c .before .before .before .before .before .before .before .before .before .before .before .pairs .result) (c .before .before .before .before .before .before .before .before .before .before .before .pairs .ensures .0) (c .before .before .before .before .before .before .before .before .before .before .draws .ensures) (c .before .before .before .before .before .before .share-products .ensures) (c .before .before .cross-all .ensures)
 
 pub and-spec : {M : Type 1} → statement M
 and-spec =
     tie.close
-    (tie.spec pairs-requires draws-requires owns-requires cross-all-requires (λ c. search needs) returns)
+    (tie.spec pairs-requires draws-requires share-products-requires cross-all-requires (λ c. search needs) returns)

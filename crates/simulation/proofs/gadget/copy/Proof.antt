@@ -11,10 +11,10 @@ use Rattle.simulation.proofs.Filled.{fills-none, fills-at, fills-set}
 use Rattle.simulation.specs.Internal.Filling.{Fills, Copied}
 
 abbrev Inv-loop : tie.InvT-loop
-Inv-loop values₀ at sheet from count q₀ values q = (q ≤ count) × Fills (Copied sheet from at count) at (at + q) values₀ values
+Inv-loop values₀ at bits from count q₀ values q = (q ≤ count) × Fills (Copied bits from at count) at (at + q) values₀ values
 
 abbrev μ-loop : tie.MeasureT-loop
-μ-loop values₀ at sheet from count q₀ values q = count - q
+μ-loop values₀ at bits from count q₀ values q = count - q
 
 loop-holds : tie.Need-loop-holds Inv-loop μ-loop
 loop-holds c = (omega arith, fills-at refl (omega arith) (fills-none (c .args .at) (c .args .values .now)))
@@ -42,8 +42,8 @@ loop-again c =
     let a = c .before .before .before .args in
     let q = c .before .before .loop .q in (
       omega arith,
-      fills-at refl (omega arith) (fills-set (nth (a .sheet .now) (a .from + q)) (c .before .before .loop .inv .1) (omega arith) (omega arith)
-          (λ v e k. set-byte (nth (a .sheet .now) (a .from + q)) (c .before .before .before .pre .2 (a .from + q)) ∙ ap byte (sym (e q (c .before .loop-test .taken))))),
+      fills-at refl (omega arith) (fills-set (nth (a .bits .now) (a .from + q)) (c .before .before .loop .inv .1) (omega arith) (omega arith)
+          (λ v e k. set-byte (nth (a .bits .now) (a .from + q)) (c .before .before .before .pre .2 (a .from + q)) ∙ ap byte (sym (e q (c .before .loop-test .taken))))),
     )
 
 same-length : tie.Need-same-length Inv-loop μ-loop

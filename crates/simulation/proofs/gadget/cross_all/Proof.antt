@@ -11,22 +11,22 @@ use Rattle.simulation.specs.Internal.Places.{wordA, outAt}
 use Rattle.simulation.proofs.Outputs.{OutputsOn, outputs-start, outputs-turn, outputs-end}
 
 abbrev Inv-loop : tie.InvT-loop
-Inv-loop values₀ first d ops own outs i₀ values i = OutputsOn d first (wordA ops) values₀ values i
+Inv-loop values₀ first d ops product outs i₀ values i = OutputsOn d first (wordA ops) values₀ values i
 
 abbrev μ-loop : tie.MeasureT-loop
-μ-loop values₀ first d ops own outs i₀ values i = d - i
+μ-loop values₀ first d ops product outs i₀ values i = d - i
 
-sub-own : tie.Need-sub-own Inv-loop μ-loop
-sub-own c = omega arith
+sub-product : tie.Need-sub-product Inv-loop μ-loop
+sub-product c = omega arith
 
-mul-own : tie.Need-mul-own Inv-loop μ-loop
-mul-own c = record { fits = omega arith }
+mul-product : tie.Need-mul-product Inv-loop μ-loop
+mul-product c = record { fits = omega arith }
 
-add-own : tie.Need-add-own Inv-loop μ-loop
-add-own c = record { fits = omega arith }
+add-product : tie.Need-add-product Inv-loop μ-loop
+add-product c = record { fits = omega arith }
 
-cell-row-requires : tie.Need-cell-row-requires Inv-loop μ-loop
-cell-row-requires c κs = (omega arith, omega arith, omega arith)
+cross-start-requires : tie.Need-cross-start-requires Inv-loop μ-loop
+cross-start-requires c κs = (omega arith, omega arith, omega arith)
 
 add-outs : tie.Need-add-outs Inv-loop μ-loop
 add-outs c = record { fits = omega arith }
@@ -80,7 +80,7 @@ loop-again : tie.Need-loop-again Inv-loop μ-loop
 loop-again c =
     let a = c .before .before .before .before .before .before .before .before .before .before .before .before .before .before .before .before .args in
     let i = c .before .before .before .before .before .before .before .before .before .before .before .before .loop .i in
-    let e : a .first + c .before .before .before .before .before .before .before .before .before .before .before .before .before .cell-row .result + i ≡ outAt (a .d) (a .first) i = omega arith in
+    let e : a .first + c .before .before .before .before .before .before .before .before .before .before .before .before .before .cross-start .result + i ≡ outAt (a .d) (a .first) i = omega arith in
     subst (λ (n : ℕ). OutputsOn (a .d) (a .first) (wordA (a .ops .now)) (a .values .now) (set (c .before .before .cross-row2 .last .0) n (c .before .before .cross-row2 .result)) (i + 1)) (sym e)
     (outputs-turn (a .d) (a .first) (wordA (a .ops .now)) (a .values .now) (c .before .before .before .before .before .before .before .before .before .before .before .before .loop .values) i (c .before .before .before .before .before .before .before .before .before .before .before .loop-test .taken) (c .before .before .before .before .before .before .before .before .before .before .before .before .before .before .before .before .pre .2 i (c .before .before .before .before .before .before .before .before .before .before .before .loop-test .taken)) (c .before .before .before .before .before .before .before .before .before .before .before .before .before .before .before .before .pre .3) (c .before .before .before .before .before .before .before .before .before .before .before .before .loop .inv)
     (c .before .before .before .before .before .before .cross-row .last .0) (c .before .before .cross-row2 .last .0) (c .before .before .before .before .before .before .cross-row .result) (c .before .before .cross-row2 .result) (c .before .before .before .before .before .before .cross-row .ensures) (c .before .before .cross-row2 .ensures))
@@ -97,10 +97,10 @@ cross-all-spec =
     (tie.spec
     Inv-loop
     μ-loop
-    sub-own
-    mul-own
-    add-own
-    cell-row-requires
+    sub-product
+    mul-product
+    add-product
+    cross-start-requires
     add-outs
     loop-holds
     (λ c. search needs)

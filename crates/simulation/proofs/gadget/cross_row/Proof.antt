@@ -5,25 +5,25 @@ use borrow.Author.Needs.{needs}
 use Rattle.simulation.proofs.gadget.cross_row.Statement.{statement}
 use Rattle.simulation.proofs.gadget.cross_row.Tie as tie
 use Rattle.simulation.proofs.Bounds.{eights}
-use Rattle.simulation.proofs.Rows.{RowOn, row-start, row-turn-at, row-end, pair-early, own-early, cell-room}
+use Rattle.simulation.proofs.Rows.{RowOn, row-start, row-turn-at, row-end, pair-early, product-early, cross-room}
 
 abbrev Inv-loop : tie.InvT-loop
-Inv-loop values₀ first d i a bit from to own start sum₀ j₀ values sum j = RowOn d first i a bit from to values₀ values sum j
+Inv-loop values₀ first d i a bit from to product start sum₀ j₀ values sum j = RowOn d first i a bit from to values₀ values sum j
 
 abbrev μ-loop : tie.MeasureT-loop
-μ-loop values₀ first d i a bit from to own start sum₀ j₀ values sum j = to - j
+μ-loop values₀ first d i a bit from to product start sum₀ j₀ values sum j = to - j
 
-sub-own : tie.Need-sub-own Inv-loop μ-loop
-sub-own c = omega arith
+sub-product : tie.Need-sub-product Inv-loop μ-loop
+sub-product c = omega arith
 
-mul-own : tie.Need-mul-own Inv-loop μ-loop
-mul-own c = record { fits = omega arith }
+mul-product : tie.Need-mul-product Inv-loop μ-loop
+mul-product c = record { fits = omega arith }
 
-add-own : tie.Need-add-own Inv-loop μ-loop
-add-own c = record { fits = omega arith }
+add-product : tie.Need-add-product Inv-loop μ-loop
+add-product c = record { fits = omega arith }
 
-cell-row-requires : tie.Need-cell-row-requires Inv-loop μ-loop
-cell-row-requires c κs = (omega arith, omega arith, omega arith)
+cross-start-requires : tie.Need-cross-start-requires Inv-loop μ-loop
+cross-start-requires c κs = (omega arith, omega arith, omega arith)
 
 add-start : tie.Need-add-start Inv-loop μ-loop
 add-start c = record { fits = omega arith }
@@ -41,7 +41,7 @@ add-r : tie.Need-add-r Inv-loop μ-loop
 add-r c = record { fits = omega arith }
 
 slice-read-r : tie.Need-slice-read-r Inv-loop μ-loop
-slice-read-r c = omega (arith, eights (c .before .before .before .before .before .before .args .d) (c .before .before .before .before .before .before .args .d - 1) (omega arith) (omega arith), pair-early (c .before .before .before .before .before .before .args .d) (c .before .before .before .before .before .before .args .first) (c .before .before .before .before .before .before .args .i) (c .before .before .before .loop .j) (c .before .before .before .before .before .before .pre .1) (omega arith) (c .before .before .before .before .before .before .pre .4 (c .before .before .before .loop .j) (c .before .before .before .loop .inv .low) (c .before .before .loop-test .taken)), own-early (c .before .before .before .before .before .before .args .d) (c .before .before .before .before .before .before .args .first) (c .before .before .before .before .before .before .args .d) 0 (omega arith))
+slice-read-r c = omega (arith, eights (c .before .before .before .before .before .before .args .d) (c .before .before .before .before .before .before .args .d - 1) (omega arith) (omega arith), pair-early (c .before .before .before .before .before .before .args .d) (c .before .before .before .before .before .before .args .first) (c .before .before .before .before .before .before .args .i) (c .before .before .before .loop .j) (c .before .before .before .before .before .before .pre .1) (omega arith) (c .before .before .before .before .before .before .pre .4 (c .before .before .before .loop .j) (c .before .before .before .loop .inv .low) (c .before .before .loop-test .taken)), product-early (c .before .before .before .before .before .before .args .d) (c .before .before .before .before .before .before .args .first) (c .before .before .before .before .before .before .args .d) 0 (omega arith))
 
 mul-b : tie.Need-mul-b Inv-loop μ-loop
 mul-b c = record { fits = omega arith }
@@ -59,7 +59,7 @@ add-cross : tie.Need-add-cross Inv-loop μ-loop
 add-cross c = record { fits = omega arith }
 
 cross-requires : tie.Need-cross-requires Inv-loop μ-loop
-cross-requires c κs = omega (arith, eights (c .before .before .before .before .before .before .before .before .before .args .d) (c .before .before .before .before .before .before .before .before .before .args .d - 1) (omega arith) (omega arith), cell-room (c .before .before .before .before .before .before .before .before .before .args .d) (c .before .before .before .before .before .before .before .before .before .args .first) (c .before .before .before .before .before .before .before .before .before .args .i) (c .before .before .before .before .before .before .loop .j) (c .before .before .before .before .before .before .before .before .before .pre .1) (omega arith) (c .before .before .before .before .before .before .before .before .before .pre .4 (c .before .before .before .before .before .before .loop .j) (c .before .before .before .before .before .before .loop .inv .low) (c .before .before .before .before .before .loop-test .taken)))
+cross-requires c κs = omega (arith, eights (c .before .before .before .before .before .before .before .before .before .args .d) (c .before .before .before .before .before .before .before .before .before .args .d - 1) (omega arith) (omega arith), cross-room (c .before .before .before .before .before .before .before .before .before .args .d) (c .before .before .before .before .before .before .before .before .before .args .first) (c .before .before .before .before .before .before .before .before .before .args .i) (c .before .before .before .before .before .before .loop .j) (c .before .before .before .before .before .before .before .before .before .pre .1) (omega arith) (c .before .before .before .before .before .before .before .before .before .pre .4 (c .before .before .before .before .before .before .loop .j) (c .before .before .before .before .before .before .loop .inv .low) (c .before .before .before .before .before .loop-test .taken)))
 
 add-j : tie.Need-add-j Inv-loop μ-loop
 add-j c = record { fits = omega arith }
@@ -71,7 +71,7 @@ loop-again : tie.Need-loop-again Inv-loop μ-loop
 loop-again c =
     let a = c .before .before .before .before .before .before .before .before .before .before .before .before .args in
     row-turn-at (a .d) (a .first) (a .i) (a .a) (a .bit) (a .from) (a .to) (c .before .before .before .before .before .before .before .before .before .before .before .before .pre .1) (c .before .before .before .before .before .before .before .before .before .before .before .before .pre .2) (c .before .before .before .before .before .before .before .before .before .before .before .before .pre .4) (a .values .now) (c .before .before .before .before .before .before .before .before .before .loop .values) (c .before .before .before .before .before .before .before .before .before .loop .sum) (c .before .before .before .before .before .before .before .before .before .loop .j) (c .before .before .before .before .before .before .before .before .before .loop .inv) (c .before .before .before .before .before .before .before .before .loop-test .taken)
-    (a .first + 2 * c .before .before .before .before .before .before .before .pair-site .result) (a .first + c .before .before .before .before .before .before .before .before .before .before .cell-row .result + 6 * c .before .before .before .slot .result) (omega arith) (omega arith) _ _ (c .before .before .cross .ensures)
+    (a .first + 2 * c .before .before .before .before .before .before .before .pair-site .result) (a .first + c .before .before .before .before .before .before .before .before .before .before .cross-start .result + 6 * c .before .before .before .slot .result) (omega arith) (omega arith) _ _ (c .before .before .cross .ensures)
 
 same-length : tie.Need-same-length Inv-loop μ-loop
 same-length c = c .before .loop .inv .fills .size
@@ -87,10 +87,10 @@ cross-row-spec =
     (tie.spec
     Inv-loop
     μ-loop
-    sub-own
-    mul-own
-    add-own
-    cell-row-requires
+    sub-product
+    mul-product
+    add-product
+    cross-start-requires
     add-start
     loop-holds
     pair-site-requires

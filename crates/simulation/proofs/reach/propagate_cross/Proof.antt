@@ -7,8 +7,8 @@ use lib.ListN.{length}
 use Rattle.simulation.proofs.reach.propagate_cross.Statement.{statement}
 use Rattle.simulation.proofs.reach.propagate_cross.Tie as tie
 use Rattle.simulation.specs.Internal.Marks.{propagated, Moves}
-use Rattle.simulation.proofs.Moved.{handed-length, cell-moved}
-use Rattle.simulation.specs.Internal.Gates.{CellGates}
+use Rattle.simulation.proofs.Moved.{handed-length, cross-moved}
+use Rattle.simulation.specs.Internal.Gates.{CrossGates}
 
 add-propagate : tie.Need-add-propagate
 add-propagate c = record { fits = omega arith }
@@ -37,9 +37,9 @@ same-length c = (ap length (c .before .before .propagate3 .ensures) ∙ handed-l
 returns : tie.Need-returns
 returns c =
     let a = c .before .before .before .before .before .before .before .before .before .before .before .before .before .args in
-    subst (λ (n : List ℕ). Moves (CellGates (a .at) (a .a) (a .b) (a .r)) (a .at) (a .at + 6) (a .marks .now) n)
+    subst (λ (n : List ℕ). Moves (CrossGates (a .at) (a .a) (a .b) (a .r)) (a .at) (a .at + 6) (a .marks .now) n)
     (sym (c .before .before .propagate3 .ensures ∙ ap (propagated (a .at) (a .a ∷ (a .r + 1) ∷ [])) (c .before .before .before .before .before .before .propagate2 .ensures ∙ ap (propagated (a .at + 2) (a .b ∷ a .r ∷ [])) (c .before .before .before .before .before .before .before .before .before .before .propagate .ensures))))
-    (cell-moved (a .at) (a .a) (a .b) (a .r) (a .marks .now))
+    (cross-moved (a .at) (a .a) (a .b) (a .r) (a .marks .now))
 
 pub propagate-cross-spec : {M : Type 1} → statement M
 propagate-cross-spec =

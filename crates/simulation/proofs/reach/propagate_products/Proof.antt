@@ -7,14 +7,14 @@ use borrow.Author.Needs.{needs}
 use Rattle.simulation.proofs.reach.propagate_products.Statement.{statement}
 use Rattle.simulation.proofs.reach.propagate_products.Tie as tie
 use Rattle.simulation.proofs.Bounds.{eights}
-use Rattle.simulation.specs.Internal.Places.{wordA, wordB, ownAt}
+use Rattle.simulation.specs.Internal.Places.{wordA, wordB, productAt}
 use Rattle.simulation.specs.Internal.Marks.{Moves}
-use Rattle.simulation.proofs.Moved.{moves-none, moves-then, moves-for, moves-at, own-moved, zero-is}
-use Rattle.simulation.specs.Internal.Gates.{OwnGates, OwnsGates}
-use Rattle.simulation.proofs.Rows.{own-early}
+use Rattle.simulation.proofs.Moved.{moves-none, moves-then, moves-for, moves-at, product-moved, zero-is}
+use Rattle.simulation.specs.Internal.Gates.{ProductGates, ProductsGates}
+use Rattle.simulation.proofs.Rows.{product-early}
 
 abbrev Inv-loop : tie.InvT-loop
-Inv-loop marks₀ first d ops start i₀ marks i = (i ≤ d) × Moves (OwnsGates d first (wordA ops) (wordB d ops)) (ownAt d first i) (ownAt d first d) marks₀ marks
+Inv-loop marks₀ first d ops start i₀ marks i = (i ≤ d) × Moves (ProductsGates d first (wordA ops) (wordB d ops)) (productAt d first i) (productAt d first d) marks₀ marks
 
 abbrev μ-loop : tie.MeasureT-loop
 μ-loop marks₀ first d ops start i₀ marks i = i
@@ -29,7 +29,7 @@ add-start : tie.Need-add-start Inv-loop μ-loop
 add-start c = record { fits = omega arith }
 
 loop-holds : tie.Need-loop-holds Inv-loop μ-loop
-loop-holds c = (omega arith, moves-none (ownAt (c .before .before .args .d) (c .before .before .args .first) (c .before .before .args .d)) (c .before .before .args .marks .now))
+loop-holds c = (omega arith, moves-none (productAt (c .before .before .args .d) (c .before .before .args .first) (c .before .before .args .d)) (c .before .before .args .marks .now))
 
 sub-i : tie.Need-sub-i Inv-loop μ-loop
 sub-i c = omega arith
@@ -41,19 +41,19 @@ shared-slice-read-a : tie.Need-shared-slice-read-a Inv-loop μ-loop
 shared-slice-read-a c = omega arith
 
 cast-a : tie.Need-cast-a Inv-loop μ-loop
-cast-a c = record { fits = omega (arith, eights (c .before .before .before .before .before .args .d) (c .before .before .before .before .before .args .d - 1) (omega arith) (omega arith), c .before .before .before .before .before .pre .3 (c .before .before .loop .i - 1) (omega arith), own-early (c .before .before .before .before .before .args .d) (c .before .before .before .before .before .args .first) (c .before .before .before .before .before .args .d) (c .before .before .loop .i - 1) (omega arith)) }
+cast-a c = record { fits = omega (arith, eights (c .before .before .before .before .before .args .d) (c .before .before .before .before .before .args .d - 1) (omega arith) (omega arith), c .before .before .before .before .before .pre .3 (c .before .before .loop .i - 1) (omega arith), product-early (c .before .before .before .before .before .args .d) (c .before .before .before .before .before .args .first) (c .before .before .before .before .before .args .d) (c .before .before .loop .i - 1) (omega arith)) }
 
-mul-own : tie.Need-mul-own Inv-loop μ-loop
-mul-own c = record { fits = omega arith }
+mul-product : tie.Need-mul-product Inv-loop μ-loop
+mul-product c = record { fits = omega arith }
 
-add-own : tie.Need-add-own Inv-loop μ-loop
-add-own c = record { fits = omega arith }
+add-product : tie.Need-add-product Inv-loop μ-loop
+add-product c = record { fits = omega arith }
 
 add-propagate : tie.Need-add-propagate Inv-loop μ-loop
 add-propagate c = record { fits = omega arith }
 
 propagate-requires : tie.Need-propagate-requires Inv-loop μ-loop
-propagate-requires c κs = (omega (arith, eights (c .before .before .before .before .before .before .args .d) (c .before .before .before .before .before .before .args .d - 1) (omega arith) (omega arith), c .before .before .before .before .before .before .pre .3 (c .before .before .before .loop .i - 1) (omega arith), own-early (c .before .before .before .before .before .before .args .d) (c .before .before .before .before .before .before .args .first) (c .before .before .before .before .before .before .args .d) (c .before .before .before .loop .i - 1) (omega arith)), omega (arith, eights (c .before .before .before .before .before .before .args .d) (c .before .before .before .before .before .before .args .d - 1) (omega arith) (omega arith), c .before .before .before .before .before .before .pre .3 (c .before .before .before .loop .i - 1) (omega arith), own-early (c .before .before .before .before .before .before .args .d) (c .before .before .before .before .before .before .args .first) (c .before .before .before .before .before .before .args .d) (c .before .before .before .loop .i - 1) (omega arith)), omega (arith, eights (c .before .before .before .before .before .before .args .d) (c .before .before .before .before .before .before .args .d - 1) (omega arith) (omega arith), c .before .before .before .before .before .before .pre .3 (c .before .before .before .loop .i - 1) (omega arith), own-early (c .before .before .before .before .before .before .args .d) (c .before .before .before .before .before .before .args .first) (c .before .before .before .before .before .before .args .d) (c .before .before .before .loop .i - 1) (omega arith)))
+propagate-requires c κs = (omega (arith, eights (c .before .before .before .before .before .before .args .d) (c .before .before .before .before .before .before .args .d - 1) (omega arith) (omega arith), c .before .before .before .before .before .before .pre .3 (c .before .before .before .loop .i - 1) (omega arith), product-early (c .before .before .before .before .before .before .args .d) (c .before .before .before .before .before .before .args .first) (c .before .before .before .before .before .before .args .d) (c .before .before .before .loop .i - 1) (omega arith)), omega (arith, eights (c .before .before .before .before .before .before .args .d) (c .before .before .before .before .before .before .args .d - 1) (omega arith) (omega arith), c .before .before .before .before .before .before .pre .3 (c .before .before .before .loop .i - 1) (omega arith), product-early (c .before .before .before .before .before .before .args .d) (c .before .before .before .before .before .before .args .first) (c .before .before .before .before .before .before .args .d) (c .before .before .before .loop .i - 1) (omega arith)), omega (arith, eights (c .before .before .before .before .before .before .args .d) (c .before .before .before .before .before .before .args .d - 1) (omega arith) (omega arith), c .before .before .before .before .before .before .pre .3 (c .before .before .before .loop .i - 1) (omega arith), product-early (c .before .before .before .before .before .before .args .d) (c .before .before .before .before .before .before .args .first) (c .before .before .before .before .before .before .args .d) (c .before .before .before .loop .i - 1) (omega arith)))
 
 loop-less : tie.Need-loop-less Inv-loop μ-loop
 loop-less c = omega arith
@@ -63,11 +63,11 @@ loop-again c =
     let a = c .before .before .before .before .before .before .before .before .before .args in
     let l = c .before .before .before .before .before .before .loop in
     let i = l .i - 1 in
-    let x = ownAt (a .d) (a .first) i in
+    let x = productAt (a .d) (a .first) i in
     let lt : i < a .d = omega arith in (
       omega arith,
       moves-then (omega arith) (l .inv .1) (moves-at refl (omega arith) (moves-for (λ g h. h i lt)
-          (subst (λ (n : List ℕ). Moves (OwnGates x (wordA (a .ops .now) i) (wordB (a .d) (a .ops .now) i)) x (x + 3) (l .marks) n) (sym (c .before .before .propagate .ensures)) (own-moved x (wordA (a .ops .now) i) (wordB (a .d) (a .ops .now) i) (l .marks))))),
+          (subst (λ (n : List ℕ). Moves (ProductGates x (wordA (a .ops .now) i) (wordB (a .d) (a .ops .now) i)) x (x + 3) (l .marks) n) (sym (c .before .before .propagate .ensures)) (product-moved x (wordA (a .ops .now) i) (wordB (a .d) (a .ops .now) i) (l .marks))))),
     )
 
 same-length : tie.Need-same-length Inv-loop μ-loop
@@ -76,7 +76,7 @@ same-length c = c .before .loop .inv .1 .size
 returns : tie.Need-returns Inv-loop μ-loop
 returns c =
     let a = c .before .before .before .before .args in
-    moves-at (ap (ownAt (a .d) (a .first)) (zero-is (c .before .loop .i) (c .loop-test .left))) refl (c .before .loop .inv .1)
+    moves-at (ap (productAt (a .d) (a .first)) (zero-is (c .before .loop .i) (c .loop-test .left))) refl (c .before .loop .inv .1)
 
 pub propagate-products-spec : {M : Type 1} → statement M
 propagate-products-spec =
@@ -93,8 +93,8 @@ propagate-products-spec =
     (λ c. search needs)
     shared-slice-read-a
     cast-a
-    mul-own
-    add-own
+    mul-product
+    add-product
     add-propagate
     propagate-requires
     loop-less

@@ -4,19 +4,19 @@ use Prim.Native.Nat.{_+_, _-_, _≤_}
 use native.Mathlib.Omega.{arith}
 use Rattle.simulation.proofs.reach.propagate_rows.Statement.{statement}
 use Rattle.simulation.proofs.reach.propagate_rows.Tie as tie
-use Rattle.simulation.specs.Internal.Places.{wordA, wordB, cellRow}
+use Rattle.simulation.specs.Internal.Places.{wordA, wordB, crossStart}
 use Rattle.simulation.specs.Internal.Marks.{Moves}
 use Rattle.simulation.proofs.Moved.{moves-none, moves-at, rows-moved, zero-is}
-use Rattle.simulation.specs.Internal.Gates.{RowsGates}
+use Rattle.simulation.specs.Internal.Gates.{CrossAllGates}
 
 abbrev Inv-loop : tie.InvT-loop
-Inv-loop marks₀ first d ops i₀ marks i = (i ≤ d) × Moves (RowsGates d first (wordA ops) (wordB d ops)) (first + cellRow d i) (first + cellRow d d) marks₀ marks
+Inv-loop marks₀ first d ops i₀ marks i = (i ≤ d) × Moves (CrossAllGates d first (wordA ops) (wordB d ops)) (first + crossStart d i) (first + crossStart d d) marks₀ marks
 
 abbrev μ-loop : tie.MeasureT-loop
 μ-loop marks₀ first d ops i₀ marks i = i
 
 loop-holds : tie.Need-loop-holds Inv-loop μ-loop
-loop-holds c = (omega arith, moves-none (c .before .before .args .first + cellRow (c .before .before .args .d) (c .before .before .args .d)) (c .before .before .args .marks .now))
+loop-holds c = (omega arith, moves-none (c .before .before .args .first + crossStart (c .before .before .args .d) (c .before .before .args .d)) (c .before .before .args .marks .now))
 
 sub-i : tie.Need-sub-i Inv-loop μ-loop
 sub-i c = omega arith
@@ -41,14 +41,14 @@ loop-again c =
     let e : l .i ≡ i + 1 = omega arith in (
       omega arith,
       rows-moved (a .d) (a .first) (wordA (a .ops .now)) (wordB (a .d) (a .ops .now)) i (a .marks .now) (l .marks) (c .before .before .before .before .before .before .propagate-row .last .0) (c .before .before .propagate-row2 .last .0) (omega arith)
-          (moves-at (ap (λ n. a .first + cellRow (a .d) n) e) refl (l .inv .1)) (c .before .before .before .before .before .before .propagate-row .ensures) (c .before .before .propagate-row2 .ensures),
+          (moves-at (ap (λ n. a .first + crossStart (a .d) n) e) refl (l .inv .1)) (c .before .before .before .before .before .before .propagate-row .ensures) (c .before .before .propagate-row2 .ensures),
     )
 
 same-length : tie.Need-same-length Inv-loop μ-loop
 same-length c = c .before .loop .inv .1 .size
 
 returns : tie.Need-returns Inv-loop μ-loop
-returns c = moves-at (ap (λ n. c .before .before .before .before .args .first + cellRow (c .before .before .before .before .args .d) n) (zero-is (c .before .loop .i) (c .loop-test .left))) refl (c .before .loop .inv .1)
+returns c = moves-at (ap (λ n. c .before .before .before .before .args .first + crossStart (c .before .before .before .before .args .d) n) (zero-is (c .before .loop .i) (c .loop-test .left))) refl (c .before .loop .inv .1)
 
 pub propagate-rows-spec : {M : Type 1} → statement M
 propagate-rows-spec =

@@ -1,4 +1,4 @@
--- `evaluation::values::write_frame` meets its contract: each arm's callee asks and ensures what the contract says of its frame.
+-- Each arm's callee asks and ensures what the contract says of its frame.
 use mathlib.Core.Path.{_≡_, refl, ap, subst, _∙_}
 use Prim.Native.Nat.{_+_, _≤_}
 use native.Mathlib.Omega.{arith}
@@ -7,8 +7,8 @@ use borrow.Author.Needs.{needs}
 use Rattle.frames.specs.declared.walk.Gate.{Gate as GateCode}
 use Rattle.frames.specs.declared.walk.Frame.{Frame as FrameCode}
 use Rattle.frames.specs.declared.walk.Frame.the-variants as frame
-use Rattle.simulation.specs.Internal.Filling.{frameMakes}
-use Rattle.simulation.specs.Internal.Gadgets.{FrameReady}
+use Rattle.simulation.specs.Internal.Filling.{frameWires}
+use Rattle.simulation.specs.Internal.Gadgets.{FrameEarly, FrameSupplied}
 use Rattle.simulation.proofs.values.write_frame.Statement.{statement}
 use Rattle.simulation.proofs.values.write_frame.Tie as tie
 use Rattle.simulation.proofs.Filled.{fills-none, fills-at}
@@ -17,10 +17,11 @@ use Rattle.simulation.proofs.Filled.{fills-none, fills-at}
 abbrev Asked : tie.Start → FrameCode → Type 0
 Asked s f =
     let a = s .args in
-    (a .ends .wires + frameMakes f (a .d) ≤ length (a .values .now)) × FrameReady f (a .d) (a .ends .wires) (a .ends .shares) (a .ends .randoms) (a .ops .now) (length (a .shares .now)) (length (a .tape .now))
+    (a .ends .wires + frameWires f (a .d) ≤ length (a .values .now)) × FrameEarly f (a .d) (a .ends .wires) (a .ops .now)
+    × FrameSupplied f (a .d) (a .ends .shares) (a .ends .randoms) (length (a .shares .now)) (length (a .tape .now))
 
 asked : (s : tie.Start) {f : FrameCode} → s .args .frame ≡ f → Asked s f
-asked s e = subst (Asked s) e (s .pre .1, s .pre .2)
+asked s e = subst (Asked s) e (s .pre .1, s .pre .2, s .pre .3)
 
 -- where the frame is known to be a gate
 abbrev entry : tie.After-known-told → tie.Start
@@ -33,7 +34,7 @@ copy-requires : tie.Need-copy-requires
 copy-requires c κs =
     let g = c .before .before .before in
     let q = asked-gate g (c .before .enum-told .given .1) in
-    (q .0, q .1, entry g .pre .3)
+    (q .0, q .2, entry g .pre .4)
 
 constant-requires : tie.Need-constant-requires
 constant-requires c κs = asked-gate (c .before .before .before .before) (c .before .before .gate .given .1) .0
@@ -42,22 +43,22 @@ sum-requires : tie.Need-sum-requires
 sum-requires c κs = let q = asked-gate (c .before .before .before .before) (c .before .before .gate2 .given .1) in (q .0, q .1 .0, q .1 .1)
 
 inverse-requires : tie.Need-inverse-requires
-inverse-requires c κs = asked-gate (c .before .before .before .before) (c .before .before .gate3 .given .1)
+inverse-requires c κs = let q = asked-gate (c .before .before .before .before) (c .before .before .gate3 .given .1) in (q .0, q .1)
 
 register-requires : tie.Need-register-requires
-register-requires c κs = asked-gate (c .before .before .before .before) (c .before .before .gate4 .given .1)
+register-requires c κs = let q = asked-gate (c .before .before .before .before) (c .before .before .gate4 .given .1) in (q .0, q .1)
 
 and-requires : tie.Need-and-requires
 and-requires c κs =
     let s = c .before .before .before .before .before .before .before in
     let q = asked s (c .before .enum-told3 .given .1) in
-    (s .pre .0, q .1 .0, q .1 .1, q .1 .2, omega (arith, q .0), q .1 .3, s .pre .4)
+    (s .pre .0, q .1 .0, q .1 .1, q .1 .2, omega (arith, q .0), q .2, s .pre .5)
 
 refresh-requires : tie.Need-refresh-requires
 refresh-requires c κs =
     let s = c .before .before .before .before .before .before .before in
     let q = asked s (c .before .enum-told4 .given .1) in
-    (s .pre .0, q .1 .0, q .1 .1, omega (arith, q .0), q .1 .2, s .pre .4)
+    (s .pre .0, q .1 .0, q .1 .1, omega (arith, q .0), q .2, s .pre .5)
 
 returns : tie.Need-returns
 returns c = rw (c .before .before .before .before .before .before .before .frame .given .1, c .before .before .before .before .enum-told .given .1) (c .before .before .copy .ensures)

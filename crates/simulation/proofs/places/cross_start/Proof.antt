@@ -4,8 +4,8 @@ use Prim.Native.Nat.{_-_}
 use native.Mathlib.Omega.{arith}
 use borrow.Author.Needs.{needs}
 use Rattle.simulation.proofs.Bounds.{eights}
-use Rattle.simulation.proofs.places.cell_row.Statement.{statement}
-use Rattle.simulation.proofs.places.cell_row.Tie as tie
+use Rattle.simulation.proofs.places.cross_start.Statement.{statement}
+use Rattle.simulation.proofs.places.cross_start.Tie as tie
 
 mul-result : tie.Need-mul-result
 mul-result c = record { fits = omega (arith, eights (c .args .d) (c .args .d - 1) (omega arith) (omega arith), eights (c .args .i) (c .args .d - 1) (omega arith) (omega arith)) }
@@ -25,8 +25,8 @@ add-result-2 c = record { fits = omega (arith, eights (c .args .d) (c .args .d -
 returns : tie.Need-returns
 returns c = (refl, omega (arith, eights (c .args .d) (c .args .d - 1) (omega arith) (omega arith), eights (c .args .i) (c .args .d - 1) (omega arith) (omega arith)))
 
-pub cell-row-spec : {M : Type 1} → statement M
-cell-row-spec =
+pub cross-start-spec : {M : Type 1} → statement M
+cross-start-spec =
     tie.close
     (tie.spec
     (λ c. search needs)

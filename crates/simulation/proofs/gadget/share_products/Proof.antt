@@ -5,16 +5,16 @@ use native.Mathlib.Omega.{arith}
 use lib.ListN.{length-set}
 use borrow.Author.Needs.{needs}
 use Rattle.circuit.specs.Lists.{nth}
-use Rattle.simulation.proofs.gadget.owns.Statement.{statement}
-use Rattle.simulation.proofs.gadget.owns.Tie as tie
-use Rattle.simulation.proofs.Owning.{owned-turn}
+use Rattle.simulation.proofs.gadget.share_products.Statement.{statement}
+use Rattle.simulation.proofs.gadget.share_products.Tie as tie
+use Rattle.simulation.proofs.Products.{products-turn}
 use Rattle.simulation.proofs.Filled.{fills-none, fills-at}
-use Rattle.simulation.specs.Internal.Filling.{Fills, Owned}
+use Rattle.simulation.specs.Internal.Filling.{Fills, ShareProducts}
 use Rattle.simulation.proofs.Bounds.{eights}
-use Rattle.simulation.specs.Internal.Places.{wordA, wordB, ownAt}
+use Rattle.simulation.specs.Internal.Places.{wordA, wordB, productAt}
 
 abbrev Inv-loop : tie.InvT-loop
-Inv-loop values₀ first d ops start i₀ values i = (i ≤ d) × Fills (Owned d first (wordA ops) (wordB d ops)) (ownAt d first 0) (ownAt d first i) values₀ values
+Inv-loop values₀ first d ops start i₀ values i = (i ≤ d) × Fills (ShareProducts d first (wordA ops) (wordB d ops)) (productAt d first 0) (productAt d first i) values₀ values
 
 abbrev μ-loop : tie.MeasureT-loop
 μ-loop values₀ first d ops start i₀ values i = d - i
@@ -29,7 +29,7 @@ add-start : tie.Need-add-start Inv-loop μ-loop
 add-start c = record { fits = omega arith }
 
 loop-holds : tie.Need-loop-holds Inv-loop μ-loop
-loop-holds c = (omega arith, fills-none (ownAt (c .args .d) (c .args .first) 0) (c .args .values .now))
+loop-holds c = (omega arith, fills-none (productAt (c .args .d) (c .args .first) 0) (c .args .values .now))
 
 shared-slice-read-x : tie.Need-shared-slice-read-x Inv-loop μ-loop
 shared-slice-read-x c = omega arith
@@ -100,7 +100,7 @@ loop-again c =
     let l = c .before .before .before .before .loop-test .taken in
     let early = c .before .before .before .before .before .before .pre .2 i l in
     let late = c .before .before .before .before .before .before .pre .3 i l in
-    (omega arith, owned-turn d first (wordA (a .ops .now)) (wordB d (a .ops .now)) (a .values .now) (c .before .before .before .before .before .loop .values) i l (omega arith) early late (c .before .before .before .before .before .loop .inv .1))
+    (omega arith, products-turn d first (wordA (a .ops .now)) (wordB d (a .ops .now)) (a .values .now) (c .before .before .before .before .before .loop .values) i l (omega arith) early late (c .before .before .before .before .before .loop .inv .1))
 
 same-length : tie.Need-same-length Inv-loop μ-loop
 same-length c = c .before .loop .inv .1 .size
@@ -108,8 +108,8 @@ same-length c = c .before .loop .inv .1 .size
 returns : tie.Need-returns Inv-loop μ-loop
 returns c = fills-at refl (omega arith) (c .before .loop .inv .1)
 
-pub owns-spec : {M : Type 1} → statement M
-owns-spec =
+pub share-products-spec : {M : Type 1} → statement M
+share-products-spec =
     tie.close
     (tie.spec
     Inv-loop
