@@ -22,20 +22,8 @@ abbrev μ-loop : tie.MeasureT-loop
 loop-holds : tie.Need-loop-holds Inv-loop μ-loop
 loop-holds c = (omega arith, c .before .pre .5, λ x p v k. adds-start x (xorSum (range (c .before .args .from) (c .before .args .to - c .before .args .from)) (λ j. v (maskAt (c .before .args .d) (c .before .args .first) (c .before .args .i) j))) p)
 
-pair-site-requires : tie.Need-pair-site-requires Inv-loop μ-loop
-pair-site-requires c κs = (omega arith, omega arith, omega arith)
-
-add-sum : tie.Need-add-sum Inv-loop μ-loop
-add-sum c = record { fits = omega arith }
-
 shared-slice-read-sum : tie.Need-shared-slice-read-sum Inv-loop μ-loop
 shared-slice-read-sum c = omega (arith, pair-lt (c .before .before .before .before .before .args .d) (c .before .before .before .before .before .args .i) (c .before .before .before .loop .j) (c .before .before .before .before .before .pre .1) (omega arith) (c .before .before .before .before .before .pre .4 (c .before .before .before .loop .j) (c .before .before .before .loop .inv .0) (c .before .before .loop-test .taken)))
-
-add-j : tie.Need-add-j Inv-loop μ-loop
-add-j c = record { fits = omega arith }
-
-loop-less : tie.Need-loop-less Inv-loop μ-loop
-loop-less c = omega arith
 
 loop-again : tie.Need-loop-again Inv-loop μ-loop
 loop-again c =
@@ -64,10 +52,10 @@ add-masks-spec =
     Inv-loop
     μ-loop
     loop-holds
-    pair-site-requires
-    add-sum
+    (λ c κs. (omega arith, omega arith, omega arith))
+    (λ c. record { fits = omega arith })
     shared-slice-read-sum
-    add-j
-    loop-less
+    (λ c. record { fits = omega arith })
+    (λ c. omega arith)
     loop-again
     returns)

@@ -7,12 +7,6 @@ use Rattle.simulation.proofs.gadget.and.Tie as tie
 use Rattle.simulation.specs.Internal.Places.{wordA, wordB}
 use Rattle.simulation.proofs.Gadgets.{and-filled}
 
-pairs-requires : tie.Need-pairs-requires
-pairs-requires c κs = (omega arith, omega arith)
-
-draws-requires : tie.Need-draws-requires
-draws-requires c κs = (omega arith, omega arith, c .before .before .before .before .before .pre .6)
-
 share-products-requires : tie.Need-share-products-requires
 share-products-requires c κs = (c .before .before .before .before .before .before .before .before .before .pre .0, c .before .before .before .before .before .before .before .before .before .pre .1, c .before .before .before .before .before .before .before .before .before .pre .2, c .before .before .before .before .before .before .before .before .before .pre .3, omega arith)
 
@@ -28,4 +22,4 @@ returns c =
 pub and-spec : {M : Type 1} → statement M
 and-spec =
     tie.close
-    (tie.spec pairs-requires draws-requires share-products-requires cross-all-requires (λ c. search needs) returns)
+    (tie.spec (λ c κs. (omega arith, omega arith)) (λ c κs. (omega arith, omega arith, c .before .before .before .before .before .pre .6)) share-products-requires cross-all-requires (λ c. search needs) returns)

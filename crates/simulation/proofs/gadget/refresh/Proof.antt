@@ -7,17 +7,8 @@ use Rattle.simulation.proofs.gadget.refresh.Tie as tie
 use Rattle.simulation.specs.Internal.Places.{wordA}
 use Rattle.simulation.proofs.Gadgets.{ref-filled}
 
-pairs-requires : tie.Need-pairs-requires
-pairs-requires c κs = (omega arith, omega arith)
-
-copy-requires : tie.Need-copy-requires
-copy-requires c κs = (omega arith, omega arith, c .before .before .before .before .before .pre .5)
-
 sums-requires : tie.Need-sums-requires
 sums-requires c κs = (c .before .before .before .before .before .before .before .before .before .pre .0, c .before .before .before .before .before .before .before .before .before .pre .1, c .before .before .before .before .before .before .before .before .before .pre .2, omega arith)
-
-holds-requires : tie.Need-holds-requires
-holds-requires c κs = (c .before .before .before .before .before .before .before .before .before .before .before .before .before .pre .0, omega arith)
 
 returns : tie.Need-returns
 returns c =
@@ -28,4 +19,4 @@ returns c =
 pub refresh-spec : {M : Type 1} → statement M
 refresh-spec =
     tie.close
-    (tie.spec pairs-requires copy-requires sums-requires holds-requires (λ c. search needs) returns)
+    (tie.spec (λ c κs. (omega arith, omega arith)) (λ c κs. (omega arith, omega arith, c .before .before .before .before .before .pre .5)) sums-requires (λ c κs. (c .before .before .before .before .before .before .before .before .before .before .before .before .before .pre .0, omega arith)) (λ c. search needs) returns)

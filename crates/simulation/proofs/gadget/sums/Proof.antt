@@ -18,17 +18,8 @@ Inv-loop values₀ first d ops start i₀ values i = (i ≤ d) × Fills (Masked 
 abbrev μ-loop : tie.MeasureT-loop
 μ-loop values₀ first d ops start i₀ values i = d - i
 
-pairs-requires : tie.Need-pairs-requires Inv-loop μ-loop
-pairs-requires c κs = (omega arith, omega arith)
-
-add-start : tie.Need-add-start Inv-loop μ-loop
-add-start c = record { fits = omega arith }
-
 loop-holds : tie.Need-loop-holds Inv-loop μ-loop
 loop-holds c = (omega arith, fills-at refl (omega arith) (fills-none (c .before .before .before .args .first + pairs (c .before .before .before .args .d)) (c .before .before .before .args .values .now)))
-
-shared-slice-read-x : tie.Need-shared-slice-read-x Inv-loop μ-loop
-shared-slice-read-x c = omega arith
 
 cast-x : tie.Need-cast-x Inv-loop μ-loop
 cast-x c = record { fits = omega (arith, c .before .before .before .before .before .before .pre .2 (c .before .before .loop .i) (c .before .loop-test .taken)) }
@@ -39,23 +30,8 @@ slice-read-a c = omega (arith, c .before .before .before .before .before .before
 add-masks-requires : tie.Need-add-masks-requires Inv-loop μ-loop
 add-masks-requires c κs = (c .before .before .before .before .before .before .before .before .pre .0, c .before .before .before .loop-test .taken, omega arith, omega arith, (λ j l u e. omega arith), omega arith)
 
-add-add-masks : tie.Need-add-add-masks Inv-loop μ-loop
-add-add-masks c = record { fits = omega arith }
-
 add-masks-requires-2 : tie.Need-add-masks-requires-2 Inv-loop μ-loop
 add-masks-requires-2 c κs = (c .before .before .before .before .before .before .before .before .before .before .pre .0, c .before .before .before .before .before .loop-test .taken, omega arith, omega arith, (λ j l u e. omega arith), omega arith)
-
-add-values : tie.Need-add-values Inv-loop μ-loop
-add-values c = record { fits = omega arith }
-
-slice-write-values : tie.Need-slice-write-values Inv-loop μ-loop
-slice-write-values c = omega arith
-
-add-i : tie.Need-add-i Inv-loop μ-loop
-add-i c = record { fits = omega arith }
-
-loop-less : tie.Need-loop-less Inv-loop μ-loop
-loop-less c = omega arith
 
 loop-again : tie.Need-loop-again Inv-loop μ-loop
 loop-again c =
@@ -68,33 +44,27 @@ loop-again c =
           (masked-turn (a .d) (a .first) (wordA (a .ops .now)) (a .values .now) (c .before .before .before .before .before .before .before .loop .values) i l (omega arith) (c .before .before .before .before .before .before .before .before .before .before .before .pre .2 i l) (c .before .before .before .before .before .before .before .loop .inv .1) (c .before .before .add-masks .result) (c .add-masks2 .result) (c .before .before .add-masks .ensures) (c .add-masks2 .ensures)),
     )
 
-same-length : tie.Need-same-length Inv-loop μ-loop
-same-length c = c .before .loop .inv .1 .size
-
-returns : tie.Need-returns Inv-loop μ-loop
-returns c = fills-at refl (omega arith) (c .before .loop .inv .1)
-
 pub sums-spec : {M : Type 1} → statement M
 sums-spec =
     tie.close
     (tie.spec
     Inv-loop
     μ-loop
-    pairs-requires
-    add-start
+    (λ c κs. (omega arith, omega arith))
+    (λ c. record { fits = omega arith })
     loop-holds
     (λ c. search needs)
     (λ c. search needs)
-    shared-slice-read-x
+    (λ c. omega arith)
     cast-x
     slice-read-a
     add-masks-requires
-    add-add-masks
+    (λ c. record { fits = omega arith })
     add-masks-requires-2
-    add-values
-    slice-write-values
-    add-i
-    loop-less
+    (λ c. record { fits = omega arith })
+    (λ c. omega arith)
+    (λ c. record { fits = omega arith })
+    (λ c. omega arith)
     loop-again
-    same-length
-    returns)
+    (λ c. c .before .loop .inv .1 .size)
+    (λ c. fills-at refl (omega arith) (c .before .loop .inv .1)))

@@ -7,11 +7,5 @@ use Rattle.simulation.proofs.places.pairs.Statement.{statement}
 use Rattle.simulation.proofs.places.pairs.Tie as tie
 use Rattle.simulation.proofs.Bounds.{eights}
 
-mul-result : tie.Need-mul-result
-mul-result c = record { fits = omega (arith, eights (c .args .d) (c .args .d - 1) (omega arith) (omega arith)) }
-
-returns : tie.Need-returns
-returns c = (refl, omega (arith, eights (c .args .d) (c .args .d - 1) (omega arith) (omega arith)))
-
 pub pairs-spec : {M : Type 1} → statement M
-pairs-spec = tie.close (tie.spec (λ c. search needs) mul-result returns)
+pairs-spec = tie.close (tie.spec (λ c. search needs) (λ c. record { fits = omega (arith, eights (c .args .d) (c .args .d - 1) (omega arith) (omega arith)) }) (λ c. (refl, omega (arith, eights (c .args .d) (c .args .d - 1) (omega arith) (omega arith)))))

@@ -18,23 +18,8 @@ Inv-loop marks₀ first d i from to j₀ marks j = (from ≤ j) × (j ≤ to) ×
 abbrev μ-loop : tie.MeasureT-loop
 μ-loop marks₀ first d i from to j₀ marks j = to - j
 
-loop-holds : tie.Need-loop-holds Inv-loop μ-loop
-loop-holds c = (omega arith, c .before .pre .5, refl, refl)
-
-pair-site-requires : tie.Need-pair-site-requires Inv-loop μ-loop
-pair-site-requires c κs = (omega arith, omega arith, omega arith)
-
-add-marks : tie.Need-add-marks Inv-loop μ-loop
-add-marks c = record { fits = omega arith }
-
 slice-write-marks : tie.Need-slice-write-marks Inv-loop μ-loop
 slice-write-marks c = omega (arith, pair-lt (c .before .before .before .before .args .d) (c .before .before .before .before .args .i) (c .before .before .loop .j) (c .before .before .before .before .pre .1) (omega arith) (c .before .before .before .before .pre .4 (c .before .before .loop .j) (c .before .before .loop .inv .0) (c .before .loop-test .taken)))
-
-add-j : tie.Need-add-j Inv-loop μ-loop
-add-j c = record { fits = omega arith }
-
-loop-less : tie.Need-loop-less Inv-loop μ-loop
-loop-less c = omega arith
 
 loop-again : tie.Need-loop-again Inv-loop μ-loop
 loop-again c =
@@ -48,9 +33,6 @@ loop-again c =
       length-set (l .marks) (a .first + c .pair-site .result) 1 ∙ l .inv .3,
     )
 
-same-length : tie.Need-same-length Inv-loop μ-loop
-same-length c = c .before .loop .inv .3
-
 returns : tie.Need-returns Inv-loop μ-loop
 returns c = sym (ap (markAll (c .before .loop .marks)) (masks-end (maskAt (c .before .before .before .args .d) (c .before .before .before .args .first) (c .before .before .before .args .i)) (c .before .before .before .args .to) (c .before .loop .j) (c .loop-test .left))) ∙ c .before .loop .inv .2
 
@@ -60,12 +42,12 @@ mark-masks-spec =
     (tie.spec
     Inv-loop
     μ-loop
-    loop-holds
-    pair-site-requires
-    add-marks
+    (λ c. (omega arith, c .before .pre .5, refl, refl))
+    (λ c κs. (omega arith, omega arith, omega arith))
+    (λ c. record { fits = omega arith })
     slice-write-marks
-    add-j
-    loop-less
+    (λ c. record { fits = omega arith })
+    (λ c. omega arith)
     loop-again
-    same-length
+    (λ c. c .before .loop .inv .3)
     returns)

@@ -19,25 +19,10 @@ loop-holds c =
     let e : c .args .count - 0 ≡ c .args .count = omega arith in
     (omega arith, omega arith, ap (λ n. markAll (c .args .marks .now) (sixApart (c .args .from) n)) e, refl)
 
-slice-write-marks : tie.Need-slice-write-marks Inv-loop μ-loop
-slice-write-marks c = omega arith
-
-add-x : tie.Need-add-x Inv-loop μ-loop
-add-x c = record { fits = omega arith }
-
-add-k : tie.Need-add-k Inv-loop μ-loop
-add-k c = record { fits = omega arith }
-
-loop-less : tie.Need-loop-less Inv-loop μ-loop
-loop-less c = omega arith
-
 loop-again : tie.Need-loop-again Inv-loop μ-loop
 loop-again c =
     let l = c .before .loop in
     (omega arith, omega arith, sym (ap (markAll (l .marks)) (six-apart-turn (l .x) (c .before .before .args .count) (l .k) (c .loop-test .taken))) ∙ l .inv .2, length-set (l .marks) (l .x) 1 ∙ l .inv .3)
-
-same-length : tie.Need-same-length Inv-loop μ-loop
-same-length c = c .before .loop .inv .3
 
 returns : tie.Need-returns Inv-loop μ-loop
 returns c = sym (ap (markAll (c .before .loop .marks)) (six-apart-end (c .before .loop .x) (c .before .before .args .count) (c .before .loop .k) (c .loop-test .left))) ∙ c .before .loop .inv .2
@@ -49,10 +34,10 @@ mark-six-apart-spec =
     Inv-loop
     μ-loop
     loop-holds
-    slice-write-marks
-    add-x
-    add-k
-    loop-less
+    (λ c. omega arith)
+    (λ c. record { fits = omega arith })
+    (λ c. record { fits = omega arith })
+    (λ c. omega arith)
     loop-again
-    same-length
+    (λ c. c .before .loop .inv .3)
     returns)

@@ -6,9 +6,6 @@ use Rattle.simulation.proofs.reach.propagate_and.Tie as tie
 use Rattle.simulation.specs.Internal.Places.{wordA, wordB}
 use Rattle.simulation.proofs.Moved.{and-moved}
 
-propagate-outputs-requires : tie.Need-propagate-outputs-requires
-propagate-outputs-requires c κs = (c .before .before .before .pre .0, c .before .before .before .pre .1)
-
 propagate-rows-requires : tie.Need-propagate-rows-requires
 propagate-rows-requires c κs = (c .before .before .before .before .before .before .before .pre .0, omega arith, c .before .before .before .before .before .before .before .pre .2, c .before .before .before .before .before .before .before .pre .3, c .before .before .before .before .before .before .before .pre .4)
 
@@ -26,4 +23,4 @@ returns c =
 pub propagate-and-spec : {M : Type 1} → statement M
 propagate-and-spec =
     tie.close
-    (tie.spec propagate-outputs-requires propagate-rows-requires propagate-products-requires same-length returns)
+    (tie.spec (λ c κs. (c .before .before .before .pre .0, c .before .before .before .pre .1)) propagate-rows-requires propagate-products-requires same-length returns)

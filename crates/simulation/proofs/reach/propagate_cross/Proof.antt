@@ -10,27 +10,6 @@ use Rattle.simulation.specs.Internal.Marks.{propagated, Moves}
 use Rattle.simulation.proofs.Moved.{handed-length, cross-moved}
 use Rattle.simulation.specs.Internal.Gates.{CrossGates}
 
-add-propagate : tie.Need-add-propagate
-add-propagate c = record { fits = omega arith }
-
-add-propagate-2 : tie.Need-add-propagate-2
-add-propagate-2 c = record { fits = omega arith }
-
-propagate-requires : tie.Need-propagate-requires
-propagate-requires c κs = (omega arith, omega arith, omega arith)
-
-add-propagate-3 : tie.Need-add-propagate-3
-add-propagate-3 c = record { fits = omega arith }
-
-propagate-requires-2 : tie.Need-propagate-requires-2
-propagate-requires-2 c κs = (omega arith, omega arith, omega arith)
-
-add-propagate-4 : tie.Need-add-propagate-4
-add-propagate-4 c = record { fits = omega arith }
-
-propagate-requires-3 : tie.Need-propagate-requires-3
-propagate-requires-3 c κs = (omega arith, omega arith, omega arith)
-
 same-length : tie.Need-same-length
 same-length c = (ap length (c .before .before .propagate3 .ensures) ∙ handed-length (c .before .before .before .before .before .before .before .before .before .before .before .before .before .args .at) (c .before .before .before .before .before .before .before .before .before .before .before .before .before .args .a ∷ (c .before .before .before .before .before .before .before .before .before .before .before .before .before .args .r + 1) ∷ []) (c .before .before .before .before .before .before .propagate2 .last .0)) ∙ (ap length (c .before .before .before .before .before .before .propagate2 .ensures) ∙ handed-length (c .before .before .before .before .before .before .before .before .before .before .before .before .before .args .at + 2) (c .before .before .before .before .before .before .before .before .before .before .before .before .before .args .b ∷ c .before .before .before .before .before .before .before .before .before .before .before .before .before .args .r ∷ []) (c .before .before .before .before .before .before .before .before .before .before .propagate .last .0)) ∙ (ap length (c .before .before .before .before .before .before .before .before .before .before .propagate .ensures) ∙ handed-length (c .before .before .before .before .before .before .before .before .before .before .before .before .before .args .at + 4) (c .before .before .before .before .before .before .before .before .before .before .before .before .before .args .a ∷ (c .before .before .before .before .before .before .before .before .before .before .before .before .before .args .at + 3) ∷ []) (c .before .before .before .before .before .before .before .before .before .before .before .before .before .args .marks .now))
 
@@ -45,12 +24,12 @@ pub propagate-cross-spec : {M : Type 1} → statement M
 propagate-cross-spec =
     tie.close
     (tie.spec
-    add-propagate
-    add-propagate-2
-    propagate-requires
-    add-propagate-3
-    propagate-requires-2
-    add-propagate-4
-    propagate-requires-3
+    (λ c. record { fits = omega arith })
+    (λ c. record { fits = omega arith })
+    (λ c κs. (omega arith, omega arith, omega arith))
+    (λ c. record { fits = omega arith })
+    (λ c κs. (omega arith, omega arith, omega arith))
+    (λ c. record { fits = omega arith })
+    (λ c κs. (omega arith, omega arith, omega arith))
     same-length
     returns)

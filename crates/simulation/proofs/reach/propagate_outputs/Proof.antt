@@ -16,18 +16,6 @@ Inv-loop marks₀ first d i₀ marks i = (i ≤ d) × Moves (OutGates d first) (
 abbrev μ-loop : tie.MeasureT-loop
 μ-loop marks₀ first d i₀ marks i = i
 
-loop-holds : tie.Need-loop-holds Inv-loop μ-loop
-loop-holds c = (omega arith, moves-none (outAt (c .before .args .d) (c .before .args .first) (c .before .args .d)) (c .before .args .marks .now))
-
-sub-i : tie.Need-sub-i Inv-loop μ-loop
-sub-i c = omega arith
-
-propagate-output-requires : tie.Need-propagate-output-requires Inv-loop μ-loop
-propagate-output-requires c κs = (c .before .before .before .before .pre .0, omega arith, omega arith)
-
-loop-less : tie.Need-loop-less Inv-loop μ-loop
-loop-less c = omega arith
-
 loop-again : tie.Need-loop-again Inv-loop μ-loop
 loop-again c =
     let a = c .before .before .before .before .before .before .before .args in
@@ -38,22 +26,16 @@ loop-again c =
           (subst (λ (n : List ℕ). Moves (OutGates (a .d) (a .first)) (outAt (a .d) (a .first) i) (outAt (a .d) (a .first) (i + 1)) (l .marks) n) (sym (c .before .before .propagate-output .ensures)) (out-moved (a .d) (a .first) i (l .marks) (omega arith)))),
     )
 
-same-length : tie.Need-same-length Inv-loop μ-loop
-same-length c = c .before .loop .inv .1 .size
-
-returns : tie.Need-returns Inv-loop μ-loop
-returns c = moves-at (omega arith) refl (c .before .loop .inv .1)
-
 pub propagate-outputs-spec : {M : Type 1} → statement M
 propagate-outputs-spec =
     tie.close
     (tie.spec
     Inv-loop
     μ-loop
-    loop-holds
-    sub-i
-    propagate-output-requires
-    loop-less
+    (λ c. (omega arith, moves-none (outAt (c .before .args .d) (c .before .args .first) (c .before .args .d)) (c .before .args .marks .now)))
+    (λ c. omega arith)
+    (λ c κs. (c .before .before .before .before .pre .0, omega arith, omega arith))
+    (λ c. omega arith)
     loop-again
-    same-length
-    returns)
+    (λ c. c .before .loop .inv .1 .size)
+    (λ c. moves-at (omega arith) refl (c .before .loop .inv .1)))

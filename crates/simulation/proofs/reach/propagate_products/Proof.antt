@@ -19,44 +19,14 @@ Inv-loop marks₀ first d ops start i₀ marks i = (i ≤ d) × Moves (ProductsG
 abbrev μ-loop : tie.MeasureT-loop
 μ-loop marks₀ first d ops start i₀ marks i = i
 
-sub-start : tie.Need-sub-start Inv-loop μ-loop
-sub-start c = omega arith
-
-mul-start : tie.Need-mul-start Inv-loop μ-loop
-mul-start c = record { fits = omega arith }
-
-add-start : tie.Need-add-start Inv-loop μ-loop
-add-start c = record { fits = omega arith }
-
 loop-holds : tie.Need-loop-holds Inv-loop μ-loop
 loop-holds c = (omega arith, moves-none (productAt (c .before .before .args .d) (c .before .before .args .first) (c .before .before .args .d)) (c .before .before .args .marks .now))
-
-sub-i : tie.Need-sub-i Inv-loop μ-loop
-sub-i c = omega arith
-
-add-a : tie.Need-add-a Inv-loop μ-loop
-add-a c = record { fits = omega arith }
-
-shared-slice-read-a : tie.Need-shared-slice-read-a Inv-loop μ-loop
-shared-slice-read-a c = omega arith
 
 cast-a : tie.Need-cast-a Inv-loop μ-loop
 cast-a c = record { fits = omega (arith, eights (c .before .before .before .before .before .args .d) (c .before .before .before .before .before .args .d - 1) (omega arith) (omega arith), c .before .before .before .before .before .pre .3 (c .before .before .loop .i - 1) (omega arith), product-early (c .before .before .before .before .before .args .d) (c .before .before .before .before .before .args .first) (c .before .before .before .before .before .args .d) (c .before .before .loop .i - 1) (omega arith)) }
 
-mul-product : tie.Need-mul-product Inv-loop μ-loop
-mul-product c = record { fits = omega arith }
-
-add-product : tie.Need-add-product Inv-loop μ-loop
-add-product c = record { fits = omega arith }
-
-add-propagate : tie.Need-add-propagate Inv-loop μ-loop
-add-propagate c = record { fits = omega arith }
-
 propagate-requires : tie.Need-propagate-requires Inv-loop μ-loop
 propagate-requires c κs = (omega (arith, eights (c .before .before .before .before .before .before .args .d) (c .before .before .before .before .before .before .args .d - 1) (omega arith) (omega arith), c .before .before .before .before .before .before .pre .3 (c .before .before .before .loop .i - 1) (omega arith), product-early (c .before .before .before .before .before .before .args .d) (c .before .before .before .before .before .before .args .first) (c .before .before .before .before .before .before .args .d) (c .before .before .before .loop .i - 1) (omega arith)), omega (arith, eights (c .before .before .before .before .before .before .args .d) (c .before .before .before .before .before .before .args .d - 1) (omega arith) (omega arith), c .before .before .before .before .before .before .pre .3 (c .before .before .before .loop .i - 1) (omega arith), product-early (c .before .before .before .before .before .before .args .d) (c .before .before .before .before .before .before .args .first) (c .before .before .before .before .before .before .args .d) (c .before .before .before .loop .i - 1) (omega arith)), omega (arith, eights (c .before .before .before .before .before .before .args .d) (c .before .before .before .before .before .before .args .d - 1) (omega arith) (omega arith), c .before .before .before .before .before .before .pre .3 (c .before .before .before .loop .i - 1) (omega arith), product-early (c .before .before .before .before .before .before .args .d) (c .before .before .before .before .before .before .args .first) (c .before .before .before .before .before .before .args .d) (c .before .before .before .loop .i - 1) (omega arith)))
-
-loop-less : tie.Need-loop-less Inv-loop μ-loop
-loop-less c = omega arith
 
 loop-again : tie.Need-loop-again Inv-loop μ-loop
 loop-again c =
@@ -70,9 +40,6 @@ loop-again c =
           (subst (λ (n : List ℕ). Moves (ProductGates x (wordA (a .ops .now) i) (wordB (a .d) (a .ops .now) i)) x (x + 3) (l .marks) n) (sym (c .before .before .propagate .ensures)) (product-moved x (wordA (a .ops .now) i) (wordB (a .d) (a .ops .now) i) (l .marks))))),
     )
 
-same-length : tie.Need-same-length Inv-loop μ-loop
-same-length c = c .before .loop .inv .1 .size
-
 returns : tie.Need-returns Inv-loop μ-loop
 returns c =
     let a = c .before .before .before .before .args in
@@ -84,20 +51,20 @@ propagate-products-spec =
     (tie.spec
     Inv-loop
     μ-loop
-    sub-start
-    mul-start
-    add-start
+    (λ c. omega arith)
+    (λ c. record { fits = omega arith })
+    (λ c. record { fits = omega arith })
     loop-holds
-    sub-i
-    add-a
+    (λ c. omega arith)
+    (λ c. record { fits = omega arith })
     (λ c. search needs)
-    shared-slice-read-a
+    (λ c. omega arith)
     cast-a
-    mul-product
-    add-product
-    add-propagate
+    (λ c. record { fits = omega arith })
+    (λ c. record { fits = omega arith })
+    (λ c. record { fits = omega arith })
     propagate-requires
-    loop-less
+    (λ c. omega arith)
     loop-again
-    same-length
+    (λ c. c .before .loop .inv .1 .size)
     returns)

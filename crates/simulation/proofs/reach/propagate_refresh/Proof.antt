@@ -21,23 +21,8 @@ abbrev μ-loop : tie.MeasureT-loop
 loop-holds : tie.Need-loop-holds Inv-loop μ-loop
 loop-holds c = (omega arith, held-moved (c .before .before .args .d) (c .before .before .args .first) (wordA (c .before .before .args .ops .now)) (c .before .before .args .marks .now))
 
-sub-i : tie.Need-sub-i Inv-loop μ-loop
-sub-i c = omega arith
-
-add-a : tie.Need-add-a Inv-loop μ-loop
-add-a c = record { fits = omega arith }
-
-shared-slice-read-a : tie.Need-shared-slice-read-a Inv-loop μ-loop
-shared-slice-read-a c = omega arith
-
-cast-a : tie.Need-cast-a Inv-loop μ-loop
-cast-a c = record { fits = omega (arith, c .before .before .before .before .before .pre .3 (c .before .before .loop .i - 1) (omega arith)) }
-
 propagate-sum-requires : tie.Need-propagate-sum-requires Inv-loop μ-loop
 propagate-sum-requires c κs = (c .before .before .before .before .before .before .pre .0, omega arith, c .before .before .before .before .before .before .pre .3 (c .before .before .before .loop .i - 1) (omega arith), omega arith)
-
-loop-less : tie.Need-loop-less Inv-loop μ-loop
-loop-less c = omega arith
 
 loop-again : tie.Need-loop-again Inv-loop μ-loop
 loop-again c =
@@ -48,9 +33,6 @@ loop-again c =
       moves-then (omega arith) (l .inv .1) (moves-at refl (omega arith)
           (subst (λ (n : List ℕ). Moves (λ g. RefGates g (a .d) (a .first) (wordA (a .ops .now))) (sumAt (a .d) (a .first) i) (sumAt (a .d) (a .first) (i + 1)) (l .marks) n) (sym (c .before .before .propagate-sum .ensures)) (sum-moved (a .d) (a .first) (wordA (a .ops .now)) i (l .marks) (omega arith)))),
     )
-
-same-length : tie.Need-same-length Inv-loop μ-loop
-same-length c = c .before .loop .inv .1 .size
 
 returns : tie.Need-returns Inv-loop μ-loop
 returns c =
@@ -64,13 +46,13 @@ propagate-refresh-spec =
     Inv-loop
     μ-loop
     loop-holds
-    sub-i
-    add-a
+    (λ c. omega arith)
+    (λ c. record { fits = omega arith })
     (λ c. search needs)
-    shared-slice-read-a
-    cast-a
+    (λ c. omega arith)
+    (λ c. record { fits = omega (arith, c .before .before .before .before .before .pre .3 (c .before .before .loop .i - 1) (omega arith)) })
     propagate-sum-requires
-    loop-less
+    (λ c. omega arith)
     loop-again
-    same-length
+    (λ c. c .before .loop .inv .1 .size)
     returns)

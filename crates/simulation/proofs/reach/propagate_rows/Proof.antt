@@ -18,20 +18,11 @@ abbrev μ-loop : tie.MeasureT-loop
 loop-holds : tie.Need-loop-holds Inv-loop μ-loop
 loop-holds c = (omega arith, moves-none (c .before .before .args .first + crossStart (c .before .before .args .d) (c .before .before .args .d)) (c .before .before .args .marks .now))
 
-sub-i : tie.Need-sub-i Inv-loop μ-loop
-sub-i c = omega arith
-
-add-propagate-row : tie.Need-add-propagate-row Inv-loop μ-loop
-add-propagate-row c = record { fits = omega arith }
-
 propagate-row-requires : tie.Need-propagate-row-requires Inv-loop μ-loop
 propagate-row-requires c κs = (c .before .before .before .before .before .pre .0, omega arith, omega arith, omega arith, (λ j l u e. omega arith), omega arith, c .before .before .before .before .before .pre .2, c .before .before .before .before .before .pre .3, c .before .before .before .before .before .pre .4)
 
 propagate-row-requires-2 : tie.Need-propagate-row-requires-2 Inv-loop μ-loop
 propagate-row-requires-2 c κs = (c .before .before .before .before .before .before .before .before .before .pre .0, omega arith, omega arith, omega arith, (λ j l u e. omega arith), omega arith, c .before .before .before .before .before .before .before .before .before .pre .2, c .before .before .before .before .before .before .before .before .before .pre .3, c .before .before .before .before .before .before .before .before .before .pre .4)
-
-loop-less : tie.Need-loop-less Inv-loop μ-loop
-loop-less c = omega arith
 
 loop-again : tie.Need-loop-again Inv-loop μ-loop
 loop-again c =
@@ -44,9 +35,6 @@ loop-again c =
           (moves-at (ap (λ n. a .first + crossStart (a .d) n) e) refl (l .inv .1)) (c .before .before .before .before .before .before .propagate-row .ensures) (c .before .before .propagate-row2 .ensures),
     )
 
-same-length : tie.Need-same-length Inv-loop μ-loop
-same-length c = c .before .loop .inv .1 .size
-
 returns : tie.Need-returns Inv-loop μ-loop
 returns c = moves-at (ap (λ n. c .before .before .before .before .args .first + crossStart (c .before .before .before .before .args .d) n) (zero-is (c .before .loop .i) (c .loop-test .left))) refl (c .before .loop .inv .1)
 
@@ -57,11 +45,11 @@ propagate-rows-spec =
     Inv-loop
     μ-loop
     loop-holds
-    sub-i
-    add-propagate-row
+    (λ c. omega arith)
+    (λ c. record { fits = omega arith })
     propagate-row-requires
     propagate-row-requires-2
-    loop-less
+    (λ c. omega arith)
     loop-again
-    same-length
+    (λ c. c .before .loop .inv .1 .size)
     returns)

@@ -16,14 +16,8 @@ Inv-loop marks₀ probes i₀ marks i = (i ≤ length probes) × (markAll marks�
 abbrev μ-loop : tie.MeasureT-loop
 μ-loop marks₀ probes i₀ marks i = length probes - i
 
-cast-wire : tie.Need-cast-wire Inv-loop μ-loop
-cast-wire c = record { fits = omega (arith, c .shared-slice-known .given (c .before .before .loop .i)) }
-
 element-write-marks : tie.Need-element-write-marks Inv-loop μ-loop
 element-write-marks c = c .before .before .before .pre _ (nth-in (c .before .before .before .args .probes .now) (c .before .before .loop .i) (c .before .loop-test .taken))
-
-loop-again : tie.Need-loop-again Inv-loop μ-loop
-loop-again c = (omega arith, c .before .before .loop .inv .1 ∙ mark-turn _ _ _ (c .before .loop-test .taken))
 
 pub mark-spec : {M : Type 1} → statement M
 mark-spec =
@@ -34,9 +28,9 @@ mark-spec =
     (λ c. (omega arith, refl))
     (λ c. search needs)
     (λ c. search needs)
-    cast-wire
+    (λ c. record { fits = omega (arith, c .shared-slice-known .given (c .before .before .loop .i)) })
     element-write-marks
     (λ c. search needs)
     (λ c. search needs)
-    loop-again
+    (λ c. (omega arith, c .before .before .loop .inv .1 ∙ mark-turn _ _ _ (c .before .loop-test .taken)))
     (λ c. sym (c .before .loop .inv .1 ∙ mark-end _ _ _ (c .loop-test .left))))

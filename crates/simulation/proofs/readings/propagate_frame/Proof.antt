@@ -36,17 +36,8 @@ propagate-requires c κs = let q = asked-gate (c .before .before .before .before
 propagate-requires-2 : tie.Need-propagate-requires-2
 propagate-requires-2 c κs = let q = asked-gate (c .before .before .before .before) (c .before .before .gate2 .given .1) in (omega (arith, q .0), omega (arith, q .0, q .1), omega (arith, q .0, q .1))
 
-propagate-and-requires : tie.Need-propagate-and-requires
-propagate-and-requires c κs = let s = c .before .before .before .before .before in let q = asked s (c .before .enum-told5 .given .1) in (s .pre .0, q .0, q .1)
-
 propagate-refresh-requires : tie.Need-propagate-refresh-requires
 propagate-refresh-requires c κs = let s = c .before .before .before .before .before in let q = asked s (c .before .enum-told6 .given .1) in (s .pre .0, omega (arith, q .0), q .1 .0, q .1 .1)
-
-returns : tie.Need-returns
-returns c = rw (c .before .before .before .frame .given .1, c .enum-told .given .1) (λ from. moves-stops _ _ _ (λ g h q l. ap isStop (h q l)))
-
-returns-2 : tie.Need-returns-2
-returns-2 c = rw (c .before .before .before .frame .given .1, c .enum-told2 .given .1) (λ from. moves-stop _ _ (λ g h. ap isStop h))
 
 returns-3 : tie.Need-returns-3
 returns-3 c =
@@ -57,18 +48,6 @@ returns-4 : tie.Need-returns-4
 returns-4 c =
     let g = c .before .before .before .before .before in
     rw (g .before .before .before .frame .given .1, g .gate2 .given .1, c .before .before .propagate2 .ensures) (λ from. twice-moved _ (g .gate2 .given .0 .0) _ (λ g h. h))
-
-returns-5 : tie.Need-returns-5
-returns-5 c = rw (c .before .before .before .frame .given .1, c .enum-told3 .given .1) (λ from. moves-stop _ _ (λ g h. ap isStop h))
-
-returns-6 : tie.Need-returns-6
-returns-6 c = rw (c .before .before .before .frame .given .1, c .enum-told4 .given .1) (λ from. moves-at refl (omega arith) (moves-none _ _))
-
-returns-7 : tie.Need-returns-7
-returns-7 c = rw (c .before .before .before .before .enum-told5 .given .1) (λ from. c .before .before .propagate-and .ensures)
-
-returns-8 : tie.Need-returns-8
-returns-8 c = rw (c .before .before .before .before .enum-told6 .given .1) (λ from. c .before .before .propagate-refresh .ensures)
 
 pub propagate-frame-spec : {M : Type 1} → statement M
 propagate-frame-spec =
@@ -88,18 +67,18 @@ propagate-frame-spec =
     (λ c. search needs)
     (λ c. search needs)
     (λ c. search needs)
-    propagate-and-requires
+    (λ c κs. let s = c .before .before .before .before .before in let q = asked s (c .before .enum-told5 .given .1) in (s .pre .0, q .0, q .1))
     (λ c. search needs)
     propagate-refresh-requires
-    returns
-    returns-2
+    (λ c. rw (c .before .before .before .frame .given .1, c .enum-told .given .1) (λ from. moves-stops _ _ _ (λ g h q l. ap isStop (h q l))))
+    (λ c. rw (c .before .before .before .frame .given .1, c .enum-told2 .given .1) (λ from. moves-stop _ _ (λ g h. ap isStop h)))
     (λ c. c .before .before .propagate .kept .0)
     returns-3
     (λ c. c .before .before .propagate2 .kept .0)
     returns-4
-    returns-5
-    returns-6
+    (λ c. rw (c .before .before .before .frame .given .1, c .enum-told3 .given .1) (λ from. moves-stop _ _ (λ g h. ap isStop h)))
+    (λ c. rw (c .before .before .before .frame .given .1, c .enum-told4 .given .1) (λ from. moves-at refl (omega arith) (moves-none _ _)))
     (λ c. c .before .before .propagate-and .ensures .size)
-    returns-7
+    (λ c. rw (c .before .before .before .before .enum-told5 .given .1) (λ from. c .before .before .propagate-and .ensures))
     (λ c. c .before .before .propagate-refresh .ensures .size)
-    returns-8)
+    (λ c. rw (c .before .before .before .before .enum-told6 .given .1) (λ from. c .before .before .propagate-refresh .ensures)))

@@ -29,9 +29,6 @@ met : (c : tie.After-step2 Inv-loop μ-loop) → let a = head c .before .before 
     stepAt (a .table .now) (nth (a .table .now) 1) (nth (a .starts .now) (head c .loop .i - 1)) ≡ Next (g .0) (g .1 .0) (g .1 .1 .0)
 met c = sym (c .before .before .step .ensures) ∙ c .step2 .given .1
 
-cast-t21 : tie.Need-cast-t21 Inv-loop μ-loop
-cast-t21 c = record { fits = omega (arith, c .shared-slice-known4 .given (c .before .before .loop .i - 1)) }
-
 propagate-frame-requires : tie.Need-propagate-frame-requires Inv-loop μ-loop
 propagate-frame-requires c κs =
     let t = c .before .before .before .before in
@@ -55,7 +52,7 @@ propagate-frames-spec =
     (λ c. c .loop-test .taken)
     (λ c. search needs)
     (λ c. omega (arith, c .before .before .loop .inv .most))
-    cast-t21
+    (λ c. record { fits = omega (arith, c .shared-slice-known4 .given (c .before .before .loop .i - 1)) })
     (λ c κs. search needs)
     (λ c. search needs)
     (λ c. absurd (no-end (c .before .before .before .before .before .loop .inv) (c .before .before .before .before .loop-test .taken) (sym (c .before .before .step .ensures) ∙ c .enum-told .given .1)))

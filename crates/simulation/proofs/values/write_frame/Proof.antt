@@ -36,18 +36,6 @@ copy-requires c κs =
     let q = asked-gate g (c .before .enum-told .given .1) in
     (q .0, q .2, entry g .pre .4)
 
-constant-requires : tie.Need-constant-requires
-constant-requires c κs = asked-gate (c .before .before .before .before) (c .before .before .gate .given .1) .0
-
-sum-requires : tie.Need-sum-requires
-sum-requires c κs = let q = asked-gate (c .before .before .before .before) (c .before .before .gate2 .given .1) in (q .0, q .1 .0, q .1 .1)
-
-inverse-requires : tie.Need-inverse-requires
-inverse-requires c κs = let q = asked-gate (c .before .before .before .before) (c .before .before .gate3 .given .1) in (q .0, q .1)
-
-register-requires : tie.Need-register-requires
-register-requires c κs = let q = asked-gate (c .before .before .before .before) (c .before .before .gate4 .given .1) in (q .0, q .1)
-
 and-requires : tie.Need-and-requires
 and-requires c κs =
     let s = c .before .before .before .before .before .before .before in
@@ -75,15 +63,6 @@ returns-4 c = rw (c .before .before .before .before .before .before .before .bef
 returns-5 : tie.Need-returns-5
 returns-5 c = rw (c .before .before .before .before .before .before .before .before .frame .given .1, c .before .before .before .before .before .gate4 .given .1) (c .before .before .register .ensures)
 
-returns-6 : tie.Need-returns-6
-returns-6 c = rw (c .before .before .before .frame .given .1, c .enum-told2 .given .1) (fills-at refl (omega arith) (fills-none _ _))
-
-returns-7 : tie.Need-returns-7
-returns-7 c = rw (c .before .before .before .before .enum-told3 .given .1) (c .before .before .and .ensures)
-
-returns-8 : tie.Need-returns-8
-returns-8 c = rw (c .before .before .before .before .enum-told4 .given .1) (c .before .before .refresh .ensures)
-
 pub write-frame-spec : {M : Type 1} → statement M
 write-frame-spec =
     tie.close
@@ -92,13 +71,13 @@ write-frame-spec =
     (λ c. search needs)
     copy-requires
     (λ c. search needs)
-    constant-requires
+    (λ c κs. asked-gate (c .before .before .before .before) (c .before .before .gate .given .1) .0)
     (λ c. search needs)
-    sum-requires
+    (λ c κs. let q = asked-gate (c .before .before .before .before) (c .before .before .gate2 .given .1) in (q .0, q .1 .0, q .1 .1))
     (λ c. search needs)
-    inverse-requires
+    (λ c κs. let q = asked-gate (c .before .before .before .before) (c .before .before .gate3 .given .1) in (q .0, q .1))
     (λ c. search needs)
-    register-requires
+    (λ c κs. let q = asked-gate (c .before .before .before .before) (c .before .before .gate4 .given .1) in (q .0, q .1))
     (λ c. search needs)
     (λ c. search needs)
     and-requires
@@ -114,8 +93,8 @@ write-frame-spec =
     returns-4
     (λ c. c .before .before .register .ensures .size)
     returns-5
-    returns-6
+    (λ c. rw (c .before .before .before .frame .given .1, c .enum-told2 .given .1) (fills-at refl (omega arith) (fills-none _ _)))
     (λ c. c .before .before .and .ensures .size)
-    returns-7
+    (λ c. rw (c .before .before .before .before .enum-told3 .given .1) (c .before .before .and .ensures))
     (λ c. c .before .before .refresh .ensures .size)
-    returns-8)
+    (λ c. rw (c .before .before .before .before .enum-told4 .given .1) (c .before .before .refresh .ensures)))
