@@ -27,17 +27,18 @@ and-filled d first a b tape used old one two three count e draws products outs =
     (fills-at (omega arith) (omega arith) outs)
 
 -- one sum of REF
-module _ (d first : ℕ) (a : ℕ → ℕ) (old mid : List ℕ) (i : ℕ) (l : i < d) (room : first + pairs d + i < length old) (early : a i < first)
-    (f : Fills (Masked d first a) (first + pairs d) (first + pairs d + i) old mid) (s t : ℕ) (r : Sums d first i (nth mid (a i)) 0 i mid s) (q : Sums d first i s (i + 1) d mid t) where
+module _ {d first : ℕ} {a : ℕ → ℕ} {old mid : List ℕ} {i : ℕ} (f : Fills (Masked d first a) (first + pairs d) (first + pairs d + i) old mid)
+    (l : i < d) (room : first + pairs d + i < length old) (early : a i < first) (x p : ℕ) (x-is : x ≡ a i) (p-is : p ≡ first + pairs d + i)
+    {s t : ℕ} (r : Sums d first i (nth mid x) 0 i mid s) (q : Sums d first i s (i + 1) d mid t) where
   sum-is : (v : Values) → Masked d first a v → Known v 0 (first + pairs d) old → t ≡ byte (v (sumAt d first i))
   sum-is v e k =
       let g : ℕ → Bool = λ j. v (maskAt d first i j) in
       let known : Known v 0 (first + pairs d) mid = λ x p u. known-all f v e k x p (omega arith) in
-      q .is (v (a i) ⊕ xorSum (range 0 (i - 0)) g) (r .is (v (a i)) (known (a i) (omega arith) (omega arith)) v known) v known
+      q .is (v (a i) ⊕ xorSum (range 0 (i - 0)) g) (r .is (v (a i)) (ap (nth mid) x-is ∙ known (a i) (omega arith) (omega arith)) v known) v known
       ∙ ap byte (xor-assoc (v (a i)) (xorSum (range 0 (i - 0)) g) (xorSum (range (i + 1) (d - (i + 1))) g) ∙ ap (λ z. v (a i) ⊕ z) (sym (xorSum-others g d i l)) ∙ sym (e i l))
 
-  pub masked-turn : Fills (Masked d first a) (first + pairs d) (first + pairs d + (i + 1)) old (set mid (first + pairs d + i) t)
-  masked-turn = fills-at refl (omega arith) (fills-set t f (omega arith) room sum-is)
+  pub masked-turn : Fills (Masked d first a) (first + pairs d) (first + pairs d + (i + 1)) old (set mid p t)
+  masked-turn = rw p-is (fills-at refl (omega arith) (fills-set t f (omega arith) room sum-is))
 
 pub ref-filled : (d first : ℕ) (a : ℕ → ℕ) (tape : List ℕ) (used : ℕ) (old one two three : List ℕ) (count : ℕ) → count ≡ pairs d
     → Fills (Copied tape used first count) first (first + count) old one → Fills (Masked d first a) (first + pairs d) (first + pairs d + d) one two

@@ -15,7 +15,7 @@ use Rattle.simulation.specs.Internal.Filling.{Values, Known, Fills, cros
 use Rattle.simulation.specs.Internal.Gadgets.{RowCrossedBy, CrossesRow}
 use Rattle.simulation.proofs.Adding.{xorSum-others}
 use Rattle.simulation.proofs.Filled.{known-all, nth-set}
-use Rattle.simulation.proofs.Rows.{slot-low, slot-high, product-early, row-next, row-room}
+use Rattle.simulation.proofs.Rows.{slot-low, product-early, row-room, RowEnds, row-ends}
 
 -- the rows of the shares below i, and their outputs
 pub record OutputsOn (d first : ℕ) (a : ℕ → ℕ) (old values : List ℕ) (i : ℕ) : Type 0 where
@@ -26,8 +26,8 @@ pub record OutputsOn (d first : ℕ) (a : ℕ → ℕ) (old values : List ℕ) (
   pub above : (x : ℕ) → outAt d first d ≤ x → nth values x ≡ nth old x
   pub size : length values ≡ length old
 
-pub outputs-start : (d first : ℕ) (a : ℕ → ℕ) (old : List ℕ) → OutputsOn d first a old old 0
-outputs-start d first a old = record {
+pub outputs-start : {d first : ℕ} {a : ℕ → ℕ} {old : List ℕ} → OutputsOn d first a old old 0
+outputs-start = record {
   most = omega arith;
   known = λ v e k. k;
   outs = λ v e k x l u. absurd (omega arith);
@@ -36,8 +36,8 @@ outputs-start d first a old = record {
   size = refl;
 }
 
-pub outputs-end : (d first : ℕ) (a : ℕ → ℕ) (old values : List ℕ) (i : ℕ) → d ≤ i → OutputsOn d first a old values i → Fills (Multiplied d first a) (first + crossStart d 0) (outAt d first d) old values
-outputs-end d first a old values i h on =
+pub outputs-end : {d first : ℕ} {a : ℕ → ℕ} {old values : List ℕ} {i : ℕ} → d ≤ i → OutputsOn d first a old values i → Fills (Multiplied d first a) (first + crossStart d 0) (outAt d first d) old values
+outputs-end {d} {first} {i = i} h on =
     let e : i ≡ d = omega (arith, on .most) in
     record {
       filled = λ v q k x l u. cases (ltb x (first + crossStart d d))
@@ -48,30 +48,17 @@ outputs-end d first a old values i h on =
       size = on .size;
     }
 
-module _ (d first : ℕ) (a : ℕ → ℕ) (old values : List ℕ) (i : ℕ) (l : i < d) (early : a i < first) (room : outAt d first d ≤ length old) (on : OutputsOn d first a old values i)
-    (one two : List ℕ) (s t : ℕ) (r : CrossesRow d first i (nth values (a i)) (nth values (productAt d first i + 2)) 0 i values one s) (q : CrossesRow d first i (nth values (a i)) s (i + 1) d one two t) where
-  -- the rows' ends
-  first-at : crossAt d first i 0 ≡ first + crossStart d i
-  first-at = omega (arith, slot-low i 0 (omega arith))
+module _ {d first : ℕ} {a : ℕ → ℕ} {old values : List ℕ} {i : ℕ} (on : OutputsOn d first a old values i) (l : i < d) (early : a i < first) (room : outAt d first d ≤ length old)
+    {one two : List ℕ} {s t : ℕ} (r : CrossesRow d first i (nth values (a i)) (nth values (productAt d first i + 2)) 0 i values one s) (q : CrossesRow d first i (nth values (a i)) s (i + 1) d one two t) where
+  ends : RowEnds d first i
+  ends = row-ends d first i l
 
-  mid-at : crossAt d first i (i + 1) ≡ crossAt d first i i
-  mid-at = omega (arith, slot-low i i (omega arith), slot-high i (i + 1) (omega arith))
-
-  last-at : crossAt d first i d ≡ first + crossStart d (i + 1)
-  last-at = ap (λ n. first + crossStart d i + 6 * n) (slot-high i d l) ∙ row-next d first i
-
-  -- the sheet before the output, where it is not in this row
+  -- the values before the output, where it is not in this row
   kept-low : (x : ℕ) → x < first + crossStart d i → nth two x ≡ nth values x
-  kept-low x h = q .fills .below x (omega (arith, mid-at, slot-low i i (omega arith))) ∙ r .fills .below x (omega (arith, first-at))
+  kept-low x h = q .fills .below x (omega (arith, ends, slot-low i i (omega arith))) ∙ r .fills .below x (omega (arith, ends))
 
   kept-high : (x : ℕ) → first + crossStart d (i + 1) ≤ x → nth two x ≡ nth values x
-  kept-high x h = q .fills .above x (omega (arith, last-at)) ∙ r .fills .above x (high x h)
-    where
-      high : (x : ℕ) → first + crossStart d (i + 1) ≤ x → crossAt d first i i ≤ x
-      high x h = within (crossStart d i) (crossStart d (i + 1)) (slotOf i i) (slot-low i i (omega arith)) (row-next d first i) h
-        where
-          within : (y z n : ℕ) → n ≡ i → first + y + 6 * (d - 1) ≡ first + z → first + z ≤ x → first + y + 6 * n ≤ x
-          within y z n e k u = omega arith
+  kept-high x h = q .fills .above x (omega (arith, ends)) ∙ r .fills .above x (omega (arith, ends .within))
 
   size-two : length two ≡ length old
   size-two = q .fills .size ∙ r .fills .size ∙ on .size
@@ -84,13 +71,13 @@ module _ (d first : ℕ) (a : ℕ → ℕ) (old values : List ℕ) (i : ℕ) (l 
     by = record { x = v (a i); a-is = now-known (a i) (omega arith) (omega arith); crossed = e .crossed i l }
 
     start-known : Known v 0 (crossAt d first i 0) values
-    start-known x p u = now-known x p (omega (arith, first-at))
+    start-known x p u = now-known x p (omega (arith, ends .first-is))
 
     mid-known : Known v 0 (crossAt d first i (i + 1)) one
-    mid-known x p u = known-all (r .fills) v by start-known x p (omega (arith, mid-at))
+    mid-known x p u = known-all (r .fills) v by start-known x p (omega (arith, ends .mid))
 
     row-known : Known v 0 (first + crossStart d (i + 1)) two
-    row-known x p u = known-all (q .fills) v by mid-known x p (omega (arith, last-at))
+    row-known x p u = known-all (q .fills) v by mid-known x p (omega (arith, ends .last))
 
     out-known : t ≡ byte (v (outAt d first i))
     unfolding by
@@ -104,8 +91,8 @@ module _ (d first : ℕ) (a : ℕ → ℕ) (old values : List ℕ) (i : ℕ) (l 
   in-room : outAt d first i < length two
   in-room = omega (arith, size-two)
 
-  pub outputs-turn : OutputsOn d first a old (set two (outAt d first i) t) (i + 1)
-  outputs-turn = record {
+  turned : OutputsOn d first a old (set two (outAt d first i) t) (i + 1)
+  turned = record {
     most = omega arith;
     known = λ v e k x p u. nth-set two (outAt d first i) t x in-room (λ same z. absurd (omega (arith, row-room d first i l))) (λ other z. z ∙ row-known v e k x p u);
     outs = λ v e k x p u. nth-set two (outAt d first i) t x in-room
@@ -127,3 +114,9 @@ module _ (d first : ℕ) (a : ℕ → ℕ) (old values : List ℕ) (i : ℕ) (l 
         where
           more : (m n o : ℕ) → o ≡ 0 → first + (m + 6 * o) ≤ first + (m + 6 * n)
           more m n o h = omega arith
+
+-- where the code finds a, M and the output
+pub outputs-turn : {d first : ℕ} {a : ℕ → ℕ} {old values : List ℕ} {i : ℕ} → OutputsOn d first a old values i → i < d → a i < first → outAt d first d ≤ length old
+    → (x o p : ℕ) → x ≡ a i → o ≡ productAt d first i + 2 → p ≡ outAt d first i → {one two : List ℕ} {s t : ℕ}
+    → CrossesRow d first i (nth values x) (nth values o) 0 i values one s → CrossesRow d first i (nth values x) s (i + 1) d one two t → OutputsOn d first a old (set two p t) (i + 1)
+outputs-turn on l early room x o p x-is o-is p-is r q = rw p-is (turned on l early room (rw (x-is, o-is) at r) (rw x-is at q))

@@ -13,7 +13,7 @@ use Rattle.simulation.specs.Internal.Filling.{Values, Known, Fills, Shar
 use Rattle.simulation.proofs.Bits.{byte-and}
 use Rattle.simulation.proofs.Filled.{known-all, fills-at, fills-set}
 
-module _ (d first : ℕ) (a b : ℕ → ℕ) (old mid : List ℕ) (i : ℕ) (l : i < d) (room : productAt d first i + 3 ≤ length old) (early : a i < first) (late : b i < first)
+module _ {d first : ℕ} {a b : ℕ → ℕ} {old mid : List ℕ} {i : ℕ} (l : i < d) (room : productAt d first i + 3 ≤ length old) (early : a i < first) (late : b i < first)
     (f : Fills (ShareProducts d first a b) (productAt d first 0) (productAt d first i) old mid) where
   abbrev E : Values → Type 0
   E = ShareProducts d first a b
@@ -39,5 +39,10 @@ module _ (d first : ℕ) (a b : ℕ → ℕ) (old mid : List ℕ) (i : ℕ) (l :
   two : Fills E (productAt d first 0) (x + 2) old (set (set mid x bit) (x + 1) both)
   two = fills-at refl (omega arith) (fills-set both one (omega arith) (omega arith) (λ v e k. m-is v e k ∙ ap byte (sym (e i l .1))))
 
-  pub products-turn : Fills E (productAt d first 0) (productAt d first (i + 1)) old (set (set (set mid x bit) (x + 1) both) (x + 2) both)
-  products-turn = fills-at refl (omega arith) (fills-set both two (omega arith) (omega arith) (λ v e k. m-is v e k ∙ ap byte (sym (e i l .2))))
+  three : Fills E (productAt d first 0) (productAt d first (i + 1)) old (set (set (set mid x bit) (x + 1) both) (x + 2) both)
+  three = fills-at refl (omega arith) (fills-set both two (omega arith) (omega arith) (λ v e k. m-is v e k ∙ ap byte (sym (e i l .2))))
+
+  -- where the code finds B, a and b
+  pub products-turn : (p y z : ℕ) → p ≡ x → y ≡ a i → z ≡ b i
+      → Fills E (productAt d first 0) (productAt d first (i + 1)) old (set (set (set mid p (nth mid z)) (p + 1) (bitAnd (nth mid y) (nth mid z))) (p + 2) (bitAnd (nth mid y) (nth mid z)))
+  products-turn p y z p-is y-is z-is = rw (p-is, y-is, z-is) three

@@ -55,6 +55,13 @@ module _ (d i : ℕ) (l : i < d) where
       ∙ ap₂ (λ x y. x ++ y) (filter-all p 0 i (λ j h k. rw (eqb-sym i j, lt-ne j i (omega arith))))
       (rw (eqb-refl i) (filter-all p (suc i) (d - suc i) (λ j h k. rw (lt-ne i j h))))
 
+  -- the same, as the code goes over them
+  pub others-split : others d i ≡ range 0 (i - 0) ++ range (i + 1) (d - (i + 1))
+  others-split =
+      let e : i ≡ i - 0 = omega arith in
+      let g : suc i ≡ i + 1 = omega arith in
+      others-is ∙ ap₂ (λ m n. range 0 m ++ range n (d - n)) e g
+
   pub others-count : length (others d i) ≡ d - 1
   others-count = ap length others-is ∙ length-append (range 0 i) (range (suc i) (d - suc i)) ∙ ap₂ (λ x y. x + y) (range-length 0 i) (range-length (suc i) (d - suc i)) ∙ add
     where

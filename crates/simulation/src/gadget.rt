@@ -39,16 +39,16 @@ fn share_products(values: &mut [u8], first: usize, d: usize, ops: &[u16])
     requires { ⌜ Small first d × (length (now ops) ≡ 1 + d + d) × RowBefore first d (wordA (now ops)) × RowBefore first d (wordB d (now ops)) × (productAt d first d ≤ length (now values)) ⌝ }
     ensures { λ _. ⌜ Fills (ShareProducts d first (wordA (now (ops .entry))) (wordB d (now (ops .entry)))) (productAt d first 0) (productAt d first d) (now (values .entry)) (now (values .exit)) ⌝ }
 {
-    let start = first + d * (d - 1);
     let mut i = 0;
     while i < d {
-        let x = ops[1 + i] as usize;
-        let y = ops[1 + d + i] as usize;
+        let x = places::wire(ops, 1 + i);
+        let y = places::wire(ops, 1 + d + i);
         let b = values[y];
         let m = values[x] & b;
-        values[start + 3 * i] = b;
-        values[start + 3 * i + 1] = m;
-        values[start + 3 * i + 2] = m;
+        let at = first + places::product_at(d, i);
+        values[at] = b;
+        values[at + 1] = m;
+        values[at + 2] = m;
         i += 1;
     }
 }
@@ -84,14 +84,12 @@ fn cross_row(
     requires { ⌜ Small first d × (i < d) × (to ≤ d) × Roomy d first (now values) × ((j : ℕ) → from ≤ j → j < to → j ≡ i → ⊥) × (from ≤ to) ⌝ }
     ensures { λ s. ⌜ CrossesRow d first i a bit from to (now (values .entry)) (now (values .exit)) s ⌝ }
 {
-    let product = first + d * (d - 1);
-    let start = first + places::cross_start(d, i);
     let mut sum = bit;
     let mut j = from;
     while j < to {
         let r = values[first + 2 * places::pair_site(d, i, j)];
-        let b = values[product + 3 * j];
-        sum = sum ^ cross(values, start + 6 * places::slot(i, j), a, b, r);
+        let b = values[first + places::product_at(d, j)];
+        sum = sum ^ cross(values, first + places::cross_at(d, i, j), a, b, r);
         j += 1;
     }
     sum
@@ -102,13 +100,12 @@ fn cross_all(values: &mut [u8], first: usize, d: usize, ops: &[u16])
     requires { ⌜ Small first d × (1 + d ≤ length (now ops)) × RowBefore first d (wordA (now ops)) × Roomy d first (now values) ⌝ }
     ensures { λ _. ⌜ Fills (Multiplied d first (wordA (now (ops .entry)))) (first + crossStart d 0) (outAt d first d) (now (values .entry)) (now (values .exit)) ⌝ }
 {
-    let product = first + d * (d - 1);
     let outs = first + places::cross_start(d, d);
     let mut i = 0;
     while i < d {
-        let x = ops[1 + i] as usize;
+        let x = places::wire(ops, 1 + i);
         let a = values[x];
-        let m = values[product + 3 * i + 2];
+        let m = values[first + places::product_at(d, i) + 2];
         let lower = cross_row(values, first, d, i, a, m, 0, i);
         values[outs + i] = cross_row(values, first, d, i, a, lower, i + 1, d);
         i += 1;
@@ -147,7 +144,7 @@ fn sums(values: &mut [u8], first: usize, d: usize, ops: &[u16])
     let start = first + places::pairs(d);
     let mut i = 0;
     while i < d {
-        let x = ops[1 + i] as usize;
+        let x = places::wire(ops, 1 + i);
         let a = values[x];
         let lower = add_masks(values, first, d, i, a, 0, i);
         values[start + i] = add_masks(values, first, d, i, lower, i + 1, d);

@@ -1,6 +1,8 @@
 // Where the wires of AND and REF stand, as offsets from the gadget's first wire.
 ghost use mathlib.Core.Path.{_≡_};
-ghost use Prim.Native.Nat.{_*_, _/_, _-_, _≤_, _<_};
+ghost use Prim.Native.Nat.{_+_, _*_, _/_, _-_, _≤_, _<_};
+ghost use lib.ListN.{length};
+ghost use Rattle.circuit.specs.Lists.{nth};
 ghost use Rattle.simulation.specs.Internal.Places.{rowStart, pairSite, slotOf, crossStart};
 
 // How many pairs two of d shares make.
@@ -34,7 +36,7 @@ pub(crate) fn pair_site(d: usize, i: usize, j: usize) -> usize
 }
 
 // The place of the share j among those other than i.
-pub(crate) fn slot(i: usize, j: usize) -> usize
+fn slot(i: usize, j: usize) -> usize
     ensures { λ r. ⌜ (r ≡ slotOf i j) × (r ≤ j) ⌝ }
 {
     if i < j { j - 1 } else { j }
@@ -46,4 +48,36 @@ pub(crate) fn cross_start(d: usize, i: usize) -> usize
     ensures { λ r. ⌜ (r ≡ crossStart d i) × (r ≤ 512) ⌝ }
 {
     d * (d - 1) + 3 * d + 6 * (i * (d - 1))
+}
+
+// Where u, U, v, V, w and W of the shares i and j begin.
+pub(crate) fn cross_at(d: usize, i: usize, j: usize) -> usize
+    requires { ⌜ (i < d) × (j < d) × (d ≤ 8) ⌝ }
+    ensures { λ r. ⌜ (r ≡ crossStart d i + 6 * slotOf i j) × (r ≤ 560) ⌝ }
+{
+    cross_start(d, i) + 6 * slot(i, j)
+}
+
+// Where B, m and M of the share i begin.
+pub(crate) fn product_at(d: usize, i: usize) -> usize
+    requires { ⌜ (i ≤ d) × (0 < d) × (d ≤ 8) ⌝ }
+    ensures { λ r. ⌜ (r ≡ d * (d - 1) + 3 * i) × (r ≤ 88) ⌝ }
+{
+    d * (d - 1) + 3 * i
+}
+
+// How many wires AND has.
+pub(crate) fn and_wires(d: usize) -> usize
+    requires { ⌜ (0 < d) × (d ≤ 8) ⌝ }
+    ensures { λ r. ⌜ (r ≡ 7 * (d * (d - 1)) + 4 * d) × (r ≤ 480) ⌝ }
+{
+    7 * (d * (d - 1)) + 4 * d
+}
+
+// The wire that a gadget's word names.
+pub(crate) fn wire(ops: &[u16], at: usize) -> usize
+    requires { ⌜ at < length (now ops) ⌝ }
+    ensures { λ r. ⌜ r ≡ nth (now (ops .entry)) at ⌝ }
+{
+    ops[at] as usize
 }

@@ -14,7 +14,7 @@ ghost use Rattle.simulation.specs.Internal.Marks.{markAll, propagated, s
 use super::places;
 
 // The mark of a wire goes to two others.
-pub(crate) fn propagate(marks: &mut [u8], wire: usize, one: usize, other: usize)
+fn propagate(marks: &mut [u8], wire: usize, one: usize, other: usize)
     requires { ⌜ (wire < length (now marks)) × (one < length (now marks)) × (other < length (now marks)) ⌝ }
     ensures { λ _. ⌜ now (marks .exit) ≡ propagated wire (one ∷ other ∷ []) (now (marks .entry)) ⌝ }
 {
@@ -24,6 +24,14 @@ pub(crate) fn propagate(marks: &mut [u8], wire: usize, one: usize, other: usize)
     marks[one] = 1;
     marks[other] = 1;
     marks[wire] = 0;
+}
+
+// The mark of a gate's wire goes to the wires that its words name.
+pub(crate) fn propagate_gate(marks: &mut [u8], wire: usize, one: u16, other: u16)
+    requires { ⌜ (wire < length (now marks)) × (one < length (now marks)) × (other < length (now marks)) ⌝ }
+    ensures { λ _. ⌜ now (marks .exit) ≡ propagated wire (one ∷ other ∷ []) (now (marks .entry)) ⌝ }
+{
+    propagate(marks, wire, one as usize, other as usize);
 }
 
 // Marks on so many wires, six apart.
@@ -50,7 +58,7 @@ fn propagate_output(marks: &mut [u8], first: usize, d: usize, i: usize)
         return;
     }
     let row = first + places::cross_start(d, i);
-    marks[first + d * (d - 1) + 3 * i + 2] = 1;
+    marks[first + places::product_at(d, i) + 2] = 1;
     mark_six_apart(marks, row + 1, d - 1);
     mark_six_apart(marks, row + 5, d - 1);
     marks[wire] = 0;
@@ -91,14 +99,13 @@ fn propagate_row(
     requires { ⌜ Small first d × (i < d) × (to ≤ d) × Roomy d first (now marks) × ((j : ℕ) → from ≤ j → j < to → j ≡ i → ⊥) × (from ≤ to) × (length (now ops) ≡ 1 + d + d) × RowBefore first d (wordA (now ops)) × RowBefore first d (wordB d (now ops)) ⌝ }
     ensures { λ _. ⌜ Moves (CrossRowGates d first (wordA (now (ops .entry))) (wordB d (now (ops .entry))) i) (crossAt d first i from) (crossAt d first i to) (now (marks .entry)) (now (marks .exit)) ⌝ }
 {
-    let a = ops[1 + i] as usize;
-    let start = first + places::cross_start(d, i);
+    let a = places::wire(ops, 1 + i);
     let mut j = to;
     while from < j {
         j -= 1;
-        let b = ops[1 + d + j] as usize;
+        let b = places::wire(ops, 1 + d + j);
         let r = first + 2 * places::pair_site(d, i, j);
-        propagate_cross(marks, start + 6 * places::slot(i, j), a, b, r);
+        propagate_cross(marks, first + places::cross_at(d, i, j), a, b, r);
     }
 }
 
@@ -120,13 +127,12 @@ fn propagate_products(marks: &mut [u8], first: usize, d: usize, ops: &[u16])
     requires { ⌜ Small first d × Roomy d first (now marks) × (length (now ops) ≡ 1 + d + d) × RowBefore first d (wordA (now ops)) ⌝ }
     ensures { λ _. ⌜ Moves (ProductsGates d first (wordA (now (ops .entry))) (wordB d (now (ops .entry)))) (productAt d first 0) (productAt d first d) (now (marks .entry)) (now (marks .exit)) ⌝ }
 {
-    let start = first + d * (d - 1);
     let mut i = d;
     while 0 < i {
         i -= 1;
-        let a = ops[1 + i] as usize;
-        let product = start + 3 * i;
-        propagate(marks, product + 1, a, product);
+        let a = places::wire(ops, 1 + i);
+        let at = first + places::product_at(d, i);
+        propagate(marks, at + 1, a, at);
     }
 }
 
@@ -175,7 +181,7 @@ pub(crate) fn propagate_refresh(marks: &mut [u8], first: usize, d: usize, ops: &
     let mut i = d;
     while 0 < i {
         i -= 1;
-        let a = ops[1 + i] as usize;
+        let a = places::wire(ops, 1 + i);
         propagate_sum(marks, first, d, i, a);
     }
 }

@@ -13,6 +13,7 @@ ghost use Rattle.simulation.specs.Internal.Accepting.{AcceptedTable, cir
 ghost use Rattle.simulation.specs.Internal.Marks.{Marked, markAll, Moves, shownAt};
 ghost use Rattle.simulation.specs.Internal.Reading.{Lists, Propagates, OnStops, Shows};
 use super::bytes;
+use super::places;
 use super::reach;
 use circuit::TABLE_WORDS;
 use circuit::WIRES;
@@ -42,7 +43,7 @@ fn propagate_and(marks: &mut [u8], first: usize, d: usize, ops: &[u16])
     requires { ⌜ Small first d × (first + frameWires Frame.And d ≤ length (now marks)) × FrameEarly Frame.And d first (now ops) ⌝ }
     ensures { λ _. ⌜ Moves (λ g. AndGates g d first (wordA (now (ops .entry))) (wordB d (now (ops .entry)))) first (first + frameWires Frame.And d) (now (marks .entry)) (now (marks .exit)) ⌝ }
 {
-    let most = bytes::largest(marks, first, 7 * (d * (d - 1)) + 4 * d);
+    let most = bytes::largest(marks, first, places::and_wires(d));
     if most < 1 {
         return;
     }
@@ -65,8 +66,8 @@ fn propagate_frame(marks: &mut [u8], frame: Frame, d: usize, first: usize, ops: 
             Gate::Xor {
                 first: one,
                 second: other,
-            } => reach::propagate(marks, first, one as usize, other as usize),
-            Gate::Not { wire } => reach::propagate(marks, first, wire as usize, wire as usize),
+            } => reach::propagate_gate(marks, first, one, other),
+            Gate::Not { wire } => reach::propagate_gate(marks, first, wire, wire),
             Gate::Reg { wire: _ } => {}
             Gate::Out => {}
         },

@@ -1,15 +1,14 @@
--- `evaluation::gadget::sums` meets its contract.
-use mathlib.Core.Path.{_≡_, refl, subst}
-use Prim.Native.Nat.{ℕ, _+_, _-_, _≤_}
+-- The loop's invariant: the sums of the shares below i are filled in.
+use mathlib.Core.Path.{_≡_, refl}
+use Prim.Native.Nat.{_+_, _-_, _≤_, _<_}
 use native.Mathlib.Omega.{arith}
-use lib.ListN.{set}
 use borrow.Author.Needs.{needs}
 use Rattle.circuit.specs.Kinds.{pairs}
 use Rattle.simulation.proofs.gadget.sums.Statement.{statement}
 use Rattle.simulation.proofs.gadget.sums.Tie as tie
-use Rattle.simulation.proofs.Gadgets.{masked-turn}
 use Rattle.simulation.specs.Internal.Places.{wordA}
 use Rattle.simulation.specs.Internal.Filling.{Fills, Masked}
+use Rattle.simulation.proofs.Gadgets.{masked-turn}
 use Rattle.simulation.proofs.Filled.{fills-none, fills-at}
 
 abbrev Inv-loop : tie.InvT-loop
@@ -18,31 +17,18 @@ Inv-loop values₀ first d ops start i₀ values i = (i ≤ d) × Fills (Masked 
 abbrev μ-loop : tie.MeasureT-loop
 μ-loop values₀ first d ops start i₀ values i = d - i
 
-loop-holds : tie.Need-loop-holds Inv-loop μ-loop
-loop-holds c = (omega arith, fills-at refl (omega arith) (fills-none (c .before .before .before .args .first + pairs (c .before .before .before .args .d)) (c .before .before .before .args .values .now)))
+-- a turn's wire stands before the gadget
+abbrev entry : tie.In-loop Inv-loop μ-loop → tie.Start Inv-loop μ-loop
+entry c = c .before .before .before .before .before
 
-cast-x : tie.Need-cast-x Inv-loop μ-loop
-cast-x c = record { fits = omega (arith, c .before .before .before .before .before .before .pre .2 (c .before .before .loop .i) (c .before .loop-test .taken)) }
-
-slice-read-a : tie.Need-slice-read-a Inv-loop μ-loop
-slice-read-a c = omega (arith, c .before .before .before .before .before .before .before .pre .2 (c .before .before .before .loop .i) (c .before .before .loop-test .taken))
-
-add-masks-requires : tie.Need-add-masks-requires Inv-loop μ-loop
-add-masks-requires c κs = (c .before .before .before .before .before .before .before .before .pre .0, c .before .before .before .loop-test .taken, omega arith, omega arith, (λ j l u e. omega arith), omega arith)
-
-add-masks-requires-2 : tie.Need-add-masks-requires-2 Inv-loop μ-loop
-add-masks-requires-2 c κs = (c .before .before .before .before .before .before .before .before .before .before .pre .0, c .before .before .before .before .before .loop-test .taken, omega arith, omega arith, (λ j l u e. omega arith), omega arith)
+early : (c : tie.In-loop Inv-loop μ-loop) → wordA (entry c .args .ops .now) (c .before .loop .i) < entry c .args .first
+early c = entry c .pre .2 (c .before .loop .i) (c .loop-test .taken)
 
 loop-again : tie.Need-loop-again Inv-loop μ-loop
 loop-again c =
-    let a = c .before .before .before .before .before .before .before .before .before .before .before .args in
-    let i = c .before .before .before .before .before .before .before .loop .i in
-    let l = c .before .before .before .before .before .before .loop-test .taken in
-    let here : a .first + pairs (a .d) + i ≡ a .first + c .before .before .before .before .before .before .before .before .pairs .result + i = omega arith in (
-      omega arith,
-      subst (λ (n : ℕ). Fills (Masked (a .d) (a .first) (wordA (a .ops .now))) (a .first + pairs (a .d)) (a .first + pairs (a .d) + (i + 1)) (a .values .now) (set (c .before .before .before .before .before .before .before .loop .values) n (c .add-masks2 .result))) here
-          (masked-turn (a .d) (a .first) (wordA (a .ops .now)) (a .values .now) (c .before .before .before .before .before .before .before .loop .values) i l (omega arith) (c .before .before .before .before .before .before .before .before .before .before .before .pre .2 i l) (c .before .before .before .before .before .before .before .loop .inv .1) (c .before .before .add-masks .result) (c .add-masks2 .result) (c .before .before .add-masks .ensures) (c .add-masks2 .ensures)),
-    )
+    let w = c .before .before .before .before .before in
+    let t = w .before in
+    (omega arith, masked-turn (t .before .loop .inv .1) (t .loop-test .taken) (omega (arith, entry t .pre .3)) (early t) _ _ (w .wire .ensures) (omega (arith, t .before .before .pairs .ensures .0)) (c .before .before .add-masks .ensures) (c .add-masks2 .ensures))
 
 pub sums-spec : {M : Type 1} → statement M
 sums-spec =
@@ -52,19 +38,15 @@ sums-spec =
     μ-loop
     (λ c κs. (omega arith, omega arith))
     (λ c. record { fits = omega arith })
-    loop-holds
-    (λ c. search needs)
-    (λ c. search needs)
-    (λ c. omega arith)
-    cast-x
-    slice-read-a
-    add-masks-requires
+    (λ c. (omega arith, fills-at refl (omega arith) (fills-none (c .before .before .before .args .first + pairs (c .before .before .before .args .d)) _)))
+    (λ c. record { fits = omega arith }) (λ c κs. omega arith)
+    (λ c. omega (arith, early (c .before .before), c .before .wire .ensures))
+    (λ c κs. let t = c .before .before .before in (entry t .pre .0, t .loop-test .taken, omega arith, omega arith, (λ j l u e. omega arith), omega arith))
     (λ c. record { fits = omega arith })
-    add-masks-requires-2
+    (λ c κs. let t = c .before .before .before .before .before in (entry t .pre .0, t .loop-test .taken, omega arith, omega arith, (λ j l u e. omega arith), omega arith))
     (λ c. record { fits = omega arith })
-    (λ c. omega arith)
-    (λ c. record { fits = omega arith })
-    (λ c. omega arith)
+    (λ c. let t = c .before .before .before .before .before .before in omega (arith, t .before .before .pairs .ensures .0, t .before .loop .inv .1 .size))
+    (λ c. record { fits = omega arith }) (λ c. omega arith)
     loop-again
     (λ c. c .before .loop .inv .1 .size)
     (λ c. fills-at refl (omega arith) (c .before .loop .inv .1)))

@@ -30,11 +30,11 @@ entry c = c .before .before .before .before .before
 asked-gate : (c : tie.After-known-told) {g : GateCode} → c .before .frame .given .0 .0 ≡ g → Asked (entry c) (frame.Gate g)
 asked-gate c e = asked (entry c) (c .before .frame .given .1 ∙ ap frame.Gate e)
 
-propagate-requires : tie.Need-propagate-requires
-propagate-requires c κs = let q = asked-gate (c .before .before .before .before) (c .before .before .gate .given .1) in (omega (arith, q .0), omega (arith, q .0, q .1 .0), omega (arith, q .0, q .1 .1))
+propagate-gate-requires : tie.Need-propagate-gate-requires
+propagate-gate-requires c κs = let q = asked-gate (c .before .before .before .before) (c .before .before .gate .given .1) in (omega (arith, q .0), omega (arith, q .0, q .1 .0), omega (arith, q .0, q .1 .1))
 
-propagate-requires-2 : tie.Need-propagate-requires-2
-propagate-requires-2 c κs = let q = asked-gate (c .before .before .before .before) (c .before .before .gate2 .given .1) in (omega (arith, q .0), omega (arith, q .0, q .1), omega (arith, q .0, q .1))
+propagate-gate-requires-2 : tie.Need-propagate-gate-requires-2
+propagate-gate-requires-2 c κs = let q = asked-gate (c .before .before .before .before) (c .before .before .gate2 .given .1) in (omega (arith, q .0), omega (arith, q .0, q .1), omega (arith, q .0, q .1))
 
 propagate-refresh-requires : tie.Need-propagate-refresh-requires
 propagate-refresh-requires c κs = let s = c .before .before .before .before .before in let q = asked s (c .before .enum-told6 .given .1) in (s .pre .0, omega (arith, q .0), q .1 .0, q .1 .1)
@@ -42,28 +42,21 @@ propagate-refresh-requires c κs = let s = c .before .before .before .before .be
 returns-3 : tie.Need-returns-3
 returns-3 c =
     let g = c .before .before .before .before .before in
-    rw (g .before .before .before .frame .given .1, g .gate .given .1, c .before .before .propagate .ensures) (λ from. moves-gate _ (sum (g .gate .given .0 .0 ∷ g .gate .given .0 .1 .0 ∷ [])) _ refl (λ g h. h))
+    rw (g .before .before .before .frame .given .1, g .gate .given .1, c .before .before .propagate-gate .ensures) (λ from. moves-gate _ (sum (g .gate .given .0 .0 ∷ g .gate .given .0 .1 .0 ∷ [])) _ refl (λ g h. h))
 
 returns-4 : tie.Need-returns-4
 returns-4 c =
     let g = c .before .before .before .before .before in
-    rw (g .before .before .before .frame .given .1, g .gate2 .given .1, c .before .before .propagate2 .ensures) (λ from. twice-moved _ (g .gate2 .given .0 .0) _ (λ g h. h))
+    rw (g .before .before .before .frame .given .1, g .gate2 .given .1, c .before .before .propagate-gate2 .ensures) (λ from. twice-moved _ (g .gate2 .given .0 .0) _ (λ g h. h))
 
 pub propagate-frame-spec : {M : Type 1} → statement M
 propagate-frame-spec =
     tie.close
     (tie.spec
+    (λ c. search needs) (λ c. search needs) (λ c. search needs) (λ c. search needs)
+    propagate-gate-requires
     (λ c. search needs)
-    (λ c. search needs)
-    (λ c. search needs)
-    (λ c. search needs)
-    (λ c. search needs)
-    (λ c. search needs)
-    propagate-requires
-    (λ c. search needs)
-    (λ c. search needs)
-    (λ c. search needs)
-    propagate-requires-2
+    propagate-gate-requires-2
     (λ c. search needs)
     (λ c. search needs)
     (λ c. search needs)
@@ -72,9 +65,9 @@ propagate-frame-spec =
     propagate-refresh-requires
     (λ c. rw (c .before .before .before .frame .given .1, c .enum-told .given .1) (λ from. moves-stops _ _ _ (λ g h q l. ap isStop (h q l))))
     (λ c. rw (c .before .before .before .frame .given .1, c .enum-told2 .given .1) (λ from. moves-stop _ _ (λ g h. ap isStop h)))
-    (λ c. c .before .before .propagate .kept .0)
+    (λ c. c .before .before .propagate-gate .kept .0)
     returns-3
-    (λ c. c .before .before .propagate2 .kept .0)
+    (λ c. c .before .before .propagate-gate2 .kept .0)
     returns-4
     (λ c. rw (c .before .before .before .frame .given .1, c .enum-told3 .given .1) (λ from. moves-stop _ _ (λ g h. ap isStop h)))
     (λ c. rw (c .before .before .before .frame .given .1, c .enum-told4 .given .1) (λ from. moves-at refl (omega arith) (moves-none _ _)))
