@@ -19,7 +19,6 @@ use Rattle.simulation.specs.Internal.Gates.{gateAt, ProductGates, CrossG
 use Rattle.simulation.specs.Internal.Marks.{markAll, propagated, sixApart, outWires, Moving, Moves}
 use Rattle.simulation.proofs.Bits.{set-low}
 use Rattle.simulation.proofs.Ranges.{others-is, others-split, map-append}
-use Rattle.simulation.proofs.Adding.{range-turn, range-end}
 use Rattle.simulation.proofs.Rows.{slot-low, slot-high, slot-next, slots-up, row-ends, row-room}
 use Rattle.simulation.proofs.Reaching.{moving-gate, moving-stop}
 
@@ -209,13 +208,6 @@ out-handed d first i marks wire row o w-is r-is o-is h e f =
 
 pub below-is : (n m : ℕ) → m ≤ n → n ≤ m → n ≡ m
 below-is n m h k = omega arith
-
--- the random bits of a sum of REF
-pub masks-turn : (f : ℕ → ℕ) (to j : ℕ) → j < to → map f (range j (to - j)) ≡ f j ∷ map f (range (j + 1) (to - (j + 1)))
-masks-turn f to j h = ap (map f) (range-turn to j h)
-
-pub masks-end : (f : ℕ → ℕ) (to j : ℕ) → to ≤ j → map f (range j (to - j)) ≡ []
-masks-end f to j h = ap (map f) (range-end to j h)
 
 -- a sum's marks, as the code sets them
 pub sum-handed : (d first i a : ℕ) (marks : List ℕ) {one two : List ℕ} (wire : ℕ) → i < d → wire ≡ sumAt d first i → 1 ≤ nth marks wire

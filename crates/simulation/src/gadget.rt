@@ -41,11 +41,11 @@ fn share_products(values: &mut [u8], first: usize, d: usize, ops: &[u16])
 {
     let mut i = 0;
     while i < d {
-        let x = places::wire(ops, 1 + i);
-        let y = places::wire(ops, 1 + d + i);
+        let x = places::word_a(ops, i);
+        let y = places::word_b(ops, d, i);
         let b = values[y];
         let m = values[x] & b;
-        let at = first + places::product_at(d, i);
+        let at = places::product_at(d, first, i);
         values[at] = b;
         values[at + 1] = m;
         values[at + 2] = m;
@@ -87,9 +87,9 @@ fn cross_row(
     let mut sum = bit;
     let mut j = from;
     while j < to {
-        let r = values[first + 2 * places::pair_site(d, i, j)];
-        let b = values[first + places::product_at(d, j)];
-        sum = sum ^ cross(values, first + places::cross_at(d, i, j), a, b, r);
+        let r = values[places::pair_at(d, first, i, j)];
+        let b = values[places::product_at(d, first, j)];
+        sum = sum ^ cross(values, places::cross_at(d, first, i, j), a, b, r);
         j += 1;
     }
     sum
@@ -100,14 +100,13 @@ fn cross_all(values: &mut [u8], first: usize, d: usize, ops: &[u16])
     requires { ⌜ Small first d × (1 + d ≤ length (now ops)) × RowBefore first d (wordA (now ops)) × Roomy d first (now values) ⌝ }
     ensures { λ _. ⌜ Fills (Multiplied d first (wordA (now (ops .entry)))) (first + crossStart d 0) (outAt d first d) (now (values .entry)) (now (values .exit)) ⌝ }
 {
-    let outs = first + places::cross_start(d, d);
     let mut i = 0;
     while i < d {
-        let x = places::wire(ops, 1 + i);
-        let a = values[x];
-        let m = values[first + places::product_at(d, i) + 2];
+        let a = values[places::word_a(ops, i)];
+        let m = values[places::product_at(d, first, i) + 2];
         let lower = cross_row(values, first, d, i, a, m, 0, i);
-        values[outs + i] = cross_row(values, first, d, i, a, lower, i + 1, d);
+        let sum = cross_row(values, first, d, i, a, lower, i + 1, d);
+        values[places::out_at(d, first, i)] = sum;
         i += 1;
     }
 }
@@ -130,7 +129,7 @@ fn add_masks(values: &[u8], first: usize, d: usize, i: usize, bit: u8, from: usi
     let mut sum = bit;
     let mut j = from;
     while j < to {
-        sum = sum ^ values[first + places::pair_site(d, i, j)];
+        sum = sum ^ values[places::mask_at(d, first, i, j)];
         j += 1;
     }
     sum
@@ -141,13 +140,11 @@ fn sums(values: &mut [u8], first: usize, d: usize, ops: &[u16])
     requires { ⌜ Small first d × (1 + d ≤ length (now ops)) × RowBefore first d (wordA (now ops)) × (first + pairs d + d ≤ length (now values)) ⌝ }
     ensures { λ _. ⌜ Fills (Masked d first (wordA (now (ops .entry)))) (first + pairs d) (first + pairs d + d) (now (values .entry)) (now (values .exit)) ⌝ }
 {
-    let start = first + places::pairs(d);
     let mut i = 0;
     while i < d {
-        let x = places::wire(ops, 1 + i);
-        let a = values[x];
+        let a = values[places::word_a(ops, i)];
         let lower = add_masks(values, first, d, i, a, 0, i);
-        values[start + i] = add_masks(values, first, d, i, lower, i + 1, d);
+        values[places::sum_at(d, first, i)] = add_masks(values, first, d, i, lower, i + 1, d);
         i += 1;
     }
 }

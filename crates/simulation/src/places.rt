@@ -1,9 +1,9 @@
-// Where the wires of AND and REF stand, as offsets from the gadget's first wire.
+// Where the wires of AND and REF stand, behind the wires before the gadget.
 ghost use mathlib.Core.Path.{_≡_};
 ghost use Prim.Native.Nat.{_+_, _*_, _/_, _-_, _≤_, _<_};
 ghost use lib.ListN.{length};
-ghost use Rattle.circuit.specs.Lists.{nth};
-ghost use Rattle.simulation.specs.Internal.Places.{rowStart, pairSite, slotOf, crossStart};
+ghost use Rattle.simulation.specs.Internal.Places.{wordA, wordB, rowStart, pairSite, slotOf, crossStart, pairAt, productAt, crossAt, outAt, maskAt, sumAt};
+ghost use Rattle.simulation.specs.Internal.Gadgets.{Small};
 
 // How many pairs two of d shares make.
 pub(crate) fn pairs(d: usize) -> usize
@@ -22,7 +22,7 @@ fn row_start(d: usize, i: usize) -> usize
 }
 
 // The place of the pair of two different shares among all pairs.
-pub(crate) fn pair_site(d: usize, i: usize, j: usize) -> usize
+fn pair_site(d: usize, i: usize, j: usize) -> usize
     requires { ⌜ (i < d) × (j < d) × (d ≤ 8) ⌝ }
     ensures { λ r. ⌜ (r ≡ pairSite d i j) × (r ≤ 72) ⌝ }
 {
@@ -50,20 +50,51 @@ pub(crate) fn cross_start(d: usize, i: usize) -> usize
     d * (d - 1) + 3 * d + 6 * (i * (d - 1))
 }
 
-// Where u, U, v, V, w and W of the shares i and j begin.
-pub(crate) fn cross_at(d: usize, i: usize, j: usize) -> usize
-    requires { ⌜ (i < d) × (j < d) × (d ≤ 8) ⌝ }
-    ensures { λ r. ⌜ (r ≡ crossStart d i + 6 * slotOf i j) × (r ≤ 560) ⌝ }
+// AND's wire r of the shares i and j; R stands behind it.
+pub(crate) fn pair_at(d: usize, first: usize, i: usize, j: usize) -> usize
+    requires { ⌜ Small first d × (i < d) × (j < d) ⌝ }
+    ensures { λ r. ⌜ (r ≡ pairAt d first i j) × (r ≤ first + 144) ⌝ }
 {
-    cross_start(d, i) + 6 * slot(i, j)
+    first + 2 * pair_site(d, i, j)
 }
 
-// Where B, m and M of the share i begin.
-pub(crate) fn product_at(d: usize, i: usize) -> usize
-    requires { ⌜ (i ≤ d) × (0 < d) × (d ≤ 8) ⌝ }
-    ensures { λ r. ⌜ (r ≡ d * (d - 1) + 3 * i) × (r ≤ 88) ⌝ }
+// AND's wire B of the share i; m and M stand behind it.
+pub(crate) fn product_at(d: usize, first: usize, i: usize) -> usize
+    requires { ⌜ Small first d × (i ≤ d) ⌝ }
+    ensures { λ r. ⌜ (r ≡ productAt d first i) × (r ≤ first + 88) ⌝ }
 {
-    d * (d - 1) + 3 * i
+    first + d * (d - 1) + 3 * i
+}
+
+// AND's wire u of the shares i and j; U, v, V, w and W stand behind it.
+pub(crate) fn cross_at(d: usize, first: usize, i: usize, j: usize) -> usize
+    requires { ⌜ Small first d × (i < d) × (j < d) ⌝ }
+    ensures { λ r. ⌜ (r ≡ crossAt d first i j) × (r ≤ first + 560) ⌝ }
+{
+    first + cross_start(d, i) + 6 * slot(i, j)
+}
+
+// The output of the share i.
+pub(crate) fn out_at(d: usize, first: usize, i: usize) -> usize
+    requires { ⌜ Small first d × (i < d) ⌝ }
+    ensures { λ r. ⌜ (r ≡ outAt d first i) × (r ≤ first + 520) ⌝ }
+{
+    first + cross_start(d, d) + i
+}
+
+// REF's random bit of the shares i and j, and its sum of the share i.
+pub(crate) fn mask_at(d: usize, first: usize, i: usize, j: usize) -> usize
+    requires { ⌜ Small first d × (i < d) × (j < d) ⌝ }
+    ensures { λ r. ⌜ (r ≡ maskAt d first i j) × (r ≤ first + 72) ⌝ }
+{
+    first + pair_site(d, i, j)
+}
+
+pub(crate) fn sum_at(d: usize, first: usize, i: usize) -> usize
+    requires { ⌜ Small first d × (i ≤ d) ⌝ }
+    ensures { λ r. ⌜ (r ≡ sumAt d first i) × (r ≤ first + 40) ⌝ }
+{
+    first + pairs(d) + i
 }
 
 // How many wires AND has.
@@ -74,10 +105,17 @@ pub(crate) fn and_wires(d: usize) -> usize
     7 * (d * (d - 1)) + 4 * d
 }
 
-// The wire that a gadget's word names.
-pub(crate) fn wire(ops: &[u16], at: usize) -> usize
-    requires { ⌜ at < length (now ops) ⌝ }
-    ensures { λ r. ⌜ r ≡ nth (now (ops .entry)) at ⌝ }
+// The wires a and b of the share i, among a gadget's words.
+pub(crate) fn word_a(ops: &[u16], i: usize) -> usize
+    requires { ⌜ 1 + i < length (now ops) ⌝ }
+    ensures { λ r. ⌜ r ≡ wordA (now (ops .entry)) i ⌝ }
 {
-    ops[at] as usize
+    ops[1 + i] as usize
+}
+
+pub(crate) fn word_b(ops: &[u16], d: usize, i: usize) -> usize
+    requires { ⌜ 1 + d + i < length (now ops) ⌝ }
+    ensures { λ r. ⌜ r ≡ wordB d (now (ops .entry)) i ⌝ }
+{
+    ops[1 + d + i] as usize
 }

@@ -53,12 +53,12 @@ fn propagate_output(marks: &mut [u8], first: usize, d: usize, i: usize)
     requires { ⌜ Small first d × (i < d) × Roomy d first (now marks) ⌝ }
     ensures { λ _. ⌜ now (marks .exit) ≡ propagated (outAt d first i) (outWires d first i) (now (marks .entry)) ⌝ }
 {
-    let wire = first + places::cross_start(d, d) + i;
+    let wire = places::out_at(d, first, i);
     if marks[wire] < 1 {
         return;
     }
+    marks[places::product_at(d, first, i) + 2] = 1;
     let row = first + places::cross_start(d, i);
-    marks[first + places::product_at(d, i) + 2] = 1;
     mark_six_apart(marks, row + 1, d - 1);
     mark_six_apart(marks, row + 5, d - 1);
     marks[wire] = 0;
@@ -99,13 +99,13 @@ fn propagate_row(
     requires { ⌜ Small first d × (i < d) × (to ≤ d) × Roomy d first (now marks) × ((j : ℕ) → from ≤ j → j < to → j ≡ i → ⊥) × (from ≤ to) × (length (now ops) ≡ 1 + d + d) × RowBefore first d (wordA (now ops)) × RowBefore first d (wordB d (now ops)) ⌝ }
     ensures { λ _. ⌜ Moves (CrossRowGates d first (wordA (now (ops .entry))) (wordB d (now (ops .entry))) i) (crossAt d first i from) (crossAt d first i to) (now (marks .entry)) (now (marks .exit)) ⌝ }
 {
-    let a = places::wire(ops, 1 + i);
+    let a = places::word_a(ops, i);
     let mut j = to;
     while from < j {
         j -= 1;
-        let b = places::wire(ops, 1 + d + j);
-        let r = first + 2 * places::pair_site(d, i, j);
-        propagate_cross(marks, first + places::cross_at(d, i, j), a, b, r);
+        let b = places::word_b(ops, d, j);
+        let r = places::pair_at(d, first, i, j);
+        propagate_cross(marks, places::cross_at(d, first, i, j), a, b, r);
     }
 }
 
@@ -130,8 +130,8 @@ fn propagate_products(marks: &mut [u8], first: usize, d: usize, ops: &[u16])
     let mut i = d;
     while 0 < i {
         i -= 1;
-        let a = places::wire(ops, 1 + i);
-        let at = first + places::product_at(d, i);
+        let a = places::word_a(ops, i);
+        let at = places::product_at(d, first, i);
         propagate(marks, at + 1, a, at);
     }
 }
@@ -153,7 +153,7 @@ fn mark_masks(marks: &mut [u8], first: usize, d: usize, i: usize, from: usize, t
 {
     let mut j = from;
     while j < to {
-        marks[first + places::pair_site(d, i, j)] = 1;
+        marks[places::mask_at(d, first, i, j)] = 1;
         j += 1;
     }
 }
@@ -163,7 +163,7 @@ fn propagate_sum(marks: &mut [u8], first: usize, d: usize, i: usize, a: usize)
     requires { ⌜ Small first d × (i < d) × (a < first) × (first + pairs d + d ≤ length (now marks)) ⌝ }
     ensures { λ _. ⌜ now (marks .exit) ≡ propagated (sumAt d first i) (a ∷ map (maskAt d first i) (others d i)) (now (marks .entry)) ⌝ }
 {
-    let wire = first + places::pairs(d) + i;
+    let wire = places::sum_at(d, first, i);
     if marks[wire] < 1 {
         return;
     }
@@ -181,7 +181,7 @@ pub(crate) fn propagate_refresh(marks: &mut [u8], first: usize, d: usize, ops: &
     let mut i = d;
     while 0 < i {
         i -= 1;
-        let a = places::wire(ops, 1 + i);
+        let a = places::word_a(ops, i);
         propagate_sum(marks, first, d, i, a);
     }
 }

@@ -1,6 +1,7 @@
 -- `evaluation::gadget::copy` meets its contract.
 use mathlib.Core.Path.{refl, sym, ap, _∙_}
 use Prim.Native.Nat.{_+_, _-_, _≤_}
+use borrow.Author.Needs.{needs}
 use native.Mathlib.Omega.{arith}
 use Rattle.circuit.specs.Lists.{nth}
 use Rattle.semantics.specs.Values.{byte}
@@ -32,11 +33,11 @@ copy-spec =
     Inv-loop
     μ-loop
     (λ c. (omega arith, fills-at refl (omega arith) (fills-none (c .args .at) (c .args .values .now))))
-    (λ c. record { fits = omega arith })
+    (λ c. search needs)
     (λ c. omega arith)
-    (λ c. record { fits = omega arith })
+    (λ c. search needs)
     (λ c. omega arith)
-    (λ c. record { fits = omega arith })
+    (λ c. search needs)
     (λ c. omega arith)
     loop-again
     (λ c. c .before .loop .inv .1 .size)

@@ -1,5 +1,5 @@
 -- The loop's invariant: the rows of the shares below i are filled in, and so are their outputs.
-use mathlib.Core.Path.{_≡_}
+use mathlib.Core.Path.{_≡_, ap}
 use Prim.Native.Nat.{_+_, _-_, _<_}
 use native.Mathlib.Omega.{arith}
 use borrow.Author.Needs.{needs}
@@ -10,14 +10,14 @@ use Rattle.simulation.proofs.Rows.{ShareOf, share-of}
 use Rattle.simulation.proofs.Outputs.{OutputsOn, outputs-start, outputs-turn, outputs-end}
 
 abbrev Inv-loop : tie.InvT-loop
-Inv-loop values₀ first d ops outs i₀ values i = OutputsOn d first (wordA ops) values₀ values i
+Inv-loop values₀ first d ops i₀ values i = OutputsOn d first (wordA ops) values₀ values i
 
 abbrev μ-loop : tie.MeasureT-loop
-μ-loop values₀ first d ops outs i₀ values i = d - i
+μ-loop values₀ first d ops i₀ values i = d - i
 
 -- a turn's numbers, and its wire a, which stands before the gadget
 abbrev start : tie.In-loop Inv-loop μ-loop → tie.Start Inv-loop μ-loop
-start c = c .before .before .before .before .before
+start c = c .before .before .before .before
 
 share : (c : tie.In-loop Inv-loop μ-loop) → ShareOf (start c .args .d) (start c .args .first) (c .before .loop .i)
 share c = share-of _ _ _ (start c .pre .0 .2) (c .loop-test .taken)
@@ -27,11 +27,12 @@ early c = start c .pre .2 (c .before .loop .i) (c .loop-test .taken)
 
 loop-again : tie.Need-loop-again Inv-loop μ-loop
 loop-again c =
-    let r = c .before .before .before .before .before .before in
+    let q = c .before .before .before in
+    let r = q .before .before .before .before in
     let p = r .before .before .before in
     let w = p .before .before in
     let t = w .before in
-    outputs-turn (t .before .loop .inv) (t .loop-test .taken) (early t) (start t .pre .3) _ _ _ (w .wire .ensures) (omega (arith, p .product-at .ensures .0)) (omega (arith, t .before .before .cross-start .ensures .0)) (r .cross-row .ensures) (c .before .before .cross-row2 .ensures)
+    outputs-turn (t .before .loop .inv) (t .loop-test .taken) (early t) (start t .pre .3) _ _ _ (w .word-a .ensures) (ap (λ n. n + 2) (p .product-at .ensures .0)) (c .out-at .ensures .0) (r .cross-row .ensures) (q .cross-row2 .ensures)
 
 pub cross-all-spec : {M : Type 1} → statement M
 cross-all-spec =
@@ -39,20 +40,19 @@ cross-all-spec =
     (tie.spec
     Inv-loop
     μ-loop
-    (λ c κs. (omega arith, omega arith, omega arith))
-    (λ c. record { fits = omega arith })
     (λ c. outputs-start)
-    (λ c. record { fits = omega arith }) (λ c κs. omega arith)
-    (λ c. omega (arith, early (c .before .before), c .before .wire .ensures, c .before .before .before .loop .inv .size))
-    (λ c κs. (omega arith, omega arith, omega arith))
-    (λ c. record { fits = omega arith }) (λ c. record { fits = omega arith })
+    (λ c κs. omega arith)
+    (λ c. omega (arith, early (c .before .before), c .before .word-a .ensures, c .before .before .before .loop .inv .size))
+    (λ c κs. (start (c .before .before) .pre .0, omega arith))
+    (λ c. search needs)
     (λ c. omega (arith, share (c .before .before .before .before), c .before .product-at .ensures .0, c .before .before .before .before .before .loop .inv .size))
     (λ c κs. let t = c .before .before .before .before .before in (start t .pre .0, t .loop-test .taken, omega arith, omega (arith, t .before .loop .inv .size, start t .pre .3), (λ j l u e. omega arith), omega arith))
-    (λ c. record { fits = omega arith })
+    (λ c. search needs)
     (λ c κs. let t = c .before .before .before .before .before .before .before .before .before in (start t .pre .0, t .loop-test .taken, omega arith, omega (arith, t .before .loop .inv .size, start t .pre .3), (λ j l u e. omega arith), omega arith))
-    (λ c. record { fits = omega arith })
-    (λ c. let t = c .before .before .before .before .before .before .before .before .before .before .before .before in omega (arith, t .before .before .cross-start .ensures .0, t .before .loop .inv .size, start t .pre .3))
-    (λ c. record { fits = omega arith }) (λ c. omega arith)
+    (λ c κs. let t = c .before .before .before .before .before .before .before .before .before .before .before .before in (start t .pre .0, t .loop-test .taken))
+    (λ c. let t = c .before .before .before .before .before .before .before .before .before .before .before .before .before in omega (arith, c .out-at .ensures .0, t .before .loop .inv .size, start t .pre .3))
+    (λ c. search needs)
+    (λ c. omega arith)
     loop-again
     (λ c. c .before .loop .inv .size)
     (λ c. outputs-end (c .loop-test .left) (c .before .loop .inv)))

@@ -1,6 +1,7 @@
 -- `evaluation::gadget::draws` meets its contract.
 use mathlib.Core.Path.{_≡_, refl, sym, ap, _∙_}
 use Prim.Native.Nat.{_+_, _-_, _*_, _≤_}
+use borrow.Author.Needs.{needs}
 use native.Mathlib.Omega.{arith}
 use lib.ListN.{length-set}
 use Rattle.circuit.specs.Lists.{nth}
@@ -36,16 +37,16 @@ draws-spec =
     Inv-loop
     μ-loop
     (λ c. (omega arith, fills-at refl (omega arith) (fills-none (c .args .at) (c .args .values .now))))
-    (λ c. record { fits = omega arith })
+    (λ c. search needs)
     (λ c. omega arith)
-    (λ c. record { fits = omega arith })
-    (λ c. record { fits = omega arith })
+    (λ c. search needs)
+    (λ c. search needs)
     (λ c. omega arith)
-    (λ c. record { fits = omega arith })
-    (λ c. record { fits = omega arith })
-    (λ c. record { fits = omega arith })
+    (λ c. search needs)
+    (λ c. search needs)
+    (λ c. search needs)
     (λ c. rw (length-set) (omega arith))
-    (λ c. record { fits = omega arith })
+    (λ c. search needs)
     (λ c. omega arith)
     loop-again
     (λ c. c .before .loop .inv .1 .size)

@@ -1,6 +1,7 @@
 -- `evaluation::gadget::holds` meets its contract.
 use mathlib.Core.Path.{_≡_, refl, sym, ap, _∙_}
 use Prim.Native.Nat.{_+_, _-_, _≤_}
+use borrow.Author.Needs.{needs}
 use native.Mathlib.Omega.{arith}
 use Rattle.circuit.specs.Lists.{nth}
 use Rattle.circuit.specs.Kinds.{pairs}
@@ -40,14 +41,14 @@ holds-spec =
     Inv-loop
     μ-loop
     (λ c κs. (omega arith, omega arith))
-    (λ c. record { fits = omega arith })
+    (λ c. search needs)
     loop-holds
-    (λ c. record { fits = omega arith })
+    (λ c. search needs)
     (λ c. omega arith)
-    (λ c. record { fits = omega arith })
-    (λ c. record { fits = omega arith })
+    (λ c. search needs)
+    (λ c. search needs)
     (λ c. omega arith)
-    (λ c. record { fits = omega arith })
+    (λ c. search needs)
     (λ c. omega arith)
     loop-again
     (λ c. c .before .loop .inv .1 .size)

@@ -12,4 +12,5 @@ few s = eights (s .args .d) (s .args .d - 1) (omega arith) (omega arith)
 
 pub product-at-spec : {M : Type 1} → statement M
 product-at-spec = tie.close
-    (tie.spec (λ c. search needs) (λ c. record { fits = omega (arith, few c) }) (λ c. search needs) (λ c. record { fits = omega (arith, few c) }) (λ c. (refl, omega (arith, few c))))
+    (tie.spec (λ c. search needs) (λ c. record { fits = omega (arith, few c) }) (λ c. record { fits = omega (arith, few c) }) (λ c. search needs)
+    (λ c. record { fits = omega (arith, few c) }) (λ c. (refl, omega (arith, few c))))

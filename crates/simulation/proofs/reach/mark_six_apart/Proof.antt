@@ -1,6 +1,7 @@
 -- `evaluation::reach::mark_sixes` meets its contract.
 use mathlib.Core.Path.{_≡_, refl, sym, ap, _∙_}
 use Prim.Native.Nat.{_+_, _-_, _*_, _≤_}
+use borrow.Author.Needs.{needs}
 use native.Mathlib.Omega.{arith}
 use lib.ListN.{length, length-set}
 use Rattle.simulation.proofs.reach.mark_six_apart.Statement.{statement}
@@ -35,8 +36,8 @@ mark-six-apart-spec =
     μ-loop
     loop-holds
     (λ c. omega arith)
-    (λ c. record { fits = omega arith })
-    (λ c. record { fits = omega arith })
+    (λ c. search needs)
+    (λ c. search needs)
     (λ c. omega arith)
     loop-again
     (λ c. c .before .loop .inv .3)

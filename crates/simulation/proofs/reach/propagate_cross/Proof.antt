@@ -1,5 +1,6 @@
 -- The marks of w, v and u go on one after the other.
 use mathlib.Core.Path.{_∙_}
+use borrow.Author.Needs.{needs}
 use native.Mathlib.Omega.{arith}
 use Rattle.simulation.proofs.reach.propagate_cross.Statement.{statement}
 use Rattle.simulation.proofs.reach.propagate_cross.Tie as tie
@@ -16,12 +17,12 @@ pub propagate-cross-spec : {M : Type 1} → statement M
 propagate-cross-spec =
     tie.close
     (tie.spec
-    (λ c. record { fits = omega arith })
-    (λ c. record { fits = omega arith })
+    (λ c. search needs)
+    (λ c. search needs)
     (λ c κs. (omega arith, omega arith, omega arith))
-    (λ c. record { fits = omega arith })
+    (λ c. search needs)
     (λ c κs. (omega arith, omega arith, omega arith))
-    (λ c. record { fits = omega arith })
+    (λ c. search needs)
     (λ c κs. (omega arith, omega arith, omega arith))
     (λ c. let two = c .before .before .before .before .before .before in c .before .before .propagate3 .kept .0 ∙ two .propagate2 .kept .0 ∙ two .before .before .before .before .propagate .kept .0)
     returns)

@@ -35,14 +35,14 @@ propagate-requires c κs =
     let q = share t in
     let size = t .before .loop .inv .1 .size in
     let at = c .before .product-at .ensures .0 in
-    (omega (arith, start t .pre .1), omega (arith, start t .pre .1, w .wire .ensures), omega (arith, start t .pre .1))
+    (omega (arith, start t .pre .1), omega (arith, start t .pre .1, w .word-a .ensures), omega (arith, start t .pre .1))
 
 loop-again : tie.Need-loop-again Inv-loop μ-loop
 loop-again c =
     let p = c .before .before .before .before in
     let t = p .before .before in
     let a = start t .args in
-    (omega arith, products-moved (a .d) (a .first) (wordA (a .ops .now)) (wordB (a .d) (a .ops .now)) (t .before .loop .i - 1) (below t) (omega arith) (t .before .loop .inv .1) _ _ (omega (arith, p .product-at .ensures .0)) (p .before .wire .ensures) (c .before .before .propagate .ensures))
+    (omega arith, products-moved (a .d) (a .first) (wordA (a .ops .now)) (wordB (a .d) (a .ops .now)) (t .before .loop .i - 1) (below t) (omega arith) (t .before .loop .inv .1) _ _ (p .product-at .ensures .0) (p .before .word-a .ensures) (c .before .before .propagate .ensures))
 
 pub propagate-products-spec : {M : Type 1} → statement M
 propagate-products-spec =
@@ -51,9 +51,10 @@ propagate-products-spec =
     Inv-loop
     μ-loop
     (λ c. (omega arith, moves-none _ _))
-    (λ c. omega arith) (λ c. record { fits = omega arith }) (λ c κs. omega arith)
-    (λ c κs. (omega arith, omega arith, omega arith))
-    (λ c. record { fits = omega arith }) (λ c. record { fits = omega arith })
+    (λ c. omega arith)
+    (λ c κs. omega arith)
+    (λ c κs. (start (c .before) .pre .0, omega (arith, below (c .before))))
+    (λ c. search needs)
     propagate-requires
     (λ c. omega arith)
     loop-again

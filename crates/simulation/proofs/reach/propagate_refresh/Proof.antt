@@ -21,14 +21,14 @@ propagate-sum-requires : tie.Need-propagate-sum-requires Inv-loop μ-loop
 propagate-sum-requires c κs =
     let l = c .before .before .before .loop in
     let s = c .before .before .before .before .before .before in
-    (s .pre .0, omega arith, omega (arith, c .before .wire .ensures, s .pre .3 (l .i - 1) (omega arith)), omega (arith, l .inv .1 .size))
+    (s .pre .0, omega arith, omega (arith, c .before .word-a .ensures, s .pre .3 (l .i - 1) (omega arith)), omega (arith, l .inv .1 .size))
 
 loop-again : tie.Need-loop-again Inv-loop μ-loop
 loop-again c =
     let w = c .before .before .before .before in
     let l = w .before .before .loop in
     let a = w .before .before .before .before .before .args in
-    (omega arith, sums-moved (a .d) (a .first) (wordA (a .ops .now)) (l .i - 1) (omega arith) (omega arith) (l .inv .1) _ (w .wire .ensures) (c .before .before .propagate-sum .ensures) (omega arith))
+    (omega arith, sums-moved (a .d) (a .first) (wordA (a .ops .now)) (l .i - 1) (omega arith) (omega arith) (l .inv .1) _ (w .word-a .ensures) (c .before .before .propagate-sum .ensures) (omega arith))
 
 returns : tie.Need-returns Inv-loop μ-loop
 returns c =
@@ -42,7 +42,8 @@ propagate-refresh-spec =
     Inv-loop
     μ-loop
     (λ c. let a = c .before .before .args in (omega arith, held-moved (a .d) (a .first) (wordA (a .ops .now)) (a .marks .now)))
-    (λ c. omega arith) (λ c. record { fits = omega arith }) (λ c κs. omega arith)
+    (λ c. omega arith)
+    (λ c κs. omega arith)
     propagate-sum-requires
     (λ c. omega arith)
     loop-again

@@ -41,7 +41,7 @@ propagate-cross-requires c κs =
     let two = s .pre .8 (t .before .loop .j - 1) (below t) in
     let at = c .cross-at .ensures .0 in
     let size = t .before .loop .inv .2 .size in
-    (omega (arith, s .pre .3), omega (arith, t .before .before .wire .ensures), omega (arith, w .wire2 .ensures), omega (arith, p .pair-site .ensures .0))
+    (omega (arith, s .pre .3), omega (arith, t .before .before .word-a .ensures), omega (arith, w .word-b .ensures), omega (arith, p .pair-at .ensures .0))
 
 loop-again : tie.Need-loop-again Inv-loop μ-loop
 loop-again c =
@@ -53,7 +53,7 @@ loop-again c =
       omega arith,
       omega arith,
       row-moved (a .d) (a .first) (wordA (a .ops .now)) (wordB (a .d) (a .ops .now)) (a .i) (t .before .loop .j - 1) (a .to) (below t) (apart t) (omega arith) (omega arith) (t .before .loop .inv .2) _ _ _ _
-          (omega (arith, x .cross-at .ensures .0)) (omega (arith, p .pair-site .ensures .0)) (t .before .before .wire .ensures) (w .wire2 .ensures) (c .before .before .propagate-cross .ensures),
+          (x .cross-at .ensures .0) (p .pair-at .ensures .0) (t .before .before .word-a .ensures) (w .word-b .ensures) (c .before .before .propagate-cross .ensures),
     )
 
 returns : tie.Need-returns Inv-loop μ-loop
@@ -68,13 +68,12 @@ propagate-row-spec =
     (tie.spec
     Inv-loop
     μ-loop
-    (λ c. record { fits = omega arith }) (λ c κs. omega arith)
+    (λ c κs. omega arith)
     (λ c. (c .before .before .before .pre .5, omega arith, moves-none _ _))
-    (λ c. omega arith) (λ c. record { fits = omega arith }) (λ c. record { fits = omega arith }) (λ c κs. omega arith)
-    (λ c κs. (omega arith, omega arith, omega arith))
-    (λ c. record { fits = omega arith }) (λ c. record { fits = omega arith })
-    (λ c κs. (omega arith, omega arith, omega arith))
-    (λ c. record { fits = omega arith })
+    (λ c. omega arith)
+    (λ c κs. omega (arith, below c))
+    (λ c κs. let s = start (c .before) in (s .pre .0, s .pre .1, below (c .before)))
+    (λ c κs. let t = c .before .before .before in (start t .pre .0, start t .pre .1, below t))
     propagate-cross-requires
     (λ c. omega arith)
     loop-again

@@ -1,6 +1,7 @@
 -- The loop's invariant: the marks of the rows from i on are moved on.
 use mathlib.Core.Path.{_≡_, refl, ap}
 use Prim.Native.Nat.{_+_, _-_, _≤_}
+use borrow.Author.Needs.{needs}
 use native.Mathlib.Omega.{arith}
 use Rattle.simulation.proofs.reach.propagate_rows.Statement.{statement}
 use Rattle.simulation.proofs.reach.propagate_rows.Tie as tie
@@ -36,7 +37,7 @@ propagate-rows-spec =
     μ-loop
     (λ c. (omega arith, moves-none _ _))
     (λ c. omega arith)
-    (λ c. record { fits = omega arith })
+    (λ c. search needs)
     propagate-row-requires
     propagate-row-requires-2
     (λ c. omega arith)

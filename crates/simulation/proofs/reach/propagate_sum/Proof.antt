@@ -1,6 +1,7 @@
 -- A sum without a mark is left; another hands its mark to the share's wire and to its random bits, those below i and those above.
 use mathlib.Core.Path.{_≡_, _∙_}
 use Prim.Native.Nat.{_+_, _<_}
+use borrow.Author.Needs.{needs}
 use native.Mathlib.Omega.{arith}
 use lib.ListN.{length, length-set}
 use borrow.Author.Tests.{lt-ltb}
@@ -20,8 +21,7 @@ twice c = c .mark-masks2 .kept .0 ∙ once (c .before .before .before .before)
 returns : tie.Need-returns
 returns c =
     let a = c .before .before .before .before .args in
-    let e : a .first + c .before .before .pairs .result + a .i ≡ sumAt (a .d) (a .first) (a .i) = omega (arith, c .before .before .pairs .ensures .0) in
-    let low : nth (a .marks .now) (sumAt (a .d) (a .first) (a .i)) < 1 = rw (← e) (c .if1 .taken) in
+    let low : nth (a .marks .now) (sumAt (a .d) (a .first) (a .i)) < 1 = rw (← c .before .before .sum-at .ensures .0) (c .if1 .taken) in
     rw (lt-ltb _ 1 low)
 
 mark-masks-requires : tie.Need-mark-masks-requires
@@ -38,21 +38,19 @@ returns-2 c =
     let t = m .before .before in
     let s = t .before .before .before .before in
     let a = s .args in
-    sum-handed (a .d) (a .first) (a .i) (a .a) (a .marks .now) _ (s .pre .1) (omega (arith, t .before .before .pairs .ensures .0)) (t .if1 .left) (m .mark-masks .ensures) (c .before .before .mark-masks2 .ensures)
+    sum-handed (a .d) (a .first) (a .i) (a .a) (a .marks .now) _ (s .pre .1) (t .before .before .sum-at .ensures .0) (t .if1 .left) (m .mark-masks .ensures) (c .before .before .mark-masks2 .ensures)
 
 pub propagate-sum-spec : {M : Type 1} → statement M
 propagate-sum-spec =
     tie.close
     (tie.spec
-    (λ c κs. (omega arith, omega arith))
-    (λ c. record { fits = omega arith })
-    (λ c. record { fits = omega arith })
-    (λ c. omega arith)
+    (λ c κs. (c .before .pre .0, omega arith))
+    (λ c. omega (arith, c .before .sum-at .ensures .0))
     returns
     (λ c. omega arith)
     mark-masks-requires
-    (λ c. record { fits = omega arith })
+    (λ c. search needs)
     mark-masks-requires-2
-    (λ c. omega (arith, twice (c .before .before)))
+    (λ c. omega (arith, twice (c .before .before), c .before .before .before .before .before .before .before .before .before .before .sum-at .ensures .0))
     (λ c. simp length-set (twice (c .before .before)))
     returns-2)
