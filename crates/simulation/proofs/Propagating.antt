@@ -3,13 +3,13 @@ use mathlib.Core.Path.{_≡_, refl, sym, ap, subst, _∙_}
 use mathlib.Core.List.{List, [], _∷_, _++_, append-nil}
 use Prim.Native.Nat.{ℕ, suc, _+_, _-_, _*_, _≤_, _<_}
 use native.Mathlib.Omega.{arith}
-use lib.ListN.{length, take, set, length-append}
+use lib.ListN.{length, take, drop, set, length-append, length-drop}
 use lib.Seq.{length-take-le, take-at}
 use Rattle.circuit.specs.Limits.{wireLimit}
 use Rattle.circuit.specs.Lists.{nth}
 use Rattle.circuit.specs.Wires.{Wire}
 use Rattle.circuit.specs.Circuit.{Circuit, size, empty}
-use Rattle.circuit.specs.Composition.{Frame, build}
+use Rattle.circuit.specs.Composition.{Frame, build, wordsOf}
 use Rattle.frames.specs.declared.walk.Frame.{Frame as FrameCode}
 use Rattle.frames.specs.declared.walk.Walk.{Walk}
 use Rattle.frames.specs.declared.walk.Step.{Step}
@@ -22,7 +22,7 @@ use Rattle.simulation.specs.Internal.Accepting.{AcceptedTable, circuitIn
 use Rattle.simulation.specs.Internal.Marks.{Moving, Moves}
 use Rattle.simulation.specs.Internal.Reading.{Between, Starts, Lists, Propagates}
 use Rattle.simulation.proofs.Filled.{nth-set}
-use Rattle.simulation.proofs.Walking.{whole, whole-few, whole-ordered, so-far, between-start, wires-grow, second-word, Met, Answers, step-answers}
+use Rattle.simulation.proofs.Walking.{whole, whole-few, whole-ordered, so-far, between-start, wires-grow, second-word, Onward, Met, Answers, step-answers}
 use Rattle.simulation.proofs.Reaching.{moving-start, moving-end}
 
 -- the frames before a place, by their number
@@ -41,24 +41,27 @@ pub listed-start : {table : List ℕ} → AcceptedTable table → (starts : List
 listed-start a starts = record { accepted = a; between = between-start a; counted = refl; starts-are = λ i l. absurd (omega arith); spaced = omega arith }
 
 module _ {table starts : List ℕ} {place count : ℕ} (l : ListedTo table starts place count) where
-  pub listed-end : l .between .after ≡ [] → Lists table starts count
-  listed-end none = record {
+  pub listed-end : length table ≤ place → Lists table starts count
+  listed-end end = record {
     accepted = l .accepted;
-    all = sym (ap length (l .between .split ∙ ap (λ r. l .between .before ++ r) none ∙ append-nil (l .between .before)) ∙ l .counted);
+    all = sym (ap length (l .between .split ∙ ap (λ r. l .between .before ++ r) (no-words (l .between .after) (l .between .rest)) ∙ append-nil (l .between .before)) ∙ l .counted);
     few = omega (arith, l .spaced, l .between .most, l .accepted .short);
     starts-are = l .starts-are;
   }
+    where
+      no-words : (fs : List Frame) → drop place table ≡ wordsOf fs → fs ≡ []
+      no-words [] e = refl
+      no-words (f ∷ fs) e = absurd (omega (arith, ap length e, length-drop place table))
 
-  pub listed-next : {d w from : ℕ} {fr : FrameCode} {sh : ShapeCode} {wk : Walk} → Met (l .accepted) (l .between) d w from fr sh wk → count < length starts
-      → ListedTo table (set starts count place) (wk .at) (count + 1)
+  pub listed-next : {next : ℕ} → Onward (l .accepted) (l .between) next → count < length starts → ListedTo table (set starts count place) next (count + 1)
   listed-next m room = record {
     accepted = l .accepted;
-    between = m .onward;
-    counted = omega (arith, m .longer, l .counted);
+    between = m .next;
+    counted = omega (arith, m .more, l .counted);
     starts-are = λ i h. nth-set starts count place i room
         (λ same z. rw z (l .between, before-is (l .between) (l .counted ∙ sym same)))
         (λ other z. rw z (l .starts-are i (omega arith)));
-    spaced = omega (arith, l .spaced, m .later);
+    spaced = omega (arith, l .spaced, m .past);
   }
 
 -- the frames from i on have moved their marks on

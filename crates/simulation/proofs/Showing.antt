@@ -16,13 +16,13 @@ use Rattle.circuit.proofs.Base.{cases, In}
 use Rattle.circuit.proofs.Sizes.{range-length}
 use Rattle.semantics.specs.Values.{byte, bytes, at, valuesOf}
 use Rattle.semantics.specs.Probes.{stops, sheet}
+use Rattle.semantics.proofs.Reading.{same-test}
 use Rattle.simulation.specs.Internal.Marks.{markAll, Marked, shownAt}
 use Rattle.simulation.specs.Internal.Reading.{OnStops, Shows}
 use Rattle.simulation.proofs.Adding.{range-turn, range-end}
 use Rattle.simulation.proofs.Bits.{set-low, set-high}
 use Rattle.simulation.proofs.Evaluating.{values-length}
 use Rattle.simulation.proofs.Marked.{mark-new, mark-cases}
-use Rattle.simulation.proofs.Reaching.{same-test}
 
 -- marks on probes alone
 no-marks : (n x : ℕ) → isSet (nth (replicate n 0) x) ≡ false

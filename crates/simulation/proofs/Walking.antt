@@ -11,7 +11,7 @@ use borrow.Author.Tests.{lt-ltb, le-ltb, le-leb}
 use Rattle.circuit.specs.Limits.{wireLimit, tableLimit, notesRoom}
 use Rattle.circuit.specs.Lists.{nth}
 use Rattle.circuit.specs.Wires.{Wire}
-use Rattle.circuit.specs.Kinds.{Kind, shape, words}
+use Rattle.circuit.specs.Kinds.{Kind, kindOf, shape, words}
 use Rattle.circuit.specs.Circuit.{Circuit, size, empty, made, extend}
 use Rattle.circuit.specs.Rules.{checked}
 use Rattle.circuit.specs.Composition.{Frame, Fits, fit-IN, fit-CON, fit-XOR, fit-NOT, fit-REG, fit-AND, fit-REF, fit-OUT, AllFit, next, build, kindWord, wordsOf}
@@ -201,6 +201,22 @@ module _ {table : List ℕ} (a : AcceptedTable table) {at : ℕ} (b : Between ta
           inputs-next = at-d (λ n. so-far a onward .inputs ≡ k .inputs + shape n kind .inputs) (ap (λ (c : Circuit). c .inputs) grown);
           randoms-next = at-d (λ n. so-far a onward .randoms ≡ k .randoms + shape n kind .randoms) (ap (λ (c : Circuit). c .randoms) grown);
         }
+
+  -- the place behind the next frame, where the table goes on
+  pub record Onward (place : ℕ) : Type 0 where
+    pub next : Between table (a .fs) place
+    pub more : length (next .before) ≡ suc (length (b .before))
+    pub past : at + 2 ≤ place
+
+  pub frame-words : {d : ℕ} → d ≡ a .d → at < length table → Onward (at + (1 + words d (kindOf (nth table at))))
+  frame-words {d} same l = go (b .after) refl (fitting .1)
+    where
+      go : (after : List Frame) → b .after ≡ after → AllFit k after → Onward (at + (1 + words d (kindOf (nth table at))))
+      go [] e fit = absurd (omega (arith, length-drop at table, ap length (b .rest ∙ ap wordsOf e)))
+      go (f ∷ later) e (next fits few more) =
+          let m = met f later e fits few in
+          let place : at + 1 + words (a .d) (f .kind) ≡ at + (1 + words (a .d) (f .kind)) = omega arith in
+          rw (same, word-is f later e fits few, kind-known (f .kind), ← place) (record { next = m .onward; more = m .longer; past = m .later })
 
   -- what the step's answer says: a frame is met, or no frame is left; a refusal never comes
   abbrev pub Answers : (d w from : ℕ) → Step → Type 0

@@ -17,6 +17,7 @@ use super::places;
 use super::reach;
 use circuit::TABLE_WORDS;
 use circuit::WIRES;
+use frames::kinds::decide;
 use frames::walk::Frame;
 use frames::walk::Gate;
 use frames::walk::Step;
@@ -81,28 +82,15 @@ fn list_frames(table: &[u16], starts: &mut [u16]) -> usize
     requires { ⌜ AcceptedTable (now table) × (tableLimit ≤ 2 * length (now starts)) ⌝ }
     ensures { λ r. ⌜ Lists (now (table .entry)) (now (starts .exit)) r ⌝ }
 {
-    let mut walk = Walk { d: table[1], at: 2 };
+    let d = table[1];
+    let mut at = 2;
     let mut count = 0;
-    loop {
-        let step = walk.step(table);
-        match step {
-            Step::End => {
-                return count;
-            }
-            Step::Refused { rule: _ } => {
-                return count;
-            }
-            Step::Next {
-                frame: _,
-                shape: _,
-                walk: next,
-            } => {
-                starts[count] = walk.at as u16;
-                count += 1;
-                walk = next;
-            }
-        }
+    while at < table.len() {
+        starts[count] = at as u16;
+        count += 1;
+        at += 1 + decide(table[at], d).words;
     }
+    count
 }
 
 // The marks moved on, from the last frame to the first.
