@@ -35,15 +35,7 @@ randoms-more k (f ∷ fs) = omega (arith, randoms-more (extend k (f .ops) (f .ki
 -- each IN makes a wire for each share
 brings-most : (d : ℕ) (kind : Kind) → d * shape d kind .inputs ≤ shape d kind .wires
 unfolding shape
-brings-most d HEAD = omega arith
-brings-most d IN = omega arith
-brings-most d CON = omega arith
-brings-most d XOR = omega arith
-brings-most d NOT = omega arith
-brings-most d REG = omega arith
-brings-most d AND = omega arith
-brings-most d REF = omega arith
-brings-most d OUT = omega arith
+brings-most d = elim [ HEAD ↦ omega arith | IN ↦ omega arith | CON ↦ omega arith | XOR ↦ omega arith | NOT ↦ omega arith | REG ↦ omega arith | AND ↦ omega arith | REF ↦ omega arith | OUT ↦ omega arith ]
 
 pub inputs-few : (k : Circuit) (fs : List Frame) → k .inputs * k .d ≤ size k → build k fs .inputs * build k fs .d ≤ size (build k fs)
 inputs-few k [] h = h
@@ -52,15 +44,7 @@ inputs-few k (f ∷ fs) h = inputs-few (extend k (f .ops) (f .kind)) fs (omega (
 -- a frame makes as many wires as its kind
 pub wires-same : (d : ℕ) (ops : List ℕ) (kind : Kind) → frameWires (frameCode (kindCode kind) ops) d ≡ shape d kind .wires
 unfolding shape
-wires-same d ops HEAD = refl
-wires-same d ops IN = refl
-wires-same d ops CON = refl
-wires-same d ops XOR = refl
-wires-same d ops NOT = refl
-wires-same d ops REG = refl
-wires-same d ops AND = refl
-wires-same d ops REF = refl
-wires-same d ops OUT = refl
+wires-same d ops = elim [ HEAD ↦ refl | IN ↦ refl | CON ↦ refl | XOR ↦ refl | NOT ↦ refl | REG ↦ refl | AND ↦ refl | REF ↦ refl | OUT ↦ refl ]
 
 -- its wires are earlier ones, and it has a share for each wire of an IN and a random bit for each pair of a gadget
 pub frame-early : (k : Circuit) (kind : Kind) (ops : List ℕ) → Fits k kind ops → FrameEarly (frameCode (kindCode kind) ops) (k .d) (size k) ops
@@ -76,15 +60,17 @@ frame-early k _ _ (fit-OUT ops t len p) = tt
 pub frame-supplied : (d from used shares tape : ℕ) (ops : List ℕ) (kind : Kind) → from + d * shape d kind .inputs ≤ shares → used + shape d kind .randoms ≤ tape
     → FrameSupplied (frameCode (kindCode kind) ops) d from used shares tape
 unfolding shape
-frame-supplied d from used shares tape ops HEAD s r = tt
-frame-supplied d from used shares tape ops IN s r = omega arith
-frame-supplied d from used shares tape ops CON s r = tt
-frame-supplied d from used shares tape ops XOR s r = tt
-frame-supplied d from used shares tape ops NOT s r = tt
-frame-supplied d from used shares tape ops REG s r = tt
-frame-supplied d from used shares tape ops AND s r = r
-frame-supplied d from used shares tape ops REF s r = r
-frame-supplied d from used shares tape ops OUT s r = tt
+frame-supplied d from used shares tape ops = elim [
+  | HEAD ↦ λ s r. tt
+  | IN ↦ λ s r. omega arith
+  | CON ↦ λ s r. tt
+  | XOR ↦ λ s r. tt
+  | NOT ↦ λ s r. tt
+  | REG ↦ λ s r. tt
+  | AND ↦ λ s r. r
+  | REF ↦ λ s r. r
+  | OUT ↦ λ s r. tt
+]
 
 -- the gates of a frame's wires, other wires behind them
 module _ (k : Circuit) (ops : List ℕ) (kind : Kind) (more : List Wire) where

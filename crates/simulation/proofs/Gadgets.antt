@@ -18,11 +18,11 @@ use Rattle.simulation.proofs.Adding.{Adds, adds-start, adds-turn, adds-
 use Rattle.simulation.proofs.Sites.{pair-lt}
 use Rattle.simulation.proofs.Filled.{known-all, fills-next, fills-for, fills-at, fills-set}
 
-pub and-filled : (d first : ℕ) (a b : ℕ → ℕ) (tape : List ℕ) (used : ℕ) (old one two three : List ℕ) (count : ℕ) → count ≡ pairs d
+pub and-filled : (d first : ℕ) (a b : ℕ → ℕ) (tape : List ℕ) (used : ℕ) {old one two three : List ℕ} (count : ℕ) → count ≡ pairs d
     → Fills (Drawn tape used first count) first (first + 2 * count) old one → Fills (ShareProducts d first a b) (productAt d first 0) (productAt d first d) one two
     → Fills (Multiplied d first a) (first + crossStart d 0) (outAt d first d) two three
     → Fills (AndValues d first a b tape used) first (first + (7 * (d * (d - 1)) + 4 * d)) old three
-and-filled d first a b tape used old one two three count e draws products outs =
+and-filled d first a b tape used count e draws products outs =
     fills-next (omega arith) (omega arith) (λ v q k. q .multiplied)
     (fills-next (omega (arith, e, pairs-twice d)) (omega arith) (λ v q k. q .products)
     (fills-for (λ v q. subst (λ (n : ℕ). Drawn tape used first n v) (sym e) (q .drawn)) (fills-at refl (omega (arith, e, pairs-twice d)) draws)) products)
@@ -69,11 +69,11 @@ module _ {d first : ℕ} {a : ℕ → ℕ} {old mid : List ℕ} {i : ℕ} (f : F
   pub masked-turn : Fills (Masked d first a) (first + pairs d) (first + pairs d + (i + 1)) old (set mid p t)
   masked-turn = rw p-is (fills-at refl (omega arith) (fills-set t f (omega arith) room sum-is))
 
-pub ref-filled : (d first : ℕ) (a : ℕ → ℕ) (tape : List ℕ) (used : ℕ) (old one two three : List ℕ) (count : ℕ) → count ≡ pairs d
+pub ref-filled : (d first : ℕ) (a : ℕ → ℕ) (tape : List ℕ) (used : ℕ) {old one two three : List ℕ} (count : ℕ) → count ≡ pairs d
     → Fills (Copied tape used first count) first (first + count) old one → Fills (Masked d first a) (first + pairs d) (first + pairs d + d) one two
     → Fills (Held d first) (first + pairs d + d) (first + pairs d + d + d) two three
     → Fills (RefValues d first a tape used) first (first + (pairs d + 2 * d)) old three
-ref-filled d first a tape used old one two three count e draws sums holds =
+ref-filled d first a tape used count e draws sums holds =
     fills-next (omega arith) (omega arith) (λ v q k. q .held)
     (fills-next (omega arith) (omega arith) (λ v q k. q .masked)
     (fills-for (λ v q. subst (λ (n : ℕ). Copied tape used first n v) (sym e) (q .drawn)) (fills-at refl (omega (arith, e)) draws)) sums)

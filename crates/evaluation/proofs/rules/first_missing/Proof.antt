@@ -1,4 +1,4 @@
--- `evaluation::rules::first_missing` meets its contract.
+-- The loop's invariant: every probe before i keeps rule 19.
 use mathlib.Core.Path.{_≡_}
 use Prim.Native.Nat.{_≤_, _-_}
 use native.Mathlib.Omega.{arith}

@@ -1,4 +1,4 @@
--- `evaluation::rules::first_over` meets its contract.
+-- No byte over 1 is first, or the first is searched for: every byte before i keeps rule 18.
 use Prim.Native.Nat.{_-_, _≤_}
 use native.Mathlib.Omega.{arith}
 use lib.ListN.{length}

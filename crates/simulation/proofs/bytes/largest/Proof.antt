@@ -1,4 +1,4 @@
--- `evaluation::bytes::largest` meets its contract.
+-- The loop's invariant: no byte passed is over the largest.
 use Prim.Native.Nat.{ℕ, _+_, _-_, _≤_, _<_}
 use native.Mathlib.Omega.{arith}
 use borrow.Author.Needs.{needs}

@@ -1,4 +1,4 @@
--- `evaluation::gadget::copy` meets its contract.
+-- The loop's invariant: the bits below q are copied.
 use mathlib.Core.Path.{refl, sym, ap, _∙_}
 use Prim.Native.Nat.{_+_, _-_, _≤_}
 use borrow.Author.Needs.{needs}

@@ -1,4 +1,4 @@
--- `evaluation::gadget::cross` meets its contract.
+-- Six wires, one after the other.
 use native.Mathlib.Omega.{arith}
 use lib.ListN.{length-set}
 use borrow.Author.Needs.{needs}

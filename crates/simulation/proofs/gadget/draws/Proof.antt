@@ -1,4 +1,4 @@
--- `evaluation::gadget::draws` meets its contract.
+-- The loop's invariant: r and R of the pairs below q are filled in.
 use mathlib.Core.Path.{_≡_, refl, sym, ap, _∙_}
 use Prim.Native.Nat.{_+_, _-_, _*_, _≤_}
 use borrow.Author.Needs.{needs}

@@ -1,4 +1,4 @@
--- `evaluation::gadget::holds` meets its contract.
+-- The loop's invariant: the outputs of the shares below i are filled in.
 use mathlib.Core.Path.{_≡_, refl, sym, ap, _∙_}
 use Prim.Native.Nat.{_+_, _-_, _≤_}
 use borrow.Author.Needs.{needs}

@@ -1,4 +1,4 @@
--- `evaluation::places::row_start` meets its contract.
+-- Small numbers: no sum and no product wraps.
 use mathlib.Core.Path.{refl}
 use Prim.Native.Nat.{_*_, _-_}
 use native.Mathlib.Omega.{arith}

@@ -1,4 +1,4 @@
--- `evaluation::places::slot` meets its contract.
+-- The shares above i stand one slot lower.
 use native.Mathlib.Omega.{arith}
 use borrow.Author.Tests.{lt-ltb, le-ltb}
 use borrow.Author.Needs.{needs}

@@ -1,4 +1,4 @@
--- `evaluation::reach::mark_sixes` meets its contract.
+-- The loop's invariant: marking all wires comes to marking those from x on.
 use mathlib.Core.Path.{_≡_, refl, sym, ap, _∙_}
 use Prim.Native.Nat.{_+_, _-_, _*_, _≤_}
 use borrow.Author.Needs.{needs}

@@ -1,4 +1,4 @@
--- `evaluation::reach::propagate` meets its contract.
+-- A wire without a mark hands none on.
 use Prim.Native.Nat.{_-_}
 use lib.ListN.{length-set}
 use borrow.Author.Tests.{lt-ltb, le-ltb}

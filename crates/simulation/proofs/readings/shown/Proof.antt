@@ -1,4 +1,4 @@
--- `evaluation::readings::shown` meets its contract.
+-- A byte that is not marked shows 2.
 use borrow.Author.Tests.{lt-ltb, le-ltb}
 use Rattle.simulation.proofs.readings.shown.Statement.{statement}
 use Rattle.simulation.proofs.readings.shown.Tie as tie

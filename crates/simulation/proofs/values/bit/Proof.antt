@@ -1,4 +1,4 @@
--- `evaluation::values::bit` meets its contract.
+-- A word is set where it is not 0.
 use mathlib.Core.Path.{sym, ap}
 use Rattle.semantics.specs.Values.{byte}
 use Rattle.simulation.proofs.values.bit.Statement.{statement}

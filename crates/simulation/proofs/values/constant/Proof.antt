@@ -1,4 +1,4 @@
--- `evaluation::values::constant` meets its contract.
+-- One wire, of a word's bit.
 use mathlib.Core.Path.{sym, ap, _∙_}
 use native.Mathlib.Omega.{arith}
 use borrow.Author.Needs.{needs}

@@ -1,4 +1,4 @@
--- `evaluation::values::inverse` meets its contract.
+-- One wire, of the other bit.
 use mathlib.Core.Path.{sym, ap, _∙_}
 use native.Mathlib.Omega.{arith}
 use lib.Bits.{bitXor}

@@ -1,4 +1,4 @@
--- `evaluation::values::register` meets its contract.
+-- One wire, of the same bit.
 use mathlib.Core.Path.{sym, ap, _∙_}
 use native.Mathlib.Omega.{arith}
 use borrow.Author.Needs.{needs}

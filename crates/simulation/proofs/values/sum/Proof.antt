@@ -1,4 +1,4 @@
--- `evaluation::values::sum` meets its contract.
+-- One wire, of two bits added.
 use mathlib.Core.Path.{sym, ap, ap₂, _∙_}
 use native.Mathlib.Omega.{arith}
 use lib.Bits.{bitXor}
