@@ -1,31 +1,31 @@
--- A call's judgement, rule by rule.
+-- A call's outcome. Rules 15 to 19 as what is left of the call's judgement; and what an accepted and a refused call rest on.
 use mathlib.Core.Path.{_≡_, refl, sym, ap, ap₂, subst, _∙_}
-use mathlib.Core.Bool.{false≢true}
+use mathlib.Core.Bool.{Bool, true, false, false≢true}
 use mathlib.Core.List.{List, [], _∷_, _++_}
 use Prim.Native.Nat.{ℕ, zero, suc, _+_, _*_, _≤_, _<_, min}
 use native.Mathlib.Omega.{arith}
 use lib.Dec.{leb, ltb, eqb}
 use lib.ListN.{length}
-use borrow.Author.Tests.{eq-eqb, ne-eqb, eqb-true, lt-ltb, le-ltb, le-leb, lt-leb, leb-true, leb-false, ltb-true}
+use borrow.Author.Tests.{eqb-true, lt-ltb, le-ltb, le-leb, lt-leb, leb-true, leb-false, ltb-true}
 use Rattle.circuit.specs.Limits.{wireLimit}
-use Rattle.circuit.specs.Lists.{nth, mem}
+use Rattle.circuit.specs.Lists.{nth, mem, overwrite}
 use Rattle.circuit.specs.Circuit.{Circuit, size, empty}
 use Rattle.circuit.specs.Rules.{Judgement, pass, refuse, need, _then_, checked}
-use Rattle.circuit.specs.Answer.{accepted, refused, answer, verdictOf}
-use Rattle.checker.specs.declared.Verdict.{Verdict}
-use Rattle.checker.specs.declared.Verdict.the-variants as verdict
-use Rattle.checker.specs.Answers.{answerOf}
+use Rattle.circuit.specs.Answer.{accepted, refused, answer}
 use Rattle.circuit.proofs.Base.{cases, or-cases, In}
 use Rattle.circuit.proofs.Judging.{then-pass, need-then}
 use Rattle.circuit.proofs.Building.{build-shares}
-use Rattle.circuit.proofs.Exact.{Accepted, sound, accepted-size}
+use Rattle.circuit.proofs.Exact.{sound, accepted-size}
 use Rattle.semantics.specs.Calls.{written, bytesRule, probesRule, sheetsRule, circuitOf, callRule}
+use Rattle.checker.specs.declared.Verdict.{Verdict}
+use Rattle.checker.specs.declared.Verdict.the-variants as verdict
+use Rattle.checker.specs.Answers.{answerOf}
 use Rattle.simulation.specs.Internal.Filling.{Bits}
-use Rattle.simulation.specs.Internal.Evaluating.{Supplied}
-use Rattle.evaluation.specs.Internal.Refusing.{refusal, OverFirst, MissingFirst}
-use Rattle.evaluation.specs.Internal.Calling.{Shortest, Judged}
+use Rattle.simulation.specs.Internal.Accepting.{AcceptedTable, circuitIn, Supplied}
 use Rattle.simulation.proofs.Framing.{inputs-few}
-use Rattle.simulation.proofs.Evaluating.{second-word}
+use Rattle.simulation.proofs.Walking.{least-notes, same-circuit}
+use Rattle.evaluation.specs.Internal.Refusing.{refusal}
+use Rattle.evaluation.specs.Internal.Calling.{Shortest, Judged}
 
 -- answers and judgements
 clash : {w n l a b c : ℕ} → accepted w n l ≡ refused a b c → ⊥
@@ -40,16 +40,29 @@ module _ (k : Circuit) where
   answer-refuse pass rest h = absurd (clash (sym h))
   answer-refuse (refuse a b c) rest h = h
 
-  pub untouched : (j : Judgement) {a b c : ℕ} (new old : List ℕ) → refused a b c ≡ answer k j → old ≡ written j new old
+  untouched : (j : Judgement) {a b c : ℕ} (new old : List ℕ) → refused a b c ≡ answer k j → old ≡ written j new old
   untouched pass new old h = absurd (clash (sym h))
   untouched (refuse a b c) new old h = refl
 
--- chains of judgements
+-- what is left of a judgement once a rule is kept, and its end where it is broken
+pub kept : {j : Judgement} (b : Bool) (rule : ℕ) (rest : Judgement) → j ≡ (need b rule 0 0 then rest) → b ≡ true → j ≡ rest
+kept b rule rest e h = e ∙ ap (λ t. need t rule 0 0 then rest) h
+
+pub broken : {j : Judgement} (b : Bool) (rule : ℕ) (rest : Judgement) → j ≡ (need b rule 0 0 then rest) → b ≡ false → j ≡ refuse rule 0 0
+broken b rule rest e h = e ∙ ap (λ t. need t rule 0 0 then rest) h
+
+pub none-found : {j : Judgement} (rule i : ℕ) (xs : List ℕ) (r : ℕ) (rest : Judgement) → j ≡ (refusal rule i xs r then rest) → length xs ≤ r → j ≡ rest
+none-found rule i xs r rest e h = e ∙ rw (le-ltb r (length xs) h)
+
+pub first-found : {j : Judgement} (rule i : ℕ) (xs : List ℕ) (r : ℕ) (rest : Judgement) → j ≡ (refusal rule i xs r then rest) → r < length xs → (w : ℕ) → i + r ≡ w → j ≡ refuse rule 0 w
+first-found rule i xs r rest e h w z = e ∙ rw (lt-ltb r (length xs) h) (ap (refuse rule 0) z)
+
+-- shares, then tape
 then-assoc : (i j k : Judgement) → ((i then j) then k) ≡ (i then (j then k))
 then-assoc pass j k = refl
 then-assoc (refuse a b c) j k = refl
 
-then-none : (j : Judgement) → (j then pass) ≡ j
+pub then-none : (j : Judgement) → (j then pass) ≡ j
 then-none pass = refl
 then-none (refuse a b c) = refl
 
@@ -61,20 +74,23 @@ bytes-append n (x ∷ xs) ys =
     ap (λ j. need (leb x 1) 18 0 n then j) (bytes-append (suc n) xs ys ∙ ap (λ m. bytesRule (suc n) xs then bytesRule m ys) e)
     ∙ sym (then-assoc (need (leb x 1) 18 0 n) (bytesRule (suc n) xs) (bytesRule (n + suc (length xs)) ys))
 
-refusal-found : (rule i : ℕ) (xs : List ℕ) (r : ℕ) → r < length xs → refusal rule i xs r ≡ refuse rule 0 (i + r)
-refusal-found rule i xs r h = rw (lt-ltb r (length xs) h)
-
-refusal-none : (rule i : ℕ) (xs : List ℕ) (r : ℕ) → length xs ≤ r → refusal rule i xs r ≡ pass
-refusal-none rule i xs r h = rw (le-ltb r (length xs) h)
-
--- bytes that pass are bits
+-- bytes that pass are bits, and probes that pass are on wires
 bits-pass : (i : ℕ) (xs : List ℕ) → bytesRule i xs ≡ pass → Bits xs
 unfolding bytesRule
 bits-pass i [] h x = omega arith
 bits-pass i (b ∷ xs) h zero = leb-true b 1 (need-then (leb b 1) 18 0 i (bytesRule (suc i) xs) h .0)
 bits-pass i (b ∷ xs) h (suc x) = bits-pass (suc i) xs (need-then (leb b 1) 18 0 i (bytesRule (suc i) xs) h .1) x
 
--- the shortest of the sheets
+probes-pass : (k : Circuit) (n : ℕ) (ps : List ℕ) → probesRule k n ps ≡ pass → (x : ℕ) → In x ps → x < size k
+unfolding probesRule
+probes-pass k n [] h x i = absurd (false≢true i)
+probes-pass k n (p ∷ ps) h x i =
+    let (a, b) = need-then (ltb p (size k)) 19 0 n (probesRule k (suc n) ps) h in
+    or-cases (eqb x p) (mem x ps) i
+    (λ e. subst (λ (m : ℕ). m < size k) (sym (eqb-true x p e)) (ltb-true p (size k) a))
+    (λ e. probes-pass k (suc n) ps b x e)
+
+-- the shortest of the buffers
 pub one-sheet : (v : List ℕ) → Shortest (length v) (v ∷ [])
 unfolding sheetsRule
 one-sheet v = then-none (need (leb wireLimit (length v)) 17 0 0)
@@ -87,7 +103,25 @@ two-sheets v r n e = cases (leb wireLimit (length v))
     (λ b. rw (a, b, lt-leb wireLimit n (omega (arith, leb-false wireLimit (length r) b)))))
     (λ a. rw (a, lt-leb wireLimit n (omega (arith, leb-false wireLimit (length v) a))))
 
--- rules 15 to 19
+-- a call on a table that is accepted: its number of shares is its second word, and few are asked for
+pub record Taken (table notes : List ℕ) : Type 0 where
+  pub accepted : AcceptedTable table
+  pub circuit-is : circuitOf table notes ≡ circuitIn table
+  pub d-is : nth table 1 ≡ circuitOf table notes .d
+  pub shares-few : circuitOf table notes .inputs * circuitOf table notes .d ≤ wireLimit
+  pub wires-few : size (circuitOf table notes) ≤ wireLimit
+
+pub taken : (table notes : List ℕ) → checked table (length notes) .judgement ≡ pass → Taken table notes
+taken table notes p =
+    let a = sound table (length notes) p in
+    record {
+      accepted = least-notes a;
+      circuit-is = same-circuit a;
+      d-is = ap (λ t. nth t 1) (a .table-is) ∙ sym (ap (λ (k : Circuit). k .d) (a .circuit-is) ∙ build-shares (empty (a .d)) (a .fs));
+      shares-few = omega (arith, accepted-size a, subst (λ (k : Circuit). k .inputs * k .d ≤ size k) (sym (a .circuit-is)) (inputs-few (empty (a .d)) (a .fs) (omega arith)));
+      wires-few = accepted-size a;
+    }
+
 module _ (table notes shares tape : List ℕ) (sheets : List (List ℕ)) (probes : List ℕ) where
   abbrev k : Circuit
   k = circuitOf table notes
@@ -95,131 +129,61 @@ module _ (table notes shares tape : List ℕ) (sheets : List (List ℕ)) (probes
   abbrev rule : Judgement
   rule = callRule table notes shares tape sheets probes
 
-  -- the checker's refusal is the call's
-  pub refused-first : {a b c : ℕ} → refused a b c ≡ verdictOf table (length notes) → refused a b c ≡ answer k rule
+  -- the checker's refusal is the call's; where it accepts, rules 15 to 19 are left
+  pub refused-first : {a b c : ℕ} → refused a b c ≡ answer k (checked table (length notes) .judgement) → refused a b c ≡ answer k rule
   unfolding callRule
   refused-first h = answer-refuse k (checked table (length notes) .judgement) _ h
 
-  -- what a call that passes shows
-  pub record Parts : Type 0 where
-    pub accepted : Accepted table (length notes)
-    pub supplied : Supplied k shares tape
-    pub roomy : sheetsRule sheets ≡ pass
-    pub probed : probesRule k 0 probes ≡ pass
-
-  pub parts : rule ≡ pass → Parts
+  pub rules-left : (room : ℕ) → Shortest room sheets → checked table (length notes) .judgement ≡ pass
+      → rule ≡ (need (eqb (length shares) (k .inputs * k .d)) 15 0 0 then need (eqb (length tape) (k .randoms)) 16 0 0 then need (leb wireLimit room) 17 0 0
+      then bytesRule 0 shares then bytesRule (0 + length shares) tape then probesRule k 0 probes)
   unfolding callRule
-  parts h =
-      let (a, h1) = then-pass (checked table (length notes) .judgement) _ h in
-      let (b, h2) = need-then (eqb (length shares) (k .inputs * k .d)) 15 0 0 _ h1 in
-      let (c, h3) = need-then (eqb (length tape) (k .randoms)) 16 0 0 _ h2 in
-      let (d, h4) = then-pass (sheetsRule sheets) _ h3 in
-      let (e, f) = then-pass (bytesRule 0 (shares ++ tape)) _ h4 in
-      let (s, t) = then-pass (bytesRule 0 shares) (bytesRule (0 + length shares) tape) (sym (bytes-append 0 shares tape) ∙ e) in
+  rules-left room s p = rw (p, s, bytes-append 0 shares tape, then-assoc (bytesRule 0 shares) (bytesRule (0 + length shares) tape) (probesRule k 0 probes))
+
+  -- what an accepted call rests on
+  pub record Passed (room wires : ℕ) : Type 0 where
+    pub passes : rule ≡ pass
+    pub of : Taken table notes
+    pub supplied : Supplied (circuitIn table) shares tape
+    pub roomy : wireLimit ≤ room
+    pub wires-are : wires ≡ size (circuitIn table)
+    pub few : wires ≤ wireLimit
+    pub probed : (x : ℕ) → In x probes → x < wires
+
+  passed-by : (room wires : ℕ) → Shortest room sheets → rule ≡ pass → wires ≡ size k → Passed room wires
+  unfolding callRule
+  passed-by room wires s p w =
+      let first = then-pass (checked table (length notes) .judgement) _ p .0 in
+      let t = taken table notes first in
+      let (b, h1) = need-then (eqb (length shares) (k .inputs * k .d)) 15 0 0 _ (sym (rules-left room s first) ∙ p) in
+      let (c, h2) = need-then (eqb (length tape) (k .randoms)) 16 0 0 _ h1 in
+      let (d, h3) = need-then (leb wireLimit room) 17 0 0 _ h2 in
+      let (e, h4) = then-pass (bytesRule 0 shares) _ h3 in
+      let (f, g) = then-pass (bytesRule (0 + length shares) tape) _ h4 in
       record {
-        accepted = sound table (length notes) a;
-        supplied = record { shared = eqb-true (length shares) (k .inputs * k .d) b; drawn = eqb-true (length tape) (k .randoms) c; shareBits = bits-pass 0 shares s; tapeBits = bits-pass (0 + length shares) tape t };
-        roomy = d;
-        probed = f;
+        passes = p;
+        of = t;
+        supplied = subst (λ (c : Circuit). Supplied c shares tape) (t .circuit-is) (record {
+          shared = eqb-true (length shares) (k .inputs * k .d) b;
+          drawn = eqb-true (length tape) (k .randoms) c;
+          shareBits = bits-pass 0 shares e;
+          tapeBits = bits-pass (0 + length shares) tape f;
+        });
+        roomy = leb-true wireLimit room d;
+        wires-are = w ∙ ap size (t .circuit-is);
+        few = omega (arith, t .wires-few);
+        probed = λ x i. omega (arith, probes-pass k 0 probes g x i);
       }
 
-  module _ (p : checked table (length notes) .judgement ≡ pass) where
-    pub rule15 : (length shares ≡ k .inputs * k .d → ⊥) → rule ≡ refuse 15 0 0
-    unfolding callRule
-    rule15 h = rw (p, ne-eqb (length shares) (k .inputs * k .d) h)
+  -- its buffers hold what is said of the table's circuit
+  pub holds : {room wires : ℕ} → Passed room wires → (bytes : Circuit → List ℕ) (old : List ℕ) {new : List ℕ} → new ≡ overwrite (bytes (circuitIn table)) old → new ≡ written rule (bytes k) old
+  holds p bytes old e = e ∙ sym (ap₂ (λ i c. written i (bytes c) old) (p .passes) (p .of .circuit-is))
 
-    module _ (fifteen : length shares ≡ k .inputs * k .d) where
-      pub rule16 : (length tape ≡ k .randoms → ⊥) → rule ≡ refuse 16 0 0
-      unfolding callRule
-      rule16 h = rw (p, eq-eqb (length shares) (k .inputs * k .d) fifteen, ne-eqb (length tape) (k .randoms) h)
-
-      module _ (sixteen : length tape ≡ k .randoms) (room : ℕ) (shortest : Shortest room sheets) where
-        rest17 : rule ≡ (need (leb wireLimit room) 17 0 0 then (bytesRule 0 (shares ++ tape) then probesRule k 0 probes))
-        unfolding callRule
-        rest17 = rw (p, eq-eqb (length shares) (k .inputs * k .d) fifteen, eq-eqb (length tape) (k .randoms) sixteen, shortest)
-
-        pub rule17 : room < wireLimit → rule ≡ refuse 17 0 0
-        rule17 h = rest17 ∙ rw (lt-leb wireLimit room h)
-
-        module _ (seventeen : wireLimit ≤ room) (s : ℕ) (overShares : OverFirst shares s) where
-          rest18 : rule ≡ (refusal 18 0 shares s then (bytesRule (0 + length shares) tape then probesRule k 0 probes))
-          rest18 = rest17 ∙ rw (le-leb wireLimit room seventeen)
-              (ap (λ j. j then probesRule k 0 probes) (bytes-append 0 shares tape ∙ ap (λ j. j then bytesRule (0 + length shares) tape) (overShares .is 0))
-              ∙ then-assoc (refusal 18 0 shares s) (bytesRule (0 + length shares) tape) (probesRule k 0 probes))
-
-          pub rule18-shares : s < length shares → rule ≡ refuse 18 0 s
-          rule18-shares h =
-              let e : 0 + s ≡ s = omega arith in
-              rest18 ∙ ap (λ j. j then (bytesRule (0 + length shares) tape then probesRule k 0 probes)) (refusal-found 18 0 shares s h) ∙ ap (refuse 18 0) e
-
-          module _ (none : length shares ≤ s) (t : ℕ) (overTape : OverFirst tape t) where
-            rest-tape : rule ≡ (refusal 18 (0 + length shares) tape t then probesRule k 0 probes)
-            rest-tape = rest18 ∙ ap₂ (λ i j. i then (j then probesRule k 0 probes)) (refusal-none 18 0 shares s none) (overTape .is (0 + length shares))
-
-            pub rule18-tape : t < length tape → rule ≡ refuse 18 0 (length shares + t)
-            rule18-tape h =
-                let e : 0 + length shares + t ≡ length shares + t = omega arith in
-                rest-tape ∙ ap (λ j. j then probesRule k 0 probes) (refusal-found 18 (0 + length shares) tape t h) ∙ ap (refuse 18 0) e
-
-            module _ (noTape : length tape ≤ t) (q : ℕ) (missing : MissingFirst probes (size k) q) where
-              rest19 : rule ≡ refusal 19 0 probes q
-              rest19 = rest-tape ∙ ap₂ (λ i j. i then j) (refusal-none 18 (0 + length shares) tape t noTape) (missing .is k refl 0)
-
-              pub rule19 : q < length probes → rule ≡ refuse 19 0 q
-              rule19 h = let e : 0 + q ≡ q = omega arith in rest19 ∙ refusal-found 19 0 probes q h ∙ ap (refuse 19 0) e
-
-              pub all-pass : length probes ≤ q → rule ≡ pass
-              all-pass h = rest19 ∙ refusal-none 19 0 probes q h
-
--- sheets with room, and probes on wires
-pub sheet-room : (v : List ℕ) (rest : List (List ℕ)) → sheetsRule (v ∷ rest) ≡ pass → (wireLimit ≤ length v) × (sheetsRule rest ≡ pass)
-unfolding sheetsRule
-sheet-room v rest h = let (a, b) = need-then (leb wireLimit (length v)) 17 0 0 (sheetsRule rest) h in (leb-true wireLimit (length v) a, b)
-
-pub probes-made : (k : Circuit) (n : ℕ) (ps : List ℕ) → probesRule k n ps ≡ pass → (x : ℕ) → In x ps → x < size k
-unfolding probesRule
-probes-made k n [] h x i = absurd (false≢true i)
-probes-made k n (p ∷ ps) h x i =
-    let (a, b) = need-then (ltb p (size k)) 19 0 n (probesRule k (suc n) ps) h in
-    or-cases (eqb x p) (mem x ps) i
-    (λ e. subst (λ (m : ℕ). m < size k) (sym (eqb-true x p e)) (ltb-true p (size k) a))
-    (λ e. probes-made k (suc n) ps b x e)
-
--- an accepted table's number of shares is its second word, and few are asked for
-module _ (table : List ℕ) (room : ℕ) (p : checked table room .judgement ≡ pass) where
-  abbrev accepts : Accepted table room
-  accepts = sound table room p
-
-  pub headed : 2 ≤ length table
-  headed = omega (arith, ap length (accepts .table-is))
-
-  pub order-is : nth table 1 ≡ checked table room .circuit .d
-  order-is = second-word accepts ∙ sym (ap (λ (k : Circuit). k .d) (accepts .circuit-is) ∙ build-shares (empty (accepts .d)) (accepts .fs))
-
-  pub shares-few : checked table room .circuit .inputs * checked table room .circuit .d ≤ wireLimit
-  shares-few = omega (arith, accepted-size accepts, subst (λ (k : Circuit). k .inputs * k .d ≤ size k) (sym (accepts .circuit-is)) (inputs-few (empty (accepts .d)) (accepts .fs) (omega arith)))
-
--- a probe stands on a wire, by its place among the probes
-pub probe-made : (k : Circuit) (n : ℕ) (ps : List ℕ) → probesRule k n ps ≡ pass → (x : ℕ) → x < length ps → nth ps x < size k
-unfolding probesRule
-probe-made k n [] h x l = absurd (omega arith)
-probe-made k n (p ∷ ps) h zero l = ltb-true p (size k) (need-then (ltb p (size k)) 19 0 n (probesRule k (suc n) ps) h .0)
-probe-made k n (p ∷ ps) h (suc x) l = probe-made k (suc n) ps (need-then (ltb p (size k)) 19 0 n (probesRule k (suc n) ps) h .1) x (omega arith)
-
--- what an accepted call rests on
-pub record Passed (table notes shares tape : List ℕ) (sheets : List (List ℕ)) (probes : List ℕ) (wires : ℕ) : Type 0 where
-  pub passes : callRule table notes shares tape sheets probes ≡ pass
-  pub shows : Parts table notes shares tape sheets probes
-  pub wires-are : wires ≡ size (circuitOf table notes)
-  pub few : size (circuitOf table notes) ≤ wireLimit
-
--- a judged call by its answer: accepted, it rests on that; refused, its sheets are as found
+-- a judged call by its answer: accepted, it rests on that; refused, its buffers are as found
 module _ {table notes shares tape probes new : List ℕ} {room : ℕ} {r : Verdict} (j : Judged table notes shares tape probes room new r) (sheets : List (List ℕ)) (shortest : Shortest room sheets) where
-  pub passed : {w n l i : ℕ} → r ≡ verdict.Accepted w n l i → Passed table notes shares tape sheets probes w
-  passed e =
-      let (p, wires, _) = answer-pass (circuitOf table notes) (callRule table notes shares tape sheets probes) (sym (ap answerOf e) ∙ j .answers sheets shortest) in
-      let q = parts table notes shares tape sheets probes p in
-      record { passes = p; shows = q; wires-are = wires; few = accepted-size (q .accepted) }
+  pub passed : {w n l i : ℕ} → r ≡ verdict.Accepted w n l i → Passed table notes shares tape sheets probes room w
+  passed e = let (p, wires, _) = answer-pass (circuitOf table notes) (callRule table notes shares tape sheets probes) (sym (ap answerOf e) ∙ j .answers sheets shortest) in
+      passed-by table notes shares tape sheets probes room _ shortest p wires
 
-  pub left : {a b c : ℕ} → r ≡ verdict.Refused a b c → (bytes sheet : List ℕ) → sheet ≡ written (callRule table notes shares tape sheets probes) bytes sheet
-  left e bytes sheet = untouched (circuitOf table notes) (callRule table notes shares tape sheets probes) bytes sheet (sym (ap answerOf e) ∙ j .answers sheets shortest)
+  pub left : {a b c : ℕ} → r ≡ verdict.Refused a b c → (bytes old : List ℕ) → old ≡ written (callRule table notes shares tape sheets probes) bytes old
+  left e bytes old = untouched (circuitOf table notes) (callRule table notes shares tape sheets probes) bytes old (sym (ap answerOf e) ∙ j .answers sheets shortest)

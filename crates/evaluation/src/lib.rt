@@ -11,6 +11,7 @@ ghost use Rattle.semantics.specs.Counts.{EqualCounts};
 ghost use Rattle.secrecy.specs.Gadgets.{Computes};
 ghost use Rattle.evaluation.specs.Internal.Calling.{Judged};
 use checker::Verdict;
+use circuit::WIRES;
 use simulation::readings;
 use simulation::values;
 
@@ -27,7 +28,7 @@ fn refusal(rule: usize, word: usize) -> Verdict
     }
 }
 
-// A call judged: by the checker, then by rules 15 to 19, the shortest sheet having so many bytes.
+// A call judged: by the checker, then by rules 15 to 19, the shortest buffer having so many bytes.
 fn judge(
     table: &[u16],
     notes: &mut [u16],
@@ -54,7 +55,7 @@ fn judge(
     if tape.len() != randoms {
         return refusal(16, 0);
     }
-    if room < 8192 {
+    if room < WIRES {
         return refusal(17, 0);
     }
     let share = rules::first_over(shares);
@@ -110,7 +111,7 @@ fn smaller(one: usize, other: usize) -> usize
     if one <= other { one } else { other }
 }
 
-// Writes the value of each wire of an accepted circuit, and what the probes read. A refusal leaves both sheets as found.
+// Writes the value of each wire of an accepted circuit, and what the probes read. A refusal leaves both buffers as found.
 pub fn read_probes(
     table: &[u16],
     notes: &mut [u16],
@@ -141,11 +142,8 @@ pub fn read_probes(
         return verdict;
     };
     values::fill(table, shares, tape, values);
-    let mut starts = [0u16; 4096];
-    let mut marks = [0u8; 8192];
-    let frames = readings::list(table, &mut starts);
-    readings::mark(&mut marks, probes);
-    readings::settle(table, &starts, frames, wires, &mut marks);
+    let mut marks = [0u8; WIRES];
+    readings::reach_stops(table, wires, probes, &mut marks);
     readings::show(&marks, values, wires, reading);
     verdict
 }

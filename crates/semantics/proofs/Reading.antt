@@ -24,7 +24,7 @@ use Rattle.semantics.specs.Probes.{isStop, operands, reads, readBy, stop
 use Rattle.semantics.proofs.Earlier.{OperandsBefore, EarlyIn, early-new, build-early}
 
 -- two tests that pass together
-same-test : (a b : Bool) → (a ≡ true → b ≡ true) → (b ≡ true → a ≡ true) → a ≡ b
+pub same-test : (a b : Bool) → (a ≡ true → b ≡ true) → (b ≡ true → a ≡ true) → a ≡ b
 same-test true b f g = sym (f refl)
 same-test false b f g = cases b (λ e. g e ∙ sym e) (λ e. sym e)
 
@@ -37,7 +37,7 @@ in-right : (s : ℕ) (xs ys : List ℕ) → In s ys → In s (xs ++ ys)
 in-right s [] ys h = h
 in-right s (x ∷ xs) ys h = in-tail s x (xs ++ ys) (in-right s xs ys h)
 
-concatMap-in : (s : ℕ) (f : ℕ → List ℕ) (xs : List ℕ) (y : ℕ) → In y xs → In s (f y) → In s (concatMap xs f)
+pub concatMap-in : (s : ℕ) (f : ℕ → List ℕ) (xs : List ℕ) (y : ℕ) → In y xs → In s (f y) → In s (concatMap xs f)
 concatMap-in s f [] y h g = absurd (false≢true h)
 concatMap-in s f (x ∷ xs) y h g = or-cases (eqb y x) (mem y xs) h
     (λ e. in-left s (f x) (concatMap xs f) (subst (λ (n : ℕ). In s (f n)) (eqb-true y x e) g))

@@ -10,7 +10,7 @@ use Rattle.circuit.specs.Gadgets.{others}
 use Rattle.circuit.proofs.Base.{no-flip, xor-assoc}
 use Rattle.semantics.specs.Values.{byte, xorSum}
 use Rattle.secrecy.proofs.Totals.{xorSum-append}
-use Rattle.simulation.proofs.Ranges.{others-is}
+use Rattle.simulation.proofs.Ranges.{others-split}
 use Rattle.simulation.proofs.Bits.{byte-xor}
 
 -- a byte is a part of a sum, and the rest is still to be added
@@ -51,8 +51,4 @@ module _ (f : ℕ → Bool) (d : ℕ) where
 
 -- the others are those below and those above
 pub xorSum-others : (f : ℕ → Bool) (d i : ℕ) → i < d → xorSum (others d i) f ≡ (xorSum (range 0 (i - 0)) f ⊕ xorSum (range (i + 1) (d - (i + 1))) f)
-xorSum-others f d i l =
-    let e : i ≡ i - 0 = omega arith in
-    let g : suc i ≡ i + 1 = omega arith in
-    ap (λ r. xorSum r f) (others-is d i l) ∙ xorSum-append f (range 0 i) (range (suc i) (d - suc i))
-    ∙ ap₂ (λ m n. xorSum (range 0 m) f ⊕ xorSum (range n (d - n)) f) e g
+xorSum-others f d i l = ap (λ r. xorSum r f) (others-split d i l) ∙ xorSum-append f (range 0 (i - 0)) (range (i + 1) (d - (i + 1)))

@@ -8,6 +8,3 @@ eights x y h k = omega (arith, mul-le-mul {n₁ = x} {m₁ = y} {n₂ = 8} {m₂
 
 pub sixteens : (x y : ℕ) → x ≤ 8 → y ≤ 16 → x * y ≤ 128
 sixteens x y h k = omega (arith, mul-le-mul {n₁ = x} {m₁ = y} {n₂ = 8} {m₂ = 16} h k)
-
-pub ones : (x y : ℕ) → x ≤ 1 → y ≤ 1 → x * y ≤ 1
-ones x y h k = omega (arith, mul-le-mul {n₁ = x} {m₁ = y} {n₂ = 1} {m₂ = 1} h k)

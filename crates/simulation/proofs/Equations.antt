@@ -9,7 +9,7 @@ use lib.Dec.{eqb}
 use lib.Seq.{getD-drop}
 use borrow.Author.Tests.{eqb-false}
 use Rattle.circuit.specs.Lists.{_⊕_, nth}
-use Rattle.circuit.specs.Wires.{Gate, random, reg, sum, product, andNot, Wire}
+use Rattle.circuit.specs.Wires.{Gate, input, constant, random, reg, inverse, sum, product, andNot, Wire}
 use Rattle.circuit.specs.Gadgets.{others}
 use Rattle.circuit.specs.Kinds.{pairs}
 use Rattle.circuit.specs.Circuit.{isSet}
@@ -19,13 +19,16 @@ use Rattle.circuit.proofs.Sizes.{pairs-twice}
 use Rattle.semantics.specs.Values.{bits, at, xorSum, value, isRandom, valuesOf}
 use Rattle.semantics.proofs.Randoms.{randomsIn}
 use Rattle.secrecy.proofs.Totals.{xorSum-ext, xorSum-append, xorSum-map, xorSum-xor}
-use Rattle.simulation.specs.Internal.Places.{pairSite, pairAt, ownAt, cellAt, outAt, maskAt, sumAt, heldAt}
-use Rattle.simulation.specs.Internal.Gates.{gateAt, AndGates, RefGates}
-use Rattle.simulation.specs.Internal.Filling.{Values, Copied, Drawn, Owned, RowCrossed, crossingAt, Multiplied, AndValues, Masked, Held, RefValues}
+use Rattle.frames.specs.declared.walk.Gate.the-variants as gate
+use Rattle.frames.specs.declared.walk.Frame.{Frame as FrameCode}
+use Rattle.frames.specs.declared.walk.Frame.the-variants as frame
+use Rattle.simulation.specs.Internal.Places.{wordA, wordB, pairSite, pairAt, productAt, crossAt, outAt, maskAt, sumAt, heldAt}
+use Rattle.simulation.specs.Internal.Gates.{gateAt, OrderedFrom, AndGates, RefGates, FrameGates}
+use Rattle.simulation.specs.Internal.Filling.{Values, Copied, Drawn, ShareProducts, RowCrossed, crossingAt, Multiplied, AndValues, Masked, Held, RefValues, FrameValues, frameWires}
 use Rattle.simulation.proofs.Bits.{bits-at}
 use Rattle.simulation.proofs.Sites.{pair-lt}
-use Rattle.simulation.proofs.Rows.{own-early, cell-room}
-use Rattle.simulation.proofs.Solving.{OrderedFrom, solved, rank-random, rank-other}
+use Rattle.simulation.proofs.Rows.{product-early, cross-room}
+use Rattle.simulation.proofs.Solving.{solved, rank-random, rank-other}
 
 tape-at : (tape : List ℕ) (n : ℕ) → at (drop n (bits tape)) 0 ≡ isSet (nth tape n)
 tape-at tape n = let e : n + 0 ≡ n = omega arith in getD-drop n (bits tape) 0 false ∙ ap (at (bits tape)) e ∙ bits-at tape n
@@ -76,26 +79,26 @@ module _ (ws : List Wire) (shares tape : List ℕ) (early : OrderedFrom 0 ws) wh
         ∙ ap (λ n. at (drop n (bits tape)) 0) (rank-at q (omega arith)) ∙ tape-at tape (used + q) in
         (e, hold-is q l ∙ e)
 
-    own-room : (i : ℕ) → i < d → ownAt d first i + 2 < length ws
-    own-room i l = omega (arith, own-early d first d i l)
+    product-room : (i : ℕ) → i < d → productAt d first i + 2 < length ws
+    product-room i l = omega (arith, product-early d first d i l)
 
-    owned : Owned d first a b valued
-    owned i l =
-        let x = ownAt d first i in
-        let g = gs .owns i l in
-        let B-is : valued x ≡ valued (b i) = gate-value x (reg (b i)) (omega (arith, own-room i l)) (g .0) in
-        let m-is : valued (x + 1) ≡ (valued (a i) && valued (b i)) = gate-value (x + 1) (product (a i) x) (omega (arith, own-room i l)) (g .1) ∙ ap (λ z. valued (a i) && z) B-is in
-        (B-is, m-is, gate-value (x + 2) (reg (x + 1)) (own-room i l) (g .2) ∙ m-is)
+    products : ShareProducts d first a b valued
+    products i l =
+        let x = productAt d first i in
+        let g = gs .products i l in
+        let B-is : valued x ≡ valued (b i) = gate-value x (reg (b i)) (omega (arith, product-room i l)) (g .0) in
+        let m-is : valued (x + 1) ≡ (valued (a i) && valued (b i)) = gate-value (x + 1) (product (a i) x) (omega (arith, product-room i l)) (g .1) ∙ ap (λ z. valued (a i) && z) B-is in
+        (B-is, m-is, gate-value (x + 2) (reg (x + 1)) (product-room i l) (g .2) ∙ m-is)
 
     crossed : (i : ℕ) → i < d → RowCrossed d first i (valued (a i)) valued
     crossed i l j k ne =
-        let x = cellAt d first i j in
-        let g = gs .cells i l j k ne in
-        let room = cell-room d first i j l k ne in
+        let x = crossAt d first i j in
+        let g = gs .crosses i l j k ne in
+        let room = cross-room d first i j l k ne in
         let ρ = valued (pairAt d first i j) in
-        let β = valued (ownAt d first j) in
+        let β = valued (productAt d first j) in
         let u-is : valued x ≡ (not (valued (a i)) && ρ) = gate-value x (andNot (a i) (pairAt d first i j + 1)) (omega arith) (g .0) ∙ ap (λ z. not (valued (a i)) && z) (hold-is (pairSite d i j) (pair-lt d i j l k ne)) in
-        let v-is : valued (x + 2) ≡ (β ⊕ ρ) = gate-value (x + 2) (sum (b j ∷ pairAt d first i j ∷ [])) (omega arith) (g .2) ∙ ap₂ (λ y z. y ⊕ z) (sym (owned j k .0)) (no-flip ρ) in
+        let v-is : valued (x + 2) ≡ (β ⊕ ρ) = gate-value (x + 2) (sum (b j ∷ pairAt d first i j ∷ [])) (omega arith) (g .2) ∙ ap₂ (λ y z. y ⊕ z) (sym (products j k .0)) (no-flip ρ) in
         let V-is : valued (x + 3) ≡ (β ⊕ ρ) = gate-value (x + 3) (reg (x + 2)) (omega arith) (g .3) ∙ v-is in
         let w-is : valued (x + 4) ≡ (valued (a i) && (β ⊕ ρ)) = gate-value (x + 4) (product (a i) (x + 3)) (omega arith) (g .4) ∙ ap (λ z. valued (a i) && z) V-is in (
           u-is,
@@ -109,12 +112,12 @@ module _ (ws : List Wire) (shares tape : List ℕ) (early : OrderedFrom 0 ws) wh
     multiplied : Multiplied d first a valued
     multiplied = record { crossed = crossed; out = out }
       where
-        out : (i : ℕ) → i < d → valued (outAt d first i) ≡ (valued (ownAt d first i + 2) ⊕ xorSum (others d i) (crossingAt d first i (valued (a i)) valued))
+        out : (i : ℕ) → i < d → valued (outAt d first i) ≡ (valued (productAt d first i + 2) ⊕ xorSum (others d i) (crossingAt d first i (valued (a i)) valued))
         out i l =
-            let x : ℕ → ℕ = λ j. cellAt d first i j + 1 in
-            let y : ℕ → ℕ = λ j. cellAt d first i j + 5 in
+            let x : ℕ → ℕ = λ j. crossAt d first i j + 1 in
+            let y : ℕ → ℕ = λ j. crossAt d first i j + 5 in
             gate-value (outAt d first i) _ (omega arith) (gs .outs i l)
-            ∙ ap (λ z. valued (ownAt d first i + 2) ⊕ z)
+            ∙ ap (λ z. valued (productAt d first i + 2) ⊕ z)
             (xorSum-append valued (map x (others d i)) (map y (others d i))
             ∙ ap₂ (λ p q. p ⊕ q) (xorSum-map valued x (others d i)) (xorSum-map valued y (others d i))
             ∙ sym (xorSum-xor (λ j. valued (x j)) (λ j. valued (y j)) (others d i))
@@ -122,7 +125,7 @@ module _ (ws : List Wire) (shares tape : List ℕ) (early : OrderedFrom 0 ws) wh
             (λ j h. let (k, ne) = apart d i j l h in let e = crossed i l j k ne in ap₂ (λ p q. p ⊕ q) (e .1) (e .5)))
 
     pub and-values : AndValues d first a b tape used valued
-    and-values = record { drawn = drawn; owned = owned; multiplied = multiplied }
+    and-values = record { drawn = drawn; products = products; multiplied = multiplied }
 
   -- REF
   module _ (d first : ℕ) (a : ℕ → ℕ) (gs : RefGates (gateAt ws) d first a) (made : heldAt d first d ≤ length ws) (used : ℕ) (start : rank first ≡ used) where
@@ -143,3 +146,15 @@ module _ (ws : List Wire) (shares tape : List ℕ) (early : OrderedFrom 0 ws) wh
 
     pub ref-values : RefValues d first a tape used valued
     ref-values = record { drawn = ref-drawn; masked = masked; held = held }
+
+  -- a frame
+  pub frame-values : (fr : FrameCode) (d first from used : ℕ) (ops : List ℕ) → FrameGates fr d first from ops (gateAt ws) → first + frameWires fr d ≤ length ws → rank first ≡ used
+      → FrameValues fr d first from used ops shares tape valued
+  frame-values (frame.Gate (gate.In t)) d first from used ops g l r = λ q h. gate-value (first + q) (input (from + q)) (omega arith) (g q h) ∙ bits-at shares (from + q)
+  frame-values (frame.Gate (gate.Con k b t)) d first from used ops g l r = gate-value first (constant (isSet b)) (omega arith) g
+  frame-values (frame.Gate (gate.Xor x y)) d first from used ops g l r = gate-value first (sum (x ∷ y ∷ [])) (omega arith) g ∙ ap (λ z. valued x ⊕ z) (no-flip (valued y))
+  frame-values (frame.Gate (gate.Not x)) d first from used ops g l r = gate-value first (inverse x) (omega arith) g
+  frame-values (frame.Gate (gate.Reg x)) d first from used ops g l r = gate-value first (reg x) (omega arith) g
+  frame-values (frame.Gate gate.Out) d first from used ops g l r = tt
+  frame-values frame.And d first from used ops g l r = and-values d first (wordA ops) (wordB d ops) g (omega arith) used r
+  frame-values frame.Ref d first from used ops g l r = ref-values d first (wordA ops) g (omega arith) used r

@@ -1,4 +1,4 @@
--- A frame of an accepted circuit: what its code rests on, and the values of its wires.
+-- A frame that fits a circuit: what its code rests on, and the gates of its wires.
 use mathlib.Core.Path.{_≡_, refl, sym, ap, subst, _∙_}
 use mathlib.Core.List.{List, [], _∷_, _++_, map, append-assoc}
 use Prim.Native.Nat.{ℕ, suc, _+_, _*_, _-_, _≤_, _<_}
@@ -16,17 +16,12 @@ use Rattle.circuit.proofs.Building.{size-extend}
 use Rattle.circuit.proofs.Judging.{named-made}
 use Rattle.circuit.proofs.Numbered.{all-at, get-all}
 use Rattle.circuit.proofs.Sizes.{made-size}
-use Rattle.semantics.specs.Values.{bits, at, value, valuesOf}
-use Rattle.semantics.proofs.Randoms.{randomsIn}
 use Rattle.frames.specs.Walk.{kindCode, frameCode}
 use Rattle.simulation.specs.Internal.Places.{wordA, wordB}
-use Rattle.simulation.specs.Internal.Gates.{nothing, gateAt}
-use Rattle.simulation.specs.Internal.Filling.{FrameValues, frameMakes}
-use Rattle.simulation.specs.Internal.Gadgets.{FrameReady}
-use Rattle.simulation.proofs.Bits.{bits-at}
+use Rattle.simulation.specs.Internal.Gates.{nothing, gateAt, FrameGates}
+use Rattle.simulation.specs.Internal.Filling.{frameWires}
+use Rattle.simulation.specs.Internal.Gadgets.{FrameEarly, FrameSupplied}
 use Rattle.simulation.proofs.Placed.{and-gates, ref-gates}
-use Rattle.simulation.proofs.Solving.{OrderedFrom}
-use Rattle.simulation.proofs.Equations.{gate-value, and-values, ref-values}
 
 -- the numbers of a circuit grow
 pub inputs-more : (k : Circuit) (fs : List Frame) → k .inputs ≤ build k fs .inputs
@@ -40,46 +35,42 @@ randoms-more k (f ∷ fs) = omega (arith, randoms-more (extend k (f .ops) (f .ki
 -- each IN makes a wire for each share
 brings-most : (d : ℕ) (kind : Kind) → d * shape d kind .inputs ≤ shape d kind .wires
 unfolding shape
-brings-most d HEAD = omega arith
-brings-most d IN = omega arith
-brings-most d CON = omega arith
-brings-most d XOR = omega arith
-brings-most d NOT = omega arith
-brings-most d REG = omega arith
-brings-most d AND = omega arith
-brings-most d REF = omega arith
-brings-most d OUT = omega arith
+brings-most d = elim [ HEAD ↦ omega arith | IN ↦ omega arith | CON ↦ omega arith | XOR ↦ omega arith | NOT ↦ omega arith | REG ↦ omega arith | AND ↦ omega arith | REF ↦ omega arith | OUT ↦ omega arith ]
 
 pub inputs-few : (k : Circuit) (fs : List Frame) → k .inputs * k .d ≤ size k → build k fs .inputs * build k fs .d ≤ size (build k fs)
 inputs-few k [] h = h
 inputs-few k (f ∷ fs) h = inputs-few (extend k (f .ops) (f .kind)) fs (omega (arith, brings-most (k .d) (f .kind), size-extend k (f .ops) (f .kind)))
 
 -- a frame makes as many wires as its kind
-pub makes-same : (d : ℕ) (ops : List ℕ) (kind : Kind) → frameMakes (frameCode (kindCode kind) ops) d ≡ shape d kind .wires
+pub wires-same : (d : ℕ) (ops : List ℕ) (kind : Kind) → frameWires (frameCode (kindCode kind) ops) d ≡ shape d kind .wires
 unfolding shape
-makes-same d ops HEAD = refl
-makes-same d ops IN = refl
-makes-same d ops CON = refl
-makes-same d ops XOR = refl
-makes-same d ops NOT = refl
-makes-same d ops REG = refl
-makes-same d ops AND = refl
-makes-same d ops REF = refl
-makes-same d ops OUT = refl
+wires-same d ops = elim [ HEAD ↦ refl | IN ↦ refl | CON ↦ refl | XOR ↦ refl | NOT ↦ refl | REG ↦ refl | AND ↦ refl | REF ↦ refl | OUT ↦ refl ]
 
--- its wires are earlier ones
-pub frame-ready : (k : Circuit) (kind : Kind) (ops : List ℕ) → Fits k kind ops → (shares tape : ℕ)
-    → k .inputs * k .d + k .d * shape (k .d) kind .inputs ≤ shares → k .randoms + shape (k .d) kind .randoms ≤ tape
-    → FrameReady (frameCode (kindCode kind) ops) (k .d) (size k) (k .inputs * k .d) (k .randoms) ops shares tape
+-- its wires are earlier ones, and it has a share for each wire of an IN and a random bit for each pair of a gadget
+pub frame-early : (k : Circuit) (kind : Kind) (ops : List ℕ) → Fits k kind ops → FrameEarly (frameCode (kindCode kind) ops) (k .d) (size k) ops
+frame-early k _ _ (fit-IN t o) = tt
+frame-early k _ _ (fit-CON l b t p q o) = tt
+frame-early k _ _ (fit-XOR x y l t p q) = (named-made k x l t p, named-made k y l t q)
+frame-early k _ _ (fit-NOT x l t p) = named-made k x l t p
+frame-early k _ _ (fit-REG x l t p o) = named-made k x l t p
+frame-early k _ _ (fit-AND ops t len first p q o) = (len, (λ i l. named-made k (nth ops (1 + i)) i (suc t) (p i l)), (λ i l. named-made k (nth ops (1 + k .d + i)) i t (q i l)))
+frame-early k _ _ (fit-REF ops t len first p o) = (omega (arith, len), (λ i l. named-made k (nth ops (1 + i)) i t (p i l)))
+frame-early k _ _ (fit-OUT ops t len p) = tt
+
+pub frame-supplied : (d from used shares tape : ℕ) (ops : List ℕ) (kind : Kind) → from + d * shape d kind .inputs ≤ shares → used + shape d kind .randoms ≤ tape
+    → FrameSupplied (frameCode (kindCode kind) ops) d from used shares tape
 unfolding shape
-frame-ready k _ _ (fit-IN t o) shares tape s r = omega arith
-frame-ready k _ _ (fit-CON l b t p q o) shares tape s r = tt
-frame-ready k _ _ (fit-XOR x y l t p q) shares tape s r = (named-made k x l t p, named-made k y l t q)
-frame-ready k _ _ (fit-NOT x l t p) shares tape s r = named-made k x l t p
-frame-ready k _ _ (fit-REG x l t p o) shares tape s r = named-made k x l t p
-frame-ready k _ _ (fit-AND ops t len first p q o) shares tape s r = (len, (λ i l. named-made k (nth ops (1 + i)) i (suc t) (p i l)), (λ i l. named-made k (nth ops (1 + k .d + i)) i t (q i l)), r)
-frame-ready k _ _ (fit-REF ops t len first p o) shares tape s r = (omega (arith, len), (λ i l. named-made k (nth ops (1 + i)) i t (p i l)), r)
-frame-ready k _ _ (fit-OUT ops t len p) shares tape s r = tt
+frame-supplied d from used shares tape ops = elim [
+  | HEAD ↦ λ s r. tt
+  | IN ↦ λ s r. omega arith
+  | CON ↦ λ s r. tt
+  | XOR ↦ λ s r. tt
+  | NOT ↦ λ s r. tt
+  | REG ↦ λ s r. tt
+  | AND ↦ λ s r. r
+  | REF ↦ λ s r. r
+  | OUT ↦ λ s r. tt
+]
 
 -- the gates of a frame's wires, other wires behind them
 module _ (k : Circuit) (ops : List ℕ) (kind : Kind) (more : List Wire) where
@@ -104,33 +95,16 @@ input-gate k ops more q l =
     let z : 0 + q ≡ q = omega arith in
     in-all k ops IN more q (subst (λ (n : ℕ). q < n) (sym (made-size k ops IN)) (unfold shape in l)) ∙ ap (λ x. x .gate) (sym (ap (λ n. getD (map f (labels (k .d))) n nothing) z) ∙ e) ∙ ap (λ n. input (k .inputs * k .d + n)) z
 
--- the values of a frame's wires
-module _ (k : Circuit) (ops : List ℕ) (more : List Wire) (shares tape : List ℕ) where
-  abbrev Given : Kind → Type 0
-  Given kind = OrderedFrom 0 (all k ops kind more)
-
-  start : (kind : Kind) → randomsIn (k .wires) ≡ k .randoms → randomsIn (take (size k) (all k ops kind more)) ≡ k .randoms
-  start kind r = ap randomsIn (ap (take (size k)) (append-assoc (k .wires) (made k ops kind) more) ∙ take-at (k .wires) (made k ops kind ++ more) (size k) refl) ∙ r
-
-  fits-in : (kind : Kind) → size k + shape (k .d) kind .wires ≤ length (all k ops kind more)
-  fits-in kind = omega (arith, length-append (k .wires ++ made k ops kind) more, length-append (k .wires) (made k ops kind), made-size k ops kind)
-
-  one : (kind : Kind) (early : Given kind) (g : Gate) → 0 < shape (k .d) kind .wires → gateAt (made k ops kind) 0 ≡ g
-      → at (valuesOf (all k ops kind more) (bits shares) (bits tape)) (size k) ≡ value g (at (valuesOf (all k ops kind more) (bits shares) (bits tape))) (bits shares) (drop (randomsIn (take (size k) (all k ops kind more))) (bits tape))
-  one kind early g l e = gate-value (all k ops kind more) shares tape early (size k) g (omega (arith, fits-in kind)) (one-gate k ops kind more g (subst (λ (n : ℕ). 0 < n) (sym (made-size k ops kind)) l) e)
-
-  pub frame-values : (kind : Kind) → randomsIn (k .wires) ≡ k .randoms → Given kind
-      → FrameValues (frameCode (kindCode kind) ops) (k .d) (size k) (k .inputs * k .d) (k .randoms) ops shares tape (at (valuesOf (all k ops kind more) (bits shares) (bits tape)))
-  unfolding made shape
-  frame-values HEAD r early = tt
-  frame-values IN r early = λ q l. gate-value (all k ops IN more) shares tape early (size k + q) (input (k .inputs * k .d + q)) (omega (arith, fits-in IN)) (input-gate k ops more q l) ∙ bits-at shares (k .inputs * k .d + q)
-  frame-values CON r early = one CON early (constant (isSet (nth ops 1))) (omega arith) refl
-  frame-values XOR r early = one XOR early (sum (nth ops 0 ∷ nth ops 1 ∷ [])) (omega arith) refl
-      ∙ ap (λ z. at (valuesOf (all k ops XOR more) (bits shares) (bits tape)) (nth ops 0) ⊕ z) (no-flip (at (valuesOf (all k ops XOR more) (bits shares) (bits tape)) (nth ops 1)))
-  frame-values NOT r early = one NOT early (inverse (nth ops 0)) (omega arith) refl
-  frame-values REG r early = one REG early (reg (nth ops 0)) (omega arith) refl
-  frame-values AND r early = and-values (all k ops AND more) shares tape early (k .d) (size k) (wordA ops) (wordB (k .d) ops) (and-gates (k .wires) more (k .d) (wordA ops) (wordB (k .d) ops) _ _)
-      (omega (arith, fits-in AND)) (k .randoms) (start AND r)
-  frame-values REF r early = ref-values (all k ops REF more) shares tape early (k .d) (size k) (wordA ops) (ref-gates (k .wires) more (k .d) (wordA ops) (wordA ops) _ _)
-      (omega (arith, fits-in REF)) (k .randoms) (start REF r)
-  frame-values OUT r early = tt
+-- the gates of a frame's wires
+pub frame-gates : (k : Circuit) (ops : List ℕ) (more : List Wire) (kind : Kind)
+    → FrameGates (frameCode (kindCode kind) ops) (k .d) (size k) (k .inputs * k .d) ops (gateAt ((k .wires ++ made k ops kind) ++ more))
+unfolding made
+frame-gates k ops more HEAD = tt
+frame-gates k ops more IN = input-gate k ops more
+frame-gates k ops more CON = one-gate k ops CON more (constant (isSet (nth ops 1))) (omega arith) refl
+frame-gates k ops more XOR = one-gate k ops XOR more (sum (nth ops 0 ∷ nth ops 1 ∷ [])) (omega arith) refl
+frame-gates k ops more NOT = one-gate k ops NOT more (inverse (nth ops 0)) (omega arith) refl
+frame-gates k ops more REG = one-gate k ops REG more (reg (nth ops 0)) (omega arith) refl
+frame-gates k ops more AND = and-gates (k .wires) more (k .d) (wordA ops) (wordB (k .d) ops) _ _
+frame-gates k ops more REF = ref-gates (k .wires) more (k .d) (wordA ops) (wordA ops) _ _
+frame-gates k ops more OUT = tt

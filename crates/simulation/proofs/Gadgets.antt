@@ -2,7 +2,8 @@
 use mathlib.Core.Path.{_≡_, refl, sym, ap, subst, _∙_}
 use mathlib.Core.Bool.{Bool}
 use mathlib.Core.List.{List}
-use Prim.Native.Nat.{ℕ, _+_, _-_, _*_, _<_}
+use Prim.Native.Nat.{ℕ, _+_, _-_, _*_, _≤_, _<_}
+use lib.Bits.{bitXor}
 use native.Mathlib.Omega.{arith}
 use lib.ListN.{length, set}
 use Rattle.circuit.specs.Lists.{_⊕_, nth, range}
@@ -10,40 +11,69 @@ use Rattle.circuit.specs.Kinds.{pairs}
 use Rattle.circuit.proofs.Base.{xor-assoc}
 use Rattle.circuit.proofs.Sizes.{pairs-twice}
 use Rattle.semantics.specs.Values.{byte, xorSum}
-use Rattle.simulation.specs.Internal.Places.{cellRow, ownAt, outAt, maskAt, sumAt}
-use Rattle.simulation.specs.Internal.Filling.{Values, Known, Fills, Copied, Drawn, Owned, Multiplied, AndValues, Masked, Held, RefValues}
+use Rattle.simulation.specs.Internal.Places.{crossStart, productAt, outAt, maskAt, sumAt}
+use Rattle.simulation.specs.Internal.Filling.{Values, Known, Fills, Copied, Drawn, ShareProducts, Multiplied, AndValues, Masked, Held, RefValues}
 use Rattle.simulation.specs.Internal.Gadgets.{Sums}
-use Rattle.simulation.proofs.Adding.{xorSum-others}
+use Rattle.simulation.proofs.Adding.{Adds, adds-start, adds-turn, adds-end, xorSum-turn, xorSum-end, xorSum-others}
+use Rattle.simulation.proofs.Sites.{pair-lt}
 use Rattle.simulation.proofs.Filled.{known-all, fills-next, fills-for, fills-at, fills-set}
 
-pub and-filled : (d first : ℕ) (a b : ℕ → ℕ) (tape : List ℕ) (used : ℕ) (old one two three : List ℕ) (count : ℕ) → count ≡ pairs d
-    → Fills (Drawn tape used first count) first (first + 2 * count) old one → Fills (Owned d first a b) (ownAt d first 0) (ownAt d first d) one two
-    → Fills (Multiplied d first a) (first + cellRow d 0) (outAt d first d) two three
+pub and-filled : (d first : ℕ) (a b : ℕ → ℕ) (tape : List ℕ) (used : ℕ) {old one two three : List ℕ} (count : ℕ) → count ≡ pairs d
+    → Fills (Drawn tape used first count) first (first + 2 * count) old one → Fills (ShareProducts d first a b) (productAt d first 0) (productAt d first d) one two
+    → Fills (Multiplied d first a) (first + crossStart d 0) (outAt d first d) two three
     → Fills (AndValues d first a b tape used) first (first + (7 * (d * (d - 1)) + 4 * d)) old three
-and-filled d first a b tape used old one two three count e draws owns outs =
+and-filled d first a b tape used count e draws products outs =
     fills-next (omega arith) (omega arith) (λ v q k. q .multiplied)
-    (fills-next (omega (arith, e, pairs-twice d)) (omega arith) (λ v q k. q .owned)
-    (fills-for (λ v q. subst (λ (n : ℕ). Drawn tape used first n v) (sym e) (q .drawn)) (fills-at refl (omega (arith, e, pairs-twice d)) draws)) owns)
+    (fills-next (omega (arith, e, pairs-twice d)) (omega arith) (λ v q k. q .products)
+    (fills-for (λ v q. subst (λ (n : ℕ). Drawn tape used first n v) (sym e) (q .drawn)) (fills-at refl (omega (arith, e, pairs-twice d)) draws)) products)
     (fills-at (omega arith) (omega arith) outs)
 
+-- REF's random bits of the share i and each below j are added to a bit
+pub mask-lt : (d first i j : ℕ) → i < d → j < d → (j ≡ i → ⊥) → maskAt d first i j < first + pairs d
+mask-lt d first i j l k ne = omega (arith, pair-lt d i j l k ne)
+
+pub record MasksOn (d first i bit from to : ℕ) (values : List ℕ) (sum j : ℕ) : Type 0 where
+  pub low : from ≤ j
+  pub high : j ≤ to
+  pub adds : (x : Bool) → bit ≡ byte x → (v : Values) → Known v 0 (first + pairs d) values
+      → Adds (x ⊕ xorSum (range from (to - from)) (λ k. v (maskAt d first i k))) sum (xorSum (range j (to - j)) (λ k. v (maskAt d first i k)))
+
+pub masks-start : {d first i bit from to : ℕ} {values : List ℕ} → from ≤ to → MasksOn d first i bit from to values bit from
+masks-start {d} {first} {i} {from = from} {to} h = record { low = omega arith; high = h; adds = λ x p v k. adds-start x (xorSum (range from (to - from)) (λ m. v (maskAt d first i m))) p }
+
+module _ {d first i bit from to : ℕ} {values : List ℕ} {sum j : ℕ} (on : MasksOn d first i bit from to values sum j) where
+  pub masks-turn : i < d → j < d → (j ≡ i → ⊥) → j < to → (p : ℕ) → p ≡ maskAt d first i j → MasksOn d first i bit from to values (bitXor sum (nth values p)) (j + 1)
+  masks-turn l k ne h p e = record {
+    low = omega (arith, on .low);
+    high = omega arith;
+    adds = λ x q v known.
+        let f : ℕ → Bool = λ m. v (maskAt d first i m) in
+        adds-turn (nth values p) (f j) (xorSum (range (j + 1) (to - (j + 1))) f) (on .adds x q v known) (xorSum-turn f to j h)
+        (ap (nth values) e ∙ known (maskAt d first i j) (omega arith) (mask-lt d first i j l k ne));
+  }
+
+  pub masks-end : to ≤ j → Sums d first i bit from to values sum
+  masks-end h = record { is = λ x p v k. adds-end (on .adds x p v k) (xorSum-end (λ m. v (maskAt d first i m)) to j h) }
+
 -- one sum of REF
-module _ (d first : ℕ) (a : ℕ → ℕ) (old mid : List ℕ) (i : ℕ) (l : i < d) (room : first + pairs d + i < length old) (early : a i < first)
-    (f : Fills (Masked d first a) (first + pairs d) (first + pairs d + i) old mid) (s t : ℕ) (r : Sums d first i (nth mid (a i)) 0 i mid s) (q : Sums d first i s (i + 1) d mid t) where
+module _ {d first : ℕ} {a : ℕ → ℕ} {old mid : List ℕ} {i : ℕ} (f : Fills (Masked d first a) (first + pairs d) (first + pairs d + i) old mid)
+    (l : i < d) (room : first + pairs d + i < length old) (early : a i < first) (x p : ℕ) (x-is : x ≡ a i) (p-is : p ≡ first + pairs d + i)
+    {s t : ℕ} (r : Sums d first i (nth mid x) 0 i mid s) (q : Sums d first i s (i + 1) d mid t) where
   sum-is : (v : Values) → Masked d first a v → Known v 0 (first + pairs d) old → t ≡ byte (v (sumAt d first i))
   sum-is v e k =
       let g : ℕ → Bool = λ j. v (maskAt d first i j) in
       let known : Known v 0 (first + pairs d) mid = λ x p u. known-all f v e k x p (omega arith) in
-      q .is (v (a i) ⊕ xorSum (range 0 (i - 0)) g) (r .is (v (a i)) (known (a i) (omega arith) (omega arith)) v known) v known
+      q .is (v (a i) ⊕ xorSum (range 0 (i - 0)) g) (r .is (v (a i)) (ap (nth mid) x-is ∙ known (a i) (omega arith) (omega arith)) v known) v known
       ∙ ap byte (xor-assoc (v (a i)) (xorSum (range 0 (i - 0)) g) (xorSum (range (i + 1) (d - (i + 1))) g) ∙ ap (λ z. v (a i) ⊕ z) (sym (xorSum-others g d i l)) ∙ sym (e i l))
 
-  pub masked-turn : Fills (Masked d first a) (first + pairs d) (first + pairs d + (i + 1)) old (set mid (first + pairs d + i) t)
-  masked-turn = fills-at refl (omega arith) (fills-set t f (omega arith) room sum-is)
+  pub masked-turn : Fills (Masked d first a) (first + pairs d) (first + pairs d + (i + 1)) old (set mid p t)
+  masked-turn = rw p-is (fills-at refl (omega arith) (fills-set t f (omega arith) room sum-is))
 
-pub ref-filled : (d first : ℕ) (a : ℕ → ℕ) (tape : List ℕ) (used : ℕ) (old one two three : List ℕ) (count : ℕ) → count ≡ pairs d
+pub ref-filled : (d first : ℕ) (a : ℕ → ℕ) (tape : List ℕ) (used : ℕ) {old one two three : List ℕ} (count : ℕ) → count ≡ pairs d
     → Fills (Copied tape used first count) first (first + count) old one → Fills (Masked d first a) (first + pairs d) (first + pairs d + d) one two
     → Fills (Held d first) (first + pairs d + d) (first + pairs d + d + d) two three
     → Fills (RefValues d first a tape used) first (first + (pairs d + 2 * d)) old three
-ref-filled d first a tape used old one two three count e draws sums holds =
+ref-filled d first a tape used count e draws sums holds =
     fills-next (omega arith) (omega arith) (λ v q k. q .held)
     (fills-next (omega arith) (omega arith) (λ v q k. q .masked)
     (fills-for (λ v q. subst (λ (n : ℕ). Copied tape used first n v) (sym e) (q .drawn)) (fills-at refl (omega (arith, e)) draws)) sums)

@@ -14,7 +14,7 @@ pub mod Solving
 -- Buffers filled in
 pub mod Filled
 pub mod Crossing
-pub mod Owning
+pub mod Products
 pub mod Rows
 pub mod Equations
 pub mod Framing
@@ -26,5 +26,5 @@ pub mod Marked
 pub mod Reaching
 pub mod Moved
 pub mod Marking
-pub mod Settling
+pub mod Propagating
 pub mod Showing

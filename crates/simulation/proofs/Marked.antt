@@ -2,14 +2,15 @@
 use mathlib.Core.Path.{_≡_, sym, ap, subst, _∙_}
 use mathlib.Core.Bool.{false, false≢true}
 use mathlib.Core.List.{List, [], _∷_}
-use Prim.Native.Nat.{ℕ, _<_}
+use Prim.Native.Nat.{ℕ, zero, suc, _<_}
+use native.Mathlib.Omega.{arith}
 use lib.Dec.{eqb, ltb}
 use lib.ListN.{length, set, length-set, List·getD-eq-default}
 use lib.Seq.{getD-set-same, getD-set-other}
 use borrow.Author.Tests.{eqb-true, eqb-false, ltb-true, ltb-false}
 use Rattle.circuit.specs.Lists.{nth, mem}
 use Rattle.circuit.specs.Circuit.{isSet}
-use Rattle.circuit.proofs.Base.{cases, or-cases, or-left, In, in-tail}
+use Rattle.circuit.proofs.Base.{cases, or-cases, or-left, In, in-head, in-tail}
 use Rattle.simulation.specs.Internal.Marks.{markAll, Marked}
 
 pub marked-lt : (marks : List ℕ) (x : ℕ) → Marked marks x → x < length marks
@@ -46,3 +47,9 @@ clear-cases marks x y h f = cases (eqb y x)
 
 pub clear-other : (marks : List ℕ) (x y : ℕ) → eqb y x ≡ false → Marked marks y → Marked (set marks x 0) y
 clear-other marks x y e h = ap isSet (getD-set-other marks x y 0 0 (eqb-false y x e)) ∙ h
+
+-- what stands at a place of a list is on it
+pub nth-in : (xs : List ℕ) (i : ℕ) → i < length xs → In (nth xs i) xs
+nth-in [] i l = absurd (omega arith)
+nth-in (x ∷ xs) zero l = in-head x xs
+nth-in (x ∷ xs) (suc i) l = in-tail (nth xs i) x xs (nth-in xs i (omega arith))

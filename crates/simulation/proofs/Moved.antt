@@ -14,13 +14,12 @@ use Rattle.circuit.specs.Kinds.{pairs}
 use Rattle.circuit.proofs.Base.{cases, or-cases, or-left, or-right, In}
 use Rattle.circuit.proofs.Sizes.{pairs-twice}
 use Rattle.semantics.specs.Probes.{isStop, operands}
-use Rattle.simulation.specs.Internal.Places.{slotOf, cellRow, pairAt, cellAt, ownAt, outAt, maskAt, sumAt, heldAt}
-use Rattle.simulation.specs.Internal.Gates.{gateAt, OwnGates, CellGates, CellsGates, RowsGates, OwnsGates, OutGates, AndGates, RefGates}
-use Rattle.simulation.specs.Internal.Marks.{markAll, propagated, sixes, outWires, Moving, Moves}
+use Rattle.simulation.specs.Internal.Places.{slotOf, crossStart, pairAt, crossAt, productAt, outAt, maskAt, sumAt, heldAt}
+use Rattle.simulation.specs.Internal.Gates.{gateAt, ProductGates, CrossGates, CrossRowGates, CrossAllGates, ProductsGates, OutGates, AndGates, RefGates}
+use Rattle.simulation.specs.Internal.Marks.{markAll, propagated, sixApart, outWires, Moving, Moves}
 use Rattle.simulation.proofs.Bits.{set-low}
-use Rattle.simulation.proofs.Ranges.{others-is, map-append}
-use Rattle.simulation.proofs.Adding.{range-turn, range-end}
-use Rattle.simulation.proofs.Rows.{slot-low, slot-high, slot-next, slots, row-next, row-room}
+use Rattle.simulation.proofs.Ranges.{others-is, others-split, map-append}
+use Rattle.simulation.proofs.Rows.{slot-low, slot-high, slot-next, slots-up, row-ends, row-room}
 use Rattle.simulation.proofs.Reaching.{moving-gate, moving-stop}
 
 pub mark-length : (marks xs : List ℕ) → length (markAll marks xs) ≡ length marks
@@ -81,105 +80,104 @@ moves-gate x z marks e k = moves-hand x (operands z) marks (λ g h. ap isStop (k
     (λ g h y i. subst (λ (t : Gate). In y (operands t)) (sym (k g h)) i) (λ g h y i. subst (λ (t : Gate). In y (operands t)) (k g h) i)
 
 -- the wires U and W that an output takes
-sixes-append : (a m n : ℕ) → sixes a (m + n) ≡ sixes a m ++ sixes (a + 6 * m) n
-unfolding sixes
-sixes-append a zero n =
+six-apart-append : (a m n : ℕ) → sixApart a (m + n) ≡ sixApart a m ++ sixApart (a + 6 * m) n
+unfolding sixApart
+six-apart-append a zero n =
     let e : 0 + n ≡ n = omega arith in
     let f : a ≡ a + 6 * 0 = omega arith in
-    ap₂ sixes f e
-sixes-append a (suc m) n =
+    ap₂ sixApart f e
+six-apart-append a (suc m) n =
     let e : suc m + n ≡ suc (m + n) = omega arith in
     let f : a + 6 + 6 * m ≡ a + 6 * suc m = omega arith in
-    ap (sixes a) e ∙ ap (λ l. a ∷ l) (sixes-append (a + 6) m n ∙ ap (λ z. sixes (a + 6) m ++ sixes z n) f)
+    ap (sixApart a) e ∙ ap (λ l. a ∷ l) (six-apart-append (a + 6) m n ∙ ap (λ z. sixApart (a + 6) m ++ sixApart z n) f)
 
-sixes-map : (f : ℕ → ℕ) (a m n : ℕ) → ((q : ℕ) → q < n → f (m + q) ≡ a + 6 * q) → map f (range m n) ≡ sixes a n
-unfolding sixes
-sixes-map f a m zero h = refl
-sixes-map f a m (suc n) h =
+six-apart-map : (f : ℕ → ℕ) (a m n : ℕ) → ((q : ℕ) → q < n → f (m + q) ≡ a + 6 * q) → map f (range m n) ≡ sixApart a n
+unfolding sixApart
+six-apart-map f a m zero h = refl
+six-apart-map f a m (suc n) h =
     let e : m ≡ m + 0 = omega arith in
     let z : a + 6 * 0 ≡ a = omega arith in
-    ap₂ (λ x l. x ∷ l) (ap f e ∙ h 0 (omega arith) ∙ z) (sixes-map f (a + 6) (suc m) n (λ q l.
+    ap₂ (λ x l. x ∷ l) (ap f e ∙ h 0 (omega arith) ∙ z) (six-apart-map f (a + 6) (suc m) n (λ q l.
     let i : suc m + q ≡ m + suc q = omega arith in
     let j : a + 6 * suc q ≡ a + 6 + 6 * q = omega arith in
     ap f i ∙ h (suc q) (omega arith) ∙ j))
 
-row-sixes : (d first i k : ℕ) → i < d → map (λ j. cellAt d first i j + k) (others d i) ≡ sixes (first + cellRow d i + k) (d - 1)
-row-sixes d first i k l =
-    let f : ℕ → ℕ = λ j. cellAt d first i j + k in
-    let a = first + cellRow d i + k in
+row-six-apart : (d first i k : ℕ) → i < d → map (λ j. crossAt d first i j + k) (others d i) ≡ sixApart (first + crossStart d i + k) (d - 1)
+row-six-apart d first i k l =
+    let f : ℕ → ℕ = λ j. crossAt d first i j + k in
+    let a = first + crossStart d i + k in
     let e : i + (d - suc i) ≡ d - 1 = omega arith in
     ap (map f) (others-is d i l) ∙ map-append f (range 0 i) (range (suc i) (d - suc i))
     ∙ ap₂ (λ x y. x ++ y)
-    (sixes-map f a 0 i (λ q h. low q h))
-    (sixes-map f (a + 6 * i) (suc i) (d - suc i) (λ q h. high q))
-    ∙ sym (sixes-append a i (d - suc i)) ∙ ap (sixes a) e
+    (six-apart-map f a 0 i (λ q h. low q h))
+    (six-apart-map f (a + 6 * i) (suc i) (d - suc i) (λ q h. high q))
+    ∙ sym (six-apart-append a i (d - suc i)) ∙ ap (sixApart a) e
   where
-    low : (q : ℕ) → q < i → cellAt d first i (0 + q) + k ≡ first + cellRow d i + k + 6 * q
+    low : (q : ℕ) → q < i → crossAt d first i (0 + q) + k ≡ first + crossStart d i + k + 6 * q
     low q h = omega (arith, slot-low i (0 + q) (omega arith))
 
-    high : (q : ℕ) → cellAt d first i (suc i + q) + k ≡ first + cellRow d i + k + 6 * i + 6 * q
+    high : (q : ℕ) → crossAt d first i (suc i + q) + k ≡ first + crossStart d i + k + 6 * i + 6 * q
     high q = omega (arith, slot-high i (suc i + q) (omega arith))
 
 pub out-wires : (d first i : ℕ) → i < d
-    → (ownAt d first i + 2) ∷ map (λ j. cellAt d first i j + 1) (others d i) ++ map (λ j. cellAt d first i j + 5) (others d i) ≡ outWires d first i
-out-wires d first i l = ap₂ (λ x y. ((ownAt d first i + 2) ∷ x) ++ y) (row-sixes d first i 1 l) (row-sixes d first i 5 l)
+    → (productAt d first i + 2) ∷ map (λ j. crossAt d first i j + 1) (others d i) ++ map (λ j. crossAt d first i j + 5) (others d i) ≡ outWires d first i
+out-wires d first i l = ap₂ (λ x y. ((productAt d first i + 2) ∷ x) ++ y) (row-six-apart d first i 1 l) (row-six-apart d first i 5 l)
 
 -- the wires of two shares
-pub cell-moved : (x a b r : ℕ) (marks : List ℕ)
-    → Moves (CellGates x a b r) x (x + 6) marks (propagated x (a ∷ (r + 1) ∷ []) (propagated (x + 2) (b ∷ r ∷ []) (propagated (x + 4) (a ∷ (x + 3) ∷ []) marks)))
-cell-moved x a b r marks =
-    let one = propagated (x + 4) (a ∷ (x + 3) ∷ []) marks in
-    let two = propagated (x + 2) (b ∷ r ∷ []) one in
-    moves-then (omega arith) (moves-at refl (omega arith) (moves-stop (x + 5) marks (λ g h. ap isStop (h .5))))
-    (moves-then (omega arith) (moves-at refl (omega arith) (moves-gate (x + 4) (product a (x + 3)) marks refl (λ g h. h .4)))
+pub cross-moved : (x a b r : ℕ) (marks : List ℕ) {one two three : List ℕ} → one ≡ propagated (x + 4) (a ∷ (x + 3) ∷ []) marks → two ≡ propagated (x + 2) (b ∷ r ∷ []) one
+    → three ≡ propagated x (a ∷ (r + 1) ∷ []) two → Moves (CrossGates x a b r) x (x + 6) marks three
+cross-moved x a b r marks {one} {two} p q s = rw s
+    (moves-then (omega arith) (moves-at refl (omega arith) (moves-stop (x + 5) marks (λ g h. ap isStop (h .5))))
+    (moves-then (omega arith) (moves-at refl (omega arith) (subst (Moves (CrossGates x a b r) (x + 4) (x + 4 + 1) marks) (sym p) (moves-gate (x + 4) (product a (x + 3)) marks refl (λ g h. h .4))))
     (moves-then (omega arith) (moves-at refl (omega arith) (moves-stop (x + 3) one (λ g h. ap isStop (h .3))))
-    (moves-then (omega arith) (moves-at refl (omega arith) (moves-gate (x + 2) (sum (b ∷ r ∷ [])) one refl (λ g h. h .2)))
+    (moves-then (omega arith) (moves-at refl (omega arith) (subst (Moves (CrossGates x a b r) (x + 2) (x + 2 + 1) one) (sym q) (moves-gate (x + 2) (sum (b ∷ r ∷ [])) one refl (λ g h. h .2))))
     (moves-then (omega arith) (moves-at refl (omega arith) (moves-stop (x + 1) two (λ g h. ap isStop (h .1))))
-    (moves-gate x (andNot a (r + 1)) two refl (λ g h. h .0))))))
+    (moves-gate x (andNot a (r + 1)) two refl (λ g h. h .0)))))))
 
-pub sixes-turn : (x count k : ℕ) → k < count → sixes x (count - k) ≡ x ∷ sixes (x + 6) (count - (k + 1))
-unfolding sixes
-sixes-turn x count k h = let e : count - k ≡ suc (count - (k + 1)) = omega arith in ap (sixes x) e
+pub six-apart-turn : (x count k : ℕ) → k < count → sixApart x (count - k) ≡ x ∷ sixApart (x + 6) (count - (k + 1))
+unfolding sixApart
+six-apart-turn x count k h = let e : count - k ≡ suc (count - (k + 1)) = omega arith in ap (sixApart x) e
 
-pub sixes-end : (x count k : ℕ) → count ≤ k → sixes x (count - k) ≡ []
-unfolding sixes
-sixes-end x count k h = let e : count - k ≡ 0 = omega arith in ap (sixes x) e
+pub six-apart-end : (x count k : ℕ) → count ≤ k → sixApart x (count - k) ≡ []
+unfolding sixApart
+six-apart-end x count k h = let e : count - k ≡ 0 = omega arith in ap (sixApart x) e
 
--- an output
-pub out-moved : (d first i : ℕ) (marks : List ℕ) → i < d → Moves (OutGates d first) (outAt d first i) (outAt d first (i + 1)) marks (propagated (outAt d first i) (outWires d first i) marks)
-out-moved d first i marks l =
-    let ops = (ownAt d first i + 2) ∷ map (λ j. cellAt d first i j + 1) (others d i) ++ map (λ j. cellAt d first i j + 5) (others d i) in
-    moves-at refl (omega arith) (subst (λ (w : List ℕ). Moves (OutGates d first) (outAt d first i) (outAt d first i + 1) marks (propagated (outAt d first i) w marks)) (out-wires d first i l)
-    (moves-gate (outAt d first i) (sum ops) marks refl (λ g h. h i l)))
+-- the outputs from i on
+pub outs-moved : (d first i : ℕ) {n : ℕ} {old mid new : List ℕ} → i < d → n ≡ i + 1 → Moves (OutGates d first) (outAt d first n) (outAt d first d) old mid
+    → new ≡ propagated (outAt d first i) (outWires d first i) mid → Moves (OutGates d first) (outAt d first i) (outAt d first d) old new
+outs-moved d first i {mid = mid} l next f e =
+    rw (e, ← out-wires d first i l) (moves-then (omega arith) f (moves-at refl (omega arith) (moves-gate (outAt d first i) _ mid refl (λ g h. h i l))))
 
--- the wires of the share i and each from j on
-pub row-moved : (d first : ℕ) (a b : ℕ → ℕ) (i j top : ℕ) (old mid new : List ℕ) → j < d → (j ≡ i → ⊥) → cellAt d first i (j + 1) ≤ top
-    → Moves (CellsGates d first a b i) (cellAt d first i (j + 1)) top old mid → Moves (CellGates (cellAt d first i j) (a i) (b j) (pairAt d first i j)) (cellAt d first i j) (cellAt d first i j + 6) mid new
-    → Moves (CellsGates d first a b i) (cellAt d first i j) top old new
-row-moved d first a b i j top old mid new l ne h f g = moves-then h f (moves-at refl (omega (arith, slot-next i j ne)) (moves-for (λ z q. q j l ne) g))
+-- the wires of the share i and each from j on; where the code finds u and r
+pub row-moved : (d first : ℕ) (a b : ℕ → ℕ) (i j to : ℕ) {n : ℕ} {old mid new : List ℕ} → j < d → (j ≡ i → ⊥) → j < to → n ≡ j + 1
+    → Moves (CrossRowGates d first a b i) (crossAt d first i n) (crossAt d first i to) old mid → (p q x y : ℕ) → p ≡ crossAt d first i j → q ≡ pairAt d first i j → x ≡ a i → y ≡ b j
+    → Moves (CrossGates p x y q) p (p + 6) mid new → Moves (CrossRowGates d first a b i) (crossAt d first i j) (crossAt d first i to) old new
+row-moved d first a b i j to {mid = mid} {new} l ne h next f p q x y p-is q-is x-is y-is g =
+    let here : Moves (CrossGates (crossAt d first i j) (a i) (b j) (pairAt d first i j)) (crossAt d first i j) (crossAt d first i j + 6) mid new = rw (p-is, q-is, x-is, y-is) at g in
+    moves-then (slots-up d first i (j + 1) to (omega arith)) (moves-at (ap (crossAt d first i) next) refl f) (moves-at refl (omega (arith, slot-next i j ne)) (moves-for (λ z q. q j l ne) here))
 
 -- both halves of a row
-pub rows-moved : (d first : ℕ) (a b : ℕ → ℕ) (i : ℕ) (old mid one two : List ℕ) → i < d
-    → Moves (RowsGates d first a b) (first + cellRow d (i + 1)) (first + cellRow d d) old mid
-    → Moves (CellsGates d first a b i) (cellAt d first i (i + 1)) (cellAt d first i d) mid one → Moves (CellsGates d first a b i) (cellAt d first i 0) (cellAt d first i i) one two
-    → Moves (RowsGates d first a b) (first + cellRow d i) (first + cellRow d d) old two
-rows-moved d first a b i old mid one two l f g h =
-    moves-then (row-room d first i l) f
-    (moves-then (omega (arith, slot-high i (i + 1) (omega arith), last-slot)) (moves-at (omega (arith, slot-low i i (omega arith), slot-high i (i + 1) (omega arith))) (ap (λ n. first + cellRow d i + 6 * n) (slot-high i d l) ∙ row-next d first i) (moves-for (λ z q. q i l) g))
-    (moves-at (omega (arith, slot-low i 0 (omega arith))) refl (moves-for (λ z q. q i l) h)))
-  where
-    last-slot : cellAt d first i i ≤ first + cellRow d (i + 1)
-    last-slot = within (cellRow d i) (cellRow d (i + 1)) (slotOf i i) (slot-low i i (omega arith)) (row-next d first i)
-      where
-        within : (x y n : ℕ) → n ≡ i → first + x + 6 * (d - 1) ≡ first + y → first + x + 6 * n ≤ first + y
-        within x y n e k = omega arith
+pub rows-moved : (d first : ℕ) (a b : ℕ → ℕ) (i : ℕ) {n : ℕ} {old mid one two : List ℕ} → i < d → n ≡ i + 1
+    → Moves (CrossAllGates d first a b) (first + crossStart d n) (first + crossStart d d) old mid
+    → Moves (CrossRowGates d first a b i) (crossAt d first i (i + 1)) (crossAt d first i d) mid one → Moves (CrossRowGates d first a b i) (crossAt d first i 0) (crossAt d first i i) one two
+    → Moves (CrossAllGates d first a b) (first + crossStart d i) (first + crossStart d d) old two
+rows-moved d first a b i l next f g h =
+    let ends = row-ends d first i l in
+    moves-then (row-room d first i l) (moves-at (ap (λ m. first + crossStart d m) next) refl f)
+    (moves-then (ends .within) (moves-at (ends .mid) (ends .last) (moves-for (λ z q. q i l) g)) (moves-at (ends .first-is) refl (moves-for (λ z q. q i l) h)))
 
 -- B, m and M
-pub own-moved : (x a b : ℕ) (marks : List ℕ) → Moves (OwnGates x a b) x (x + 3) marks (propagated (x + 1) (a ∷ x ∷ []) marks)
-own-moved x a b marks =
+pub product-moved : (x a b : ℕ) (marks : List ℕ) → Moves (ProductGates x a b) x (x + 3) marks (propagated (x + 1) (a ∷ x ∷ []) marks)
+product-moved x a b marks =
     let new = propagated (x + 1) (a ∷ x ∷ []) marks in
     moves-then (omega arith) (moves-at refl (omega arith) (moves-stop (x + 2) marks (λ g h. ap isStop (h .2))))
     (moves-then (omega arith) (moves-at refl (omega arith) (moves-gate (x + 1) (product a x) marks refl (λ g h. h .1))) (moves-stop x new (λ g h. ap isStop (h .0))))
+
+-- those of the shares from i on; where the code finds B and a
+pub products-moved : (d first : ℕ) (a b : ℕ → ℕ) (i : ℕ) {n : ℕ} {old mid new : List ℕ} → i < d → n ≡ i + 1 → Moves (ProductsGates d first a b) (productAt d first n) (productAt d first d) old mid
+    → (p x : ℕ) → p ≡ productAt d first i → x ≡ a i → new ≡ propagated (p + 1) (x ∷ p ∷ []) mid → Moves (ProductsGates d first a b) (productAt d first i) (productAt d first d) old new
+products-moved d first a b i {mid = mid} l next f p x p-is x-is e =
+    rw (e, p-is, x-is) (moves-then (omega arith) f (moves-at refl (omega arith) (moves-for (λ g h. h i l) (product-moved (productAt d first i) (a i) (b i) mid))))
 
 -- r and R of every pair
 moves-pairs : {G : (ℕ → Gate) → Type 0} (from count : ℕ) (marks : List ℕ)
@@ -189,63 +187,49 @@ moves-pairs from (suc n) marks k =
     moves-then (omega arith) (moves-at refl (omega arith) (moves-stop (from + 2 * n + 1) marks (λ g h. k g h n (omega arith) .1)))
     (moves-then (omega arith) (moves-stop (from + 2 * n) marks (λ g h. k g h n (omega arith) .0)) (moves-pairs from n marks (λ g h q l. k g h q (omega arith))))
 
-pub and-moved : (d first : ℕ) (a b : ℕ → ℕ) (old one two three : List ℕ) → Moves (OutGates d first) (outAt d first 0) (outAt d first d) old one
-    → Moves (RowsGates d first a b) (first + cellRow d 0) (first + cellRow d d) one two
-    → Moves (OwnsGates d first a b) (ownAt d first 0) (ownAt d first d) two three
+pub and-moved : (d first : ℕ) (a b : ℕ → ℕ) {old one two three : List ℕ} → Moves (OutGates d first) (outAt d first 0) (outAt d first d) old one
+    → Moves (CrossAllGates d first a b) (first + crossStart d 0) (first + crossStart d d) one two
+    → Moves (ProductsGates d first a b) (productAt d first 0) (productAt d first d) two three
     → Moves (λ g. AndGates g d first a b) first (first + (7 * (d * (d - 1)) + 4 * d)) old three
-and-moved d first a b old one two three outs rows owns =
+and-moved d first a b {three = three} outs rows products =
     moves-then (omega arith) (moves-at (omega arith) (omega arith) (moves-for (λ g h. h .outs) outs))
-    (moves-then (omega arith) (moves-for (λ g h. h .cells) rows)
-    (moves-then (omega arith) (moves-at refl (omega arith) (moves-for (λ g h. h .owns) owns))
+    (moves-then (omega arith) (moves-for (λ g h. h .crosses) rows)
+    (moves-then (omega arith) (moves-at refl (omega arith) (moves-for (λ g h. h .products) products))
     (moves-at refl (omega (arith, pairs-twice d)) (moves-pairs first (pairs d) three (λ g h q l. (ap isStop (h .draws q l .0), ap isStop (h .draws q l .1)))))))
 
-pub zero-is : (n : ℕ) → n ≤ 0 → n ≡ 0
-zero-is n h = omega arith
-
 -- an output's marks, as the code sets them
-pub out-handed : (d first i : ℕ) (marks one two : List ℕ) (wire row : ℕ) → wire ≡ outAt d first i → row ≡ first + cellRow d i → 1 ≤ nth marks wire
-    → one ≡ markAll (set marks (ownAt d first i + 2) 1) (sixes (row + 1) (d - 1)) → two ≡ markAll one (sixes (row + 5) (d - 1))
-    → set two wire 0 ≡ propagated (outAt d first i) (outWires d first i) marks
-out-handed d first i marks one two wire row w r h e f =
-    let start = set marks (ownAt d first i + 2) 1 in
-    let all : two ≡ markAll marks (outWires d first i) = f ∙ ap₂ (λ l n. markAll l (sixes (n + 5) (d - 1))) (e ∙ ap (λ n. markAll start (sixes (n + 1) (d - 1))) r) r
-    ∙ sym (mark-append start (sixes (first + cellRow d i + 1) (d - 1)) (sixes (first + cellRow d i + 5) (d - 1))) in
-    ap₂ (λ l n. set l n 0) all w ∙ sym (ap (λ b. cond b marks (set (markAll marks (outWires d first i)) (outAt d first i) 0)) (le-ltb (nth marks (outAt d first i)) 1 (subst (λ (n : ℕ). 1 ≤ nth marks n) w h)))
+pub out-handed : (d first i : ℕ) (marks : List ℕ) {one two : List ℕ} (wire row o : ℕ) → wire ≡ outAt d first i → row ≡ first + crossStart d i → o ≡ productAt d first i + 2 → 1 ≤ nth marks wire
+    → one ≡ markAll (set marks o 1) (sixApart (row + 1) (d - 1)) → two ≡ markAll one (sixApart (row + 5) (d - 1)) → set two wire 0 ≡ propagated (outAt d first i) (outWires d first i) marks
+out-handed d first i marks wire row o w-is r-is o-is h e f =
+    let row = first + crossStart d i in
+    let start = set marks (productAt d first i + 2) 1 in
+    let low : 1 ≤ nth marks (outAt d first i) = rw w-is at h in
+    rw (w-is, le-ltb (nth marks (outAt d first i)) 1 low, f, e, r-is, o-is, mark-append start (sixApart (row + 1) (d - 1)) (sixApart (row + 5) (d - 1)))
 
 pub below-is : (n m : ℕ) → m ≤ n → n ≤ m → n ≡ m
 below-is n m h k = omega arith
 
--- the wires of a later share stand later
-pub slots-up : (d first i j k : ℕ) → j ≤ k → cellAt d first i j ≤ cellAt d first i k
-slots-up d first i j k h = within (cellRow d i) (slotOf i j) (slotOf i k) (slots i j k h)
-  where
-    within : (x s t : ℕ) → s ≤ t → first + x + 6 * s ≤ first + x + 6 * t
-    within x s t z = omega arith
-
--- the random bits of a sum of REF
-pub masks-turn : (f : ℕ → ℕ) (to j : ℕ) → j < to → map f (range j (to - j)) ≡ f j ∷ map f (range (j + 1) (to - (j + 1)))
-masks-turn f to j h = ap (map f) (range-turn to j h)
-
-pub masks-end : (f : ℕ → ℕ) (to j : ℕ) → to ≤ j → map f (range j (to - j)) ≡ []
-masks-end f to j h = ap (map f) (range-end to j h)
-
 -- a sum's marks, as the code sets them
-pub sum-handed : (d first i a : ℕ) (marks one two : List ℕ) (wire : ℕ) → i < d → wire ≡ sumAt d first i → 1 ≤ nth marks wire
+pub sum-handed : (d first i a : ℕ) (marks : List ℕ) {one two : List ℕ} (wire : ℕ) → i < d → wire ≡ sumAt d first i → 1 ≤ nth marks wire
     → one ≡ markAll (set marks a 1) (map (maskAt d first i) (range 0 (i - 0))) → two ≡ markAll one (map (maskAt d first i) (range (i + 1) (d - (i + 1))))
     → set two wire 0 ≡ propagated (sumAt d first i) (a ∷ map (maskAt d first i) (others d i)) marks
-sum-handed d first i a marks one two wire l w h e f =
+sum-handed d first i a marks wire l w-is h e f =
     let g = maskAt d first i in
-    let low = range 0 (i - 0) in
-    let high = range (i + 1) (d - (i + 1)) in
-    let z : i ≡ i - 0 = omega arith in
-    let y : suc i ≡ i + 1 = omega arith in
-    let whole : map g (others d i) ≡ map g low ++ map g high = ap (map g) (others-is d i l ∙ ap₂ (λ m n. range 0 m ++ range n (d - n)) z y) ∙ map-append g low high in
-    let all : two ≡ markAll (set marks a 1) (map g (others d i)) = f ∙ ap (λ x. markAll x (map g high)) e ∙ sym (mark-append (set marks a 1) (map g low) (map g high)) ∙ ap (markAll (set marks a 1)) (sym whole) in
-    ap₂ (λ x n. set x n 0) all w ∙ sym (ap (λ b. cond b marks (set (markAll marks (a ∷ map g (others d i))) (sumAt d first i) 0)) (le-ltb (nth marks (sumAt d first i)) 1 (subst (λ (n : ℕ). 1 ≤ nth marks n) w h)))
+    let low : 1 ≤ nth marks (sumAt d first i) = rw w-is at h in
+    rw (
+      w-is,
+      le-ltb (nth marks (sumAt d first i)) 1 low,
+      f,
+      e,
+      others-split d i l,
+      map-append g (range 0 (i - 0)) (range (i + 1) (d - (i + 1))),
+      mark-append (set marks a 1) (map g (range 0 (i - 0))) (map g (range (i + 1) (d - (i + 1)))),
+    )
 
-pub sum-moved : (d first : ℕ) (a : ℕ → ℕ) (i : ℕ) (marks : List ℕ) → i < d
-    → Moves (λ g. RefGates g d first a) (sumAt d first i) (sumAt d first (i + 1)) marks (propagated (sumAt d first i) (a i ∷ map (maskAt d first i) (others d i)) marks)
-sum-moved d first a i marks l = moves-at refl (omega arith) (moves-gate (sumAt d first i) (sum (a i ∷ map (maskAt d first i) (others d i))) marks refl (λ g h. h .sums i l))
+pub sums-moved : (d first : ℕ) (a : ℕ → ℕ) (i : ℕ) {n to : ℕ} {old mid new : List ℕ} → i < d → n ≡ i + 1 → Moves (λ g. RefGates g d first a) (sumAt d first n) to old mid
+    → (x : ℕ) → x ≡ a i → new ≡ propagated (sumAt d first i) (x ∷ map (maskAt d first i) (others d i)) mid → sumAt d first n ≤ to → Moves (λ g. RefGates g d first a) (sumAt d first i) to old new
+sums-moved d first a i {mid = mid} l next f x x-is e room =
+    rw (e, x-is) (moves-then room f (moves-at refl (omega arith) (moves-gate (sumAt d first i) (sum (a i ∷ map (maskAt d first i) (others d i))) mid refl (λ g h. h .sums i l))))
 
 -- REF's outputs are stops, and so are its random bits
 pub held-moved : (d first : ℕ) (a : ℕ → ℕ) (marks : List ℕ) → Moves (λ g. RefGates g d first a) (sumAt d first d) (first + (pairs d + 2 * d)) marks marks

@@ -10,24 +10,24 @@ use borrow.Author.Tests.{ltb-true, ltb-false}
 use Rattle.circuit.specs.Lists.{_⊕_, nth, range}
 use Rattle.circuit.proofs.Base.{cases, xor-assoc}
 use Rattle.semantics.specs.Values.{byte, xorSum}
-use Rattle.simulation.specs.Internal.Places.{slotOf, cellRow, ownAt, cellAt, outAt}
+use Rattle.simulation.specs.Internal.Places.{slotOf, crossStart, productAt, crossAt, outAt}
 use Rattle.simulation.specs.Internal.Filling.{Values, Known, Fills, crossingAt, Multiplied}
 use Rattle.simulation.specs.Internal.Gadgets.{RowCrossedBy, CrossesRow}
 use Rattle.simulation.proofs.Adding.{xorSum-others}
 use Rattle.simulation.proofs.Filled.{known-all, nth-set}
-use Rattle.simulation.proofs.Rows.{slot-low, slot-high, own-early, row-next, row-room}
+use Rattle.simulation.proofs.Rows.{slot-low, product-early, row-room, RowEnds, row-ends}
 
 -- the rows of the shares below i, and their outputs
 pub record OutputsOn (d first : ℕ) (a : ℕ → ℕ) (old values : List ℕ) (i : ℕ) : Type 0 where
   pub most : i ≤ d
-  pub known : (v : Values) → Multiplied d first a v → Known v 0 (first + cellRow d 0) old → Known v 0 (first + cellRow d i) values
-  pub outs : (v : Values) → Multiplied d first a v → Known v 0 (first + cellRow d 0) old → Known v (outAt d first 0) (outAt d first i) values
-  pub below : (x : ℕ) → x < first + cellRow d 0 → nth values x ≡ nth old x
+  pub known : (v : Values) → Multiplied d first a v → Known v 0 (first + crossStart d 0) old → Known v 0 (first + crossStart d i) values
+  pub outs : (v : Values) → Multiplied d first a v → Known v 0 (first + crossStart d 0) old → Known v (outAt d first 0) (outAt d first i) values
+  pub below : (x : ℕ) → x < first + crossStart d 0 → nth values x ≡ nth old x
   pub above : (x : ℕ) → outAt d first d ≤ x → nth values x ≡ nth old x
   pub size : length values ≡ length old
 
-pub outputs-start : (d first : ℕ) (a : ℕ → ℕ) (old : List ℕ) → OutputsOn d first a old old 0
-outputs-start d first a old = record {
+pub outputs-start : {d first : ℕ} {a : ℕ → ℕ} {old : List ℕ} → OutputsOn d first a old old 0
+outputs-start = record {
   most = omega arith;
   known = λ v e k. k;
   outs = λ v e k x l u. absurd (omega arith);
@@ -36,76 +36,63 @@ outputs-start d first a old = record {
   size = refl;
 }
 
-pub outputs-end : (d first : ℕ) (a : ℕ → ℕ) (old values : List ℕ) (i : ℕ) → d ≤ i → OutputsOn d first a old values i → Fills (Multiplied d first a) (first + cellRow d 0) (outAt d first d) old values
-outputs-end d first a old values i h on =
+pub outputs-end : {d first : ℕ} {a : ℕ → ℕ} {old values : List ℕ} {i : ℕ} → d ≤ i → OutputsOn d first a old values i → Fills (Multiplied d first a) (first + crossStart d 0) (outAt d first d) old values
+outputs-end {d} {first} {i = i} h on =
     let e : i ≡ d = omega (arith, on .most) in
     record {
-      filled = λ v q k x l u. cases (ltb x (first + cellRow d d))
-          (λ t. on .known v q k x (omega arith) (rw e (ltb-true x (first + cellRow d d) t)))
-          (λ t. on .outs v q k x (omega (arith, ltb-false x (first + cellRow d d) t)) (rw e u));
+      filled = λ v q k x l u. cases (ltb x (first + crossStart d d))
+          (λ t. on .known v q k x (omega arith) (rw e (ltb-true x (first + crossStart d d) t)))
+          (λ t. on .outs v q k x (omega (arith, ltb-false x (first + crossStart d d) t)) (rw e u));
       below = on .below;
       above = on .above;
       size = on .size;
     }
 
-module _ (d first : ℕ) (a : ℕ → ℕ) (old values : List ℕ) (i : ℕ) (l : i < d) (early : a i < first) (room : outAt d first d ≤ length old) (on : OutputsOn d first a old values i)
-    (one two : List ℕ) (s t : ℕ) (r : CrossesRow d first i (nth values (a i)) (nth values (ownAt d first i + 2)) 0 i values one s) (q : CrossesRow d first i (nth values (a i)) s (i + 1) d one two t) where
-  -- the rows' ends
-  first-at : cellAt d first i 0 ≡ first + cellRow d i
-  first-at = omega (arith, slot-low i 0 (omega arith))
+module _ {d first : ℕ} {a : ℕ → ℕ} {old values : List ℕ} {i : ℕ} (on : OutputsOn d first a old values i) (l : i < d) (early : a i < first) (room : outAt d first d ≤ length old)
+    {one two : List ℕ} {s t : ℕ} (r : CrossesRow d first i (nth values (a i)) (nth values (productAt d first i + 2)) 0 i values one s) (q : CrossesRow d first i (nth values (a i)) s (i + 1) d one two t) where
+  ends : RowEnds d first i
+  ends = row-ends d first i l
 
-  mid-at : cellAt d first i (i + 1) ≡ cellAt d first i i
-  mid-at = omega (arith, slot-low i i (omega arith), slot-high i (i + 1) (omega arith))
+  -- the values before the output, where it is not in this row
+  kept-low : (x : ℕ) → x < first + crossStart d i → nth two x ≡ nth values x
+  kept-low x h = q .fills .below x (omega (arith, ends, slot-low i i (omega arith))) ∙ r .fills .below x (omega (arith, ends))
 
-  last-at : cellAt d first i d ≡ first + cellRow d (i + 1)
-  last-at = ap (λ n. first + cellRow d i + 6 * n) (slot-high i d l) ∙ row-next d first i
-
-  -- the sheet before the output, where it is not in this row
-  kept-low : (x : ℕ) → x < first + cellRow d i → nth two x ≡ nth values x
-  kept-low x h = q .fills .below x (omega (arith, mid-at, slot-low i i (omega arith))) ∙ r .fills .below x (omega (arith, first-at))
-
-  kept-high : (x : ℕ) → first + cellRow d (i + 1) ≤ x → nth two x ≡ nth values x
-  kept-high x h = q .fills .above x (omega (arith, last-at)) ∙ r .fills .above x (high x h)
-    where
-      high : (x : ℕ) → first + cellRow d (i + 1) ≤ x → cellAt d first i i ≤ x
-      high x h = within (cellRow d i) (cellRow d (i + 1)) (slotOf i i) (slot-low i i (omega arith)) (row-next d first i) h
-        where
-          within : (y z n : ℕ) → n ≡ i → first + y + 6 * (d - 1) ≡ first + z → first + z ≤ x → first + y + 6 * n ≤ x
-          within y z n e k u = omega arith
+  kept-high : (x : ℕ) → first + crossStart d (i + 1) ≤ x → nth two x ≡ nth values x
+  kept-high x h = q .fills .above x (omega (arith, ends)) ∙ r .fills .above x (omega (arith, ends .within))
 
   size-two : length two ≡ length old
   size-two = q .fills .size ∙ r .fills .size ∙ on .size
 
-  module _ (v : Values) (e : Multiplied d first a v) (k : Known v 0 (first + cellRow d 0) old) where
-    now-known : Known v 0 (first + cellRow d i) values
+  module _ (v : Values) (e : Multiplied d first a v) (k : Known v 0 (first + crossStart d 0) old) where
+    now-known : Known v 0 (first + crossStart d i) values
     now-known = on .known v e k
 
     by : RowCrossedBy d first i (nth values (a i)) v
     by = record { x = v (a i); a-is = now-known (a i) (omega arith) (omega arith); crossed = e .crossed i l }
 
-    start-known : Known v 0 (cellAt d first i 0) values
-    start-known x p u = now-known x p (omega (arith, first-at))
+    start-known : Known v 0 (crossAt d first i 0) values
+    start-known x p u = now-known x p (omega (arith, ends .first-is))
 
-    mid-known : Known v 0 (cellAt d first i (i + 1)) one
-    mid-known x p u = known-all (r .fills) v by start-known x p (omega (arith, mid-at))
+    mid-known : Known v 0 (crossAt d first i (i + 1)) one
+    mid-known x p u = known-all (r .fills) v by start-known x p (omega (arith, ends .mid))
 
-    row-known : Known v 0 (first + cellRow d (i + 1)) two
-    row-known x p u = known-all (q .fills) v by mid-known x p (omega (arith, last-at))
+    row-known : Known v 0 (first + crossStart d (i + 1)) two
+    row-known x p u = known-all (q .fills) v by mid-known x p (omega (arith, ends .last))
 
     out-known : t ≡ byte (v (outAt d first i))
     unfolding by
     out-known =
         let f : ℕ → Bool = crossingAt d first i (v (a i)) v in
-        let x = v (ownAt d first i + 2) in
-        let lower = r .adds x (now-known (ownAt d first i + 2) (omega arith) (own-early d first i i l)) v by start-known in
+        let x = v (productAt d first i + 2) in
+        let lower = r .adds x (now-known (productAt d first i + 2) (omega arith) (product-early d first i i l)) v by start-known in
         q .adds (x ⊕ xorSum (range 0 (i - 0)) f) lower v by mid-known
         ∙ ap byte (xor-assoc x (xorSum (range 0 (i - 0)) f) (xorSum (range (i + 1) (d - (i + 1))) f) ∙ ap (λ b. x ⊕ b) (sym (xorSum-others f d i l)) ∙ sym (e .out i l))
 
   in-room : outAt d first i < length two
   in-room = omega (arith, size-two)
 
-  pub outputs-turn : OutputsOn d first a old (set two (outAt d first i) t) (i + 1)
-  outputs-turn = record {
+  turned : OutputsOn d first a old (set two (outAt d first i) t) (i + 1)
+  turned = record {
     most = omega arith;
     known = λ v e k x p u. nth-set two (outAt d first i) t x in-room (λ same z. absurd (omega (arith, row-room d first i l))) (λ other z. z ∙ row-known v e k x p u);
     outs = λ v e k x p u. nth-set two (outAt d first i) t x in-room
@@ -116,14 +103,20 @@ module _ (d first : ℕ) (a : ℕ → ℕ) (old values : List ℕ) (i : ℕ) (l 
     size = length-set two (outAt d first i) t ∙ size-two;
   }
     where
-      base-row : first + cellRow d 0 ≤ first + cellRow d i
+      base-row : first + crossStart d 0 ≤ first + crossStart d i
       base-row = more (d * (d - 1) + 3 * d) (i * (d - 1)) (0 * (d - 1)) (omega arith)
         where
           more : (m n o : ℕ) → o ≡ 0 → first + (m + 6 * o) ≤ first + (m + 6 * n)
           more m n o h = omega arith
 
-      base : first + cellRow d 0 ≤ first + cellRow d d
+      base : first + crossStart d 0 ≤ first + crossStart d d
       base = more (d * (d - 1) + 3 * d) (d * (d - 1)) (0 * (d - 1)) (omega arith)
         where
           more : (m n o : ℕ) → o ≡ 0 → first + (m + 6 * o) ≤ first + (m + 6 * n)
           more m n o h = omega arith
+
+-- where the code finds a, M and the output
+pub outputs-turn : {d first : ℕ} {a : ℕ → ℕ} {old values : List ℕ} {i : ℕ} → OutputsOn d first a old values i → i < d → a i < first → outAt d first d ≤ length old
+    → (x o p : ℕ) → x ≡ a i → o ≡ productAt d first i + 2 → p ≡ outAt d first i → {one two : List ℕ} {s t : ℕ}
+    → CrossesRow d first i (nth values x) (nth values o) 0 i values one s → CrossesRow d first i (nth values x) s (i + 1) d one two t → OutputsOn d first a old (set two p t) (i + 1)
+outputs-turn on l early room x o p x-is o-is p-is r q = rw p-is (turned on l early room (rw (x-is, o-is) at r) (rw x-is at q))

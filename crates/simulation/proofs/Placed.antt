@@ -14,9 +14,9 @@ use Rattle.circuit.proofs.Base.{cases, In, in-head, in-tail, Has}
 use Rattle.circuit.proofs.Parts.{index-lt, Pair, others-pair, InAND, is-r, is-R, is-B, is-m, is-M, is-u, is-U, is-v, is-V, is-w, is-W, and-has, InREF, fresh, added, ref-has}
 use Rattle.circuit.proofs.Sizes.{and-size, ref-size, gadget-size}
 use Rattle.circuit.proofs.Building.{part-at, output-at}
-use Rattle.simulation.specs.Internal.Places.{rowStart, pairAt, ownAt, cellAt, outAt, maskAt, sumAt, heldAt}
+use Rattle.simulation.specs.Internal.Places.{rowStart, pairAt, productAt, crossAt, outAt, maskAt, sumAt, heldAt}
 use Rattle.simulation.specs.Internal.Gates.{nothing, gateAt, AndGates, RefGates}
-use Rattle.simulation.proofs.Sites.{row-next, row-last, site, and-site, r-site, R-site, refSite, ref-site, fresh-site}
+use Rattle.simulation.proofs.Sites.{row-next, row-last, site, and-site, r-site, R-site, ref-site, fresh-site}
 
 -- the pair at a place among all pairs
 record Ranked (d q : ℕ) : Type 0 where
@@ -64,6 +64,9 @@ module _ (ws more : List Wire) (d : ℕ) (a b : ℕ → ℕ) (inside : List Part
   inner-gate p h = ap (λ x. x .gate) (List·getD-append (ws ++ made) more nothing (length ws + index p inside) (omega (arith, size, index-lt inside p h))
       ∙ part-at ws d a b inside out start end nothing p h)
 
+  at-wire : (p : Part) → Has p inside → (x : ℕ) → length ws + index p inside ≡ x → gateAt all x ≡ gateOf p
+  at-wire p h x e = subst (λ (n : ℕ). gateAt all n ≡ gateOf p) e (inner-gate p h)
+
   outer-gate : (i : ℕ) → i < d → gateAt all (length ws + length inside + i) ≡ gateOf (out i)
   outer-gate i l = ap (λ x. x .gate) (List·getD-append (ws ++ made) more nothing (length ws + length inside + i) (omega (arith, size)) ∙ output-at ws d a b inside out start end nothing i l)
 
@@ -73,16 +76,16 @@ module _ (ws more : List Wire) (d : ℕ) (a b : ℕ → ℕ) (start end : ℕ) w
   first = length ws
 
   abbrev g : ℕ → Gate
-  g = gateAt ((ws ++ gadget d first a b (inAND d) parts.c start end) ++ more)
+  g = gateAt (all ws more d a b (inAND d) parts.c start end)
 
   abbrev wire : Part → ℕ
   wire p = first + index p (inAND d)
 
-  wire-at : {p : Part} → InAND d p → wire p ≡ first + site d p
+  wire-at : {p : Part} → InAND d p → wire p ≡ first + site 2 d p
   wire-at o = ap (λ n. first + n) (and-site d o)
 
-  placed : {p : Part} (x : ℕ) → InAND d p → first + site d p ≡ x → g x ≡ gate d a b wire p
-  placed {p} x o e = subst (λ (n : ℕ). g n ≡ gate d a b wire p) (wire-at o ∙ e) (inner-gate ws more d a b (inAND d) parts.c start end p (and-has d o))
+  placed : {p : Part} (x : ℕ) → InAND d p → first + site 2 d p ≡ x → g x ≡ gate d a b wire p
+  placed {p} x o e = at-wire ws more d a b (inAND d) parts.c start end p (and-has d o) x (wire-at o ∙ e)
 
   drawn : (q : ℕ) → q < pairs d → (g (first + 2 * q) ≡ random) × (g (first + 2 * q + 1) ≡ reg (first + 2 * q))
   drawn q l =
@@ -91,24 +94,24 @@ module _ (ws more : List Wire) (d : ℕ) (a b : ℕ → ℕ) (start end : ℕ) w
       let j = k .upper in
       let o : Pair d i j = apart (omega (arith, k .low, k .high)) (k .high) (λ e. omega (arith, k .low)) in
       let h = lt-ltb i j (k .low) in
-      let e : first + site d (parts.r i j) ≡ first + 2 * q = omega (arith, k .is) in (
+      let e : first + site 2 d (parts.r i j) ≡ first + 2 * q = omega (arith, k .is) in (
         placed (first + 2 * q) (is-r i j o h) e,
         placed (first + 2 * q + 1) (is-R i j o h) (omega (arith, k .is)) ∙ ap reg (wire-at (is-r i j o h) ∙ e),
       )
 
-  owned : (i : ℕ) → i < d → let x = ownAt d first i in (g x ≡ reg (b i)) × (g (x + 1) ≡ product (a i) x) × (g (x + 2) ≡ reg (x + 1))
-  owned i l =
-      let x = ownAt d first i in (
+  products : (i : ℕ) → i < d → let x = productAt d first i in (g x ≡ reg (b i)) × (g (x + 1) ≡ product (a i) x) × (g (x + 2) ≡ reg (x + 1))
+  products i l =
+      let x = productAt d first i in (
         placed x (is-B i l) (omega arith),
         placed (x + 1) (is-m i l) (omega arith) ∙ ap (product (a i)) (wire-at (is-B i l) ∙ omega arith),
         placed (x + 2) (is-M i l) (omega arith) ∙ ap reg (wire-at (is-m i l) ∙ omega arith),
       )
 
-  crossed : (i : ℕ) → i < d → (j : ℕ) → j < d → (j ≡ i → ⊥) → let x = cellAt d first i j in let y = pairAt d first i j in
+  crossed : (i : ℕ) → i < d → (j : ℕ) → j < d → (j ≡ i → ⊥) → let x = crossAt d first i j in let y = pairAt d first i j in
       (g x ≡ andNot (a i) (y + 1)) × (g (x + 1) ≡ reg x) × (g (x + 2) ≡ sum (b j ∷ y ∷ [])) × (g (x + 3) ≡ reg (x + 2))
       × (g (x + 4) ≡ product (a i) (x + 3)) × (g (x + 5) ≡ reg (x + 4))
   crossed i l j k ne =
-      let x = cellAt d first i j in
+      let x = crossAt d first i j in
       let y = pairAt d first i j in
       let o = apart l k ne in
       let R-at : wire (sorted parts.R i j) ≡ y + 1 = omega (arith, R-site d i j o) in
@@ -122,49 +125,43 @@ module _ (ws more : List Wire) (d : ℕ) (a b : ℕ → ℕ) (start end : ℕ) w
       )
 
   outputs : (i : ℕ) → i < d
-      → g (outAt d first i) ≡ sum ((ownAt d first i + 2) ∷ map (λ j. cellAt d first i j + 1) (others d i) ++ map (λ j. cellAt d first i j + 5) (others d i))
+      → g (outAt d first i) ≡ sum ((productAt d first i + 2) ∷ map (λ j. crossAt d first i j + 1) (others d i) ++ map (λ j. crossAt d first i j + 5) (others d i))
   outputs i l =
       let e : first + length (inAND d) + i ≡ outAt d first i = omega (arith, and-size d) in
-      let x : wire (parts.M i) ≡ ownAt d first i + 2 = wire-at (is-M i l) ∙ omega arith in
-      let us = map-on (λ j. wire (parts.U i j)) (λ j. cellAt d first i j + 1) (others d i) (λ j k. wire-at (is-U i j (others-pair d i j l k)) ∙ omega arith) in
-      let vs = map-on (λ j. wire (parts.W i j)) (λ j. cellAt d first i j + 5) (others d i) (λ j k. wire-at (is-W i j (others-pair d i j l k)) ∙ omega arith) in
+      let x : wire (parts.M i) ≡ productAt d first i + 2 = wire-at (is-M i l) ∙ omega arith in
+      let us = map-on (λ j. wire (parts.U i j)) (λ j. crossAt d first i j + 1) (others d i) (λ j k. wire-at (is-U i j (others-pair d i j l k)) ∙ omega arith) in
+      let vs = map-on (λ j. wire (parts.W i j)) (λ j. crossAt d first i j + 5) (others d i) (λ j k. wire-at (is-W i j (others-pair d i j l k)) ∙ omega arith) in
       subst (λ (n : ℕ). g n ≡ gate d a b wire (parts.c i)) e (outer-gate ws more d a b (inAND d) parts.c start end i l)
       ∙ λ n. sum ((x n ∷ us n) ++ vs n)
 
   pub and-gates : AndGates g d first a b
-  and-gates = record { draws = drawn; owns = owned; cells = crossed; outs = outputs }
+  and-gates = record { draws = drawn; products = products; crosses = crossed; outs = outputs }
 
 -- REF
 module _ (ws more : List Wire) (d : ℕ) (a b : ℕ → ℕ) (start end : ℕ) where
-  abbrev refFirst : ℕ
-  refFirst = length ws
-
   abbrev refGate : ℕ → Gate
-  refGate = gateAt ((ws ++ gadget d refFirst a b (inREF d) parts.S start end) ++ more)
+  refGate = gateAt (all ws more d a b (inREF d) parts.S start end)
 
-  abbrev refWire : Part → ℕ
-  refWire p = refFirst + index p (inREF d)
+  ref-placed : {p : Part} (x : ℕ) → InREF d p → length ws + site 1 d p ≡ x → refGate x ≡ gate d a b (λ q. length ws + index q (inREF d)) p
+  ref-placed {p} x o e = at-wire ws more d a b (inREF d) parts.S start end p (ref-has d o) x (ap (λ n. length ws + n) (ref-site d o) ∙ e)
 
-  ref-placed : {p : Part} (x : ℕ) → InREF d p → refFirst + refSite d p ≡ x → refGate x ≡ gate d a b refWire p
-  ref-placed {p} x o e = subst (λ (n : ℕ). refGate n ≡ gate d a b refWire p) (ap (λ n. refFirst + n) (ref-site d o) ∙ e) (inner-gate ws more d a b (inREF d) parts.S start end p (ref-has d o))
-
-  ref-drawn : (q : ℕ) → q < pairs d → refGate (refFirst + q) ≡ random
+  ref-drawn : (q : ℕ) → q < pairs d → refGate (length ws + q) ≡ random
   ref-drawn q l =
       let k = pair-of d q l in
       let i = k .lower in
       let j = k .upper in
       let o : Pair d i j = apart (omega (arith, k .low, k .high)) (k .high) (λ e. omega (arith, k .low)) in
-      ref-placed (refFirst + q) (fresh i j o (lt-ltb i j (k .low))) (omega (arith, k .is))
+      ref-placed (length ws + q) (fresh i j o (lt-ltb i j (k .low))) (omega (arith, k .is))
 
-  ref-sums : (i : ℕ) → i < d → refGate (sumAt d refFirst i) ≡ sum (a i ∷ map (λ j. maskAt d refFirst i j) (others d i))
-  ref-sums i l = ref-placed (sumAt d refFirst i) (added i l) (omega arith)
-      ∙ ap (λ xs. sum (a i ∷ xs)) (map-on (λ j. refWire (sorted parts.r i j)) (λ j. maskAt d refFirst i j) (others d i) (λ j k. ap (λ n. refFirst + n) (fresh-site d i j (others-pair d i j l k))))
+  ref-sums : (i : ℕ) → i < d → refGate (sumAt d (length ws) i) ≡ sum (a i ∷ map (λ j. maskAt d (length ws) i j) (others d i))
+  ref-sums i l = ref-placed (sumAt d (length ws) i) (added i l) (omega arith)
+      ∙ ap (λ xs. sum (a i ∷ xs)) (map-on (λ j. length ws + index (sorted parts.r i j) (inREF d)) (λ j. maskAt d (length ws) i j) (others d i) (λ j k. ap (λ n. length ws + n) (fresh-site d i j (others-pair d i j l k))))
 
-  ref-holds : (i : ℕ) → i < d → refGate (heldAt d refFirst i) ≡ reg (sumAt d refFirst i)
+  ref-holds : (i : ℕ) → i < d → refGate (heldAt d (length ws) i) ≡ reg (sumAt d (length ws) i)
   ref-holds i l =
-      let e : refFirst + length (inREF d) + i ≡ heldAt d refFirst i = omega (arith, ref-size d) in
-      let x : refWire (parts.s i) ≡ sumAt d refFirst i = ap (λ n. refFirst + n) (ref-site d (added i l)) ∙ omega arith in
-      subst (λ (n : ℕ). refGate n ≡ gate d a b refWire (parts.S i)) e (outer-gate ws more d a b (inREF d) parts.S start end i l) ∙ ap reg x
+      let e : length ws + length (inREF d) + i ≡ heldAt d (length ws) i = omega (arith, ref-size d) in
+      let x : length ws + index (parts.s i) (inREF d) ≡ sumAt d (length ws) i = ap (λ n. length ws + n) (ref-site d (added i l)) ∙ omega arith in
+      subst (λ (n : ℕ). refGate n ≡ gate d a b (λ q. length ws + index q (inREF d)) (parts.S i)) e (outer-gate ws more d a b (inREF d) parts.S start end i l) ∙ ap reg x
 
-  pub ref-gates : RefGates refGate d refFirst a
+  pub ref-gates : RefGates refGate d (length ws) a
   ref-gates = record { draws = ref-drawn; sums = ref-sums; holds = ref-holds }

@@ -1,4 +1,4 @@
--- Lists for each number of a range: their lengths, the number of each element, and when two are the same.
+-- Lists for each number of a range: their lengths, and the number of each element.
 use mathlib.Core.Path.{_≡_, refl, sym, ap, ap₂, subst, _∙_}
 use mathlib.Core.Bool.{Bool, true, false, not}
 use mathlib.Core.List.{List, [], _∷_, _++_, map, append-assoc}
@@ -9,8 +9,7 @@ use lib.ListN.{length, length-append}
 use borrow.Author.Tests.{lt-ltb, le-ltb}
 use Rattle.circuit.specs.Lists.{range, filter, concatMap}
 use Rattle.circuit.specs.Gadgets.{labels, above, others}
-use Rattle.circuit.proofs.Base.{cases, In, in-head, in-tail, lt-ne, eqb-sym, eqb-refl, AllFrom, all-append}
-use Rattle.circuit.proofs.Sizes.{range-length}
+use Rattle.circuit.proofs.Base.{cases, lt-ne, eqb-sym, eqb-refl, AllFrom, all-append}
 
 -- a range in two parts, and the numbers of it that are kept
 range-split : (n a b : ℕ) → range n (a + b) ≡ range n a ++ range (n + a) b
@@ -55,11 +54,12 @@ module _ (d i : ℕ) (l : i < d) where
       ∙ ap₂ (λ x y. x ++ y) (filter-all p 0 i (λ j h k. rw (eqb-sym i j, lt-ne j i (omega arith))))
       (rw (eqb-refl i) (filter-all p (suc i) (d - suc i) (λ j h k. rw (lt-ne i j h))))
 
-  pub others-count : length (others d i) ≡ d - 1
-  others-count = ap length others-is ∙ length-append (range 0 i) (range (suc i) (d - suc i)) ∙ ap₂ (λ x y. x + y) (range-length 0 i) (range-length (suc i) (d - suc i)) ∙ add
-    where
-      add : i + (d - suc i) ≡ d - 1
-      add = omega arith
+  -- the same, as the code goes over them
+  pub others-split : others d i ≡ range 0 (i - 0) ++ range (i + 1) (d - (i + 1))
+  others-split =
+      let e : i ≡ i - 0 = omega arith in
+      let g : suc i ≡ i + 1 = omega arith in
+      others-is ∙ ap₂ (λ m n. range 0 m ++ range n (d - n)) e g
 
 -- lists for each number of a range, one behind the other: `start i` is where the list of i begins
 module _ {A : Type 0} (f : ℕ → List A) (start : ℕ → ℕ) where
@@ -82,34 +82,10 @@ module _ {A : Type 0} (f : ℕ → List A) (start : ℕ → ℕ) where
       (subst (λ (n : ℕ). AllFrom Q n (concatMap (range (suc m) c) f)) (sym (h m (omega arith) (omega arith)))
       (all-each Q (suc m) c (λ i l u. h i (omega arith) (omega arith)) (λ i l u. g i (omega arith) (omega arith))))
 
-pub concatMap-on : {A : Type 0} (f g : ℕ → List A) (xs : List ℕ) → ((i : ℕ) → In i xs → f i ≡ g i) → concatMap xs f ≡ concatMap xs g
-concatMap-on f g [] h = refl
-concatMap-on f g (x ∷ xs) h = ap₂ (λ a b. a ++ b) (h x (in-head x xs)) (concatMap-on f g xs (λ i k. h i (in-tail i x xs k)))
-
 pub concatMap-append : {A B : Type 0} (xs ys : List A) (f : A → List B) → concatMap (xs ++ ys) f ≡ concatMap xs f ++ concatMap ys f
 concatMap-append [] ys f = refl
 concatMap-append (x ∷ xs) ys f = ap (λ l. f x ++ l) (concatMap-append xs ys f) ∙ sym (append-assoc (f x) (concatMap xs f) (concatMap ys f))
 
-pub concatMap-each : {A B C : Type 0} (xs : List A) (f : A → List B) (h : B → List C) → concatMap (concatMap xs f) h ≡ concatMap xs (λ x. concatMap (f x) h)
-concatMap-each [] f h = refl
-concatMap-each (x ∷ xs) f h = concatMap-append (f x) (concatMap xs f) h ∙ ap (λ l. concatMap (f x) h ++ l) (concatMap-each xs f h)
-
-pub concatMap-map : {A B C : Type 0} (f : A → B) (xs : List A) (h : B → List C) → concatMap (map f xs) h ≡ concatMap xs (λ x. h (f x))
-concatMap-map f [] h = refl
-concatMap-map f (x ∷ xs) h = ap (λ l. h (f x) ++ l) (concatMap-map f xs h)
-
 pub map-append : {A B : Type 0} (h : A → B) (xs ys : List A) → map h (xs ++ ys) ≡ map h xs ++ map h ys
 map-append h [] ys = refl
 map-append h (x ∷ xs) ys = ap (λ l. h x ∷ l) (map-append h xs ys)
-
-pub map-each : {A B C : Type 0} (f : A → List B) (xs : List A) (h : B → C) → map h (concatMap xs f) ≡ concatMap xs (λ x. map h (f x))
-map-each f [] h = refl
-map-each f (x ∷ xs) h = map-append h (f x) (concatMap xs f) ∙ ap (λ l. map h (f x) ++ l) (map-each f xs h)
-
-pub map-ones : {A B : Type 0} (f : A → B) (xs : List A) → map f xs ≡ concatMap xs (λ x. f x ∷ [])
-map-ones f [] = refl
-map-ones f (x ∷ xs) = ap (λ l. f x ∷ l) (map-ones f xs)
-
-pub concatMap-none : {A B : Type 0} (xs : List A) → concatMap {B = B} xs (λ x. []) ≡ []
-concatMap-none [] = refl
-concatMap-none (x ∷ xs) = concatMap-none xs

@@ -13,33 +13,15 @@ use Rattle.circuit.specs.Wires.{Wire, Gate}
 use Rattle.circuit.proofs.Base.{cases, or-cases, or-left, lt-ne, In, in-head, in-tail, in-each, every-in, Every}
 use Rattle.circuit.proofs.Numbered.{all-get}
 use Rattle.semantics.specs.Probes.{isStop, operands, stops}
-use Rattle.semantics.proofs.Reading.{probe, stop-reads, gate-reads}
-use Rattle.simulation.specs.Internal.Gates.{nothing, gateAt}
-use Rattle.simulation.specs.Internal.Marks.{markAll, propagated, Ordered, Marked, Source, Moving}
+use Rattle.semantics.proofs.Reading.{same-test, concatMap-in, probe, stop-reads, gate-reads}
+use Rattle.simulation.specs.Internal.Gates.{nothing, gateAt, OrderedFrom}
+use Rattle.simulation.specs.Internal.Marks.{markAll, propagated, Marked, Source, Moving}
+use Rattle.simulation.specs.Internal.Reading.{OnStops}
 use Rattle.simulation.proofs.Bits.{set-low, set-high}
 use Rattle.simulation.proofs.Marked.{mark-keep, mark-new, mark-cases, clear-cases, clear-other}
 
--- lists
-in-left : (s : ℕ) (xs ys : List ℕ) → In s xs → In s (xs ++ ys)
-in-left s [] ys h = absurd (false≢true h)
-in-left s (x ∷ xs) ys h = or-cases (eqb s x) (mem s xs) h (λ e. or-left (eqb s x) _ e) (λ e. in-tail s x (xs ++ ys) (in-left s xs ys e))
-
-in-right : (s : ℕ) (xs ys : List ℕ) → In s ys → In s (xs ++ ys)
-in-right s [] ys h = h
-in-right s (x ∷ xs) ys h = in-tail s x (xs ++ ys) (in-right s xs ys h)
-
-concatMap-in : (s : ℕ) (f : ℕ → List ℕ) (xs : List ℕ) (y : ℕ) → In y xs → In s (f y) → In s (concatMap xs f)
-concatMap-in s f [] y h g = absurd (false≢true h)
-concatMap-in s f (x ∷ xs) y h g = or-cases (eqb y x) (mem y xs) h
-    (λ e. in-left s (f x) (concatMap xs f) (subst (λ (n : ℕ). In s (f n)) (eqb-true y x e) g))
-    (λ e. in-right s (f x) (concatMap xs f) (concatMap-in s f xs y e g))
-
 in-one : (s x : ℕ) → In s (x ∷ []) → s ≡ x
 in-one s x h = or-cases (eqb s x) false h (eqb-true s x) (λ e. absurd (false≢true e))
-
-pub same-test : (a b : Bool) → (a ≡ true → b ≡ true) → (b ≡ true → a ≡ true) → a ≡ b
-same-test true b f g = sym (f refl)
-same-test false b f g = cases b (λ e. g e ∙ sym e) (λ e. sym e)
 
 pub moving-start : (ws : List Wire) (probes marks : List ℕ) → ((x : ℕ) → isSet (nth marks x) ≡ mem x probes) → ((x : ℕ) → In x probes → x < length ws) → Moving ws probes marks (length ws)
 unfolding stops
@@ -50,7 +32,7 @@ moving-start ws probes marks e l = record {
   settled = λ x h m. let k = l x (sym (e x) ∙ m) in absurd (omega arith);
 }
 
-module _ (ws : List Wire) (early : Ordered ws) (probes marks : List ℕ) (w : ℕ) (l : w < length ws) (room : length ws ≤ length marks) (h : Moving ws probes marks (suc w)) where
+module _ (ws : List Wire) (early : OrderedFrom 0 ws) (probes marks : List ℕ) (w : ℕ) (l : w < length ws) (room : length ws ≤ length marks) (h : Moving ws probes marks (suc w)) where
   abbrev g : Gate
   g = gateAt ws w
 
@@ -111,14 +93,13 @@ module _ (ws : List Wire) (early : Ordered ws) (probes marks : List ℕ) (w : �
   moving-stop e = stays (λ m. e)
 
 -- at the end the marked wires are the stops read
-pub moving-end : (ws : List Wire) → Ordered ws → (probes marks : List ℕ) → Moving ws probes marks 0 → (x : ℕ)
-    → (isSet (nth marks x) ≡ mem x (stops ws probes)) × (Marked marks x → x < length ws)
-moving-end ws early probes marks h x = (
-  same-test (isSet (nth marks x)) (mem x (stops ws probes))
+pub moving-end : (ws : List Wire) → OrderedFrom 0 ws → (probes marks : List ℕ) → Moving ws probes marks 0 → OnStops ws probes marks
+moving-end ws early probes marks h = record {
+  is = λ x. same-test (isSet (nth marks x)) (mem x (stops ws probes))
       (λ m. h .into x x m (rw (alone x m) (in-head x [])))
-      (λ i. let s = h .from x i in subst (Marked marks) (sym (in-one x (s .wire) (subst (In x) (alone (s .wire) (s .marked)) (s .reads)))) (s .marked)),
-  h .made x,
-)
+      (λ i. let s = h .from x i in subst (Marked marks) (sym (in-one x (s .wire) (subst (In x) (alone (s .wire) (s .marked)) (s .reads)))) (s .marked));
+  made = h .made;
+}
   where
     alone : (y : ℕ) → Marked marks y → probe ws y ≡ y ∷ []
     alone y m = stop-reads ws early nothing y (h .made y m) (h .settled y (omega arith) m)

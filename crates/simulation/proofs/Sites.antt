@@ -14,7 +14,7 @@ use Rattle.circuit.proofs.Base.{cases, ltb-other, AllFrom, all-append}
 use Rattle.circuit.proofs.Numbered.{at-all}
 use Rattle.circuit.proofs.Parts.{index-at, Pair, other, InAND, is-r, is-R, and-has, InREF, fresh, ref-has, cell1, cell2, cell3, sec1, sec2, sec3, fresh1}
 use Rattle.circuit.proofs.Sizes.{pairs-twice}
-use Rattle.simulation.specs.Internal.Places.{rowStart, pairSite, slotOf, cellRow}
+use Rattle.simulation.specs.Internal.Places.{rowStart, pairSite, slotOf, crossStart}
 use Rattle.simulation.proofs.Ranges.{above-is, others-is, Follows, concatMap-length, all-each, concatMap-append}
 
 -- the first pair of the next row, and the number of all pairs
@@ -55,22 +55,22 @@ pair-lt d i j l k ne = cases (ltb i j)
         within : (x y p i j : ℕ) → i < j → j < d → x + (d - suc i) ≡ y → y ≤ p → x + (j - i - 1) < p
         within x y p i j h k e z = omega arith
 
--- AND
-abbrev pub site : ℕ → Part → ℕ
-site d (r i j) = 2 * (rowStart d i + (j - i - 1))
-site d (R i j) = 2 * (rowStart d i + (j - i - 1)) + 1
-site d (B i) = d * (d - 1) + 3 * i
-site d (m i) = d * (d - 1) + 3 * i + 1
-site d (M i) = d * (d - 1) + 3 * i + 2
-site d (u i j) = cellRow d i + 6 * slotOf i j
-site d (U i j) = cellRow d i + 6 * slotOf i j + 1
-site d (v i j) = cellRow d i + 6 * slotOf i j + 2
-site d (V′ i j) = cellRow d i + 6 * slotOf i j + 3
-site d (w i j) = cellRow d i + 6 * slotOf i j + 4
-site d (W i j) = cellRow d i + 6 * slotOf i j + 5
-site d (c i) = 0
-site d (s i) = 0
-site d (S i) = 0
+-- the parts of AND, whose pairs have two parts, and of REF, whose pairs have one
+abbrev pub site : (two d : ℕ) → Part → ℕ
+site two d (r i j) = two * (rowStart d i + (j - i - 1))
+site two d (R i j) = two * (rowStart d i + (j - i - 1)) + 1
+site two d (B i) = d * (d - 1) + 3 * i
+site two d (m i) = d * (d - 1) + 3 * i + 1
+site two d (M i) = d * (d - 1) + 3 * i + 2
+site two d (u i j) = crossStart d i + 6 * slotOf i j
+site two d (U i j) = crossStart d i + 6 * slotOf i j + 1
+site two d (v i j) = crossStart d i + 6 * slotOf i j + 2
+site two d (V′ i j) = crossStart d i + 6 * slotOf i j + 3
+site two d (w i j) = crossStart d i + 6 * slotOf i j + 4
+site two d (W i j) = crossStart d i + 6 * slotOf i j + 5
+site two d (c i) = 0
+site two d (s i) = pairs d + i
+site two d (S i) = 0
 
 -- the pairs above i, with q parts each
 module _ {A : Type 0} (d i q : ℕ) (l : i < d) (f : ℕ → List A) (h : (j : ℕ) → length (f j) ≡ q) where
@@ -98,7 +98,7 @@ none-before x i = omega arith
 
 module _ (d : ℕ) where
   abbrev At : ℕ → Part → Type 0
-  At x p = x ≡ site d p
+  At x p = x ≡ site 2 d p
 
   row1 : (i : ℕ) → i < d → AllFrom At (2 * rowStart d i) (concatMap (above d i) (cell1 i))
   row1 i l =
@@ -121,20 +121,20 @@ module _ (d : ℕ) where
   length2 : length (sec2 d) ≡ 3 * d
   length2 = omega (arith, concatMap-length cell2 (λ i. d * (d - 1) + 3 * i) 0 d follows2)
 
-  row3 : (i : ℕ) → i < d → AllFrom At (cellRow d i) (concatMap (others d i) (cell3 i))
+  row3 : (i : ℕ) → i < d → AllFrom At (crossStart d i) (concatMap (others d i) (cell3 i))
   row3 i l =
-      let low : ℕ → ℕ = λ j. cellRow d i + 6 * j in
-      let high : ℕ → ℕ = λ j. cellRow d i + 6 * (j - 1) in
-      let none : low 0 ≡ cellRow d i = omega arith in
-      let count : cellRow d i + length (concatMap (range 0 i) (cell3 i)) ≡ high (suc i) = omega (arith, concatMap-length (cell3 i) low 0 i (λ j k z. omega arith)) in
+      let low : ℕ → ℕ = λ j. crossStart d i + 6 * j in
+      let high : ℕ → ℕ = λ j. crossStart d i + 6 * (j - 1) in
+      let none : low 0 ≡ crossStart d i = omega arith in
+      let count : crossStart d i + length (concatMap (range 0 i) (cell3 i)) ≡ high (suc i) = omega (arith, concatMap-length (cell3 i) low 0 i (λ j k z. omega arith)) in
       rw (others-is d i l, concatMap-append (range 0 i) (range (suc i) (d - suc i)) (cell3 i))
-      (all-append At (cellRow d i) (concatMap (range 0 i) (cell3 i)) (concatMap (range (suc i) (d - suc i)) (cell3 i))
+      (all-append At (crossStart d i) (concatMap (range 0 i) (cell3 i)) (concatMap (range (suc i) (d - suc i)) (cell3 i))
       (subst (λ (n : ℕ). AllFrom At n (concatMap (range 0 i) (cell3 i))) none
       (all-each (cell3 i) low At 0 i (λ j k z. omega arith) (λ j k z. six i j j (ap (λ b. cond b (j - 1) j) (le-ltb i j (omega arith))))))
       (subst (λ (n : ℕ). AllFrom At n (concatMap (range (suc i) (d - suc i)) (cell3 i))) (sym count)
       (all-each (cell3 i) high At (suc i) (d - suc i) (λ j k z. omega arith) (λ j k z. six i j (j - 1) (ap (λ b. cond b (j - 1) j) (lt-ltb i j (omega arith)))))))
     where
-      six : (i j n : ℕ) → slotOf i j ≡ n → AllFrom At (cellRow d i + 6 * n) (cell3 i j)
+      six : (i j n : ℕ) → slotOf i j ≡ n → AllFrom At (crossStart d i + 6 * n) (cell3 i j)
       six i j n e = (omega (arith, e), (omega (arith, e), (omega (arith, e), (omega (arith, e), (omega (arith, e), (omega (arith, e), tt))))))
 
   row3-length : (i : ℕ) → i < d → length (concatMap (others d i) (cell3 i)) ≡ 6 * (d - 1)
@@ -157,15 +157,15 @@ module _ (d : ℕ) where
   sites =
       let none : 2 * rowStart d 0 ≡ 0 = omega arith in
       let two : d * (d - 1) + 3 * 0 ≡ 0 + length (sec1 d) = omega (arith, length1) in
-      let three : cellRow d 0 ≡ 0 + length (sec1 d ++ sec2 d) = omega (arith, length1, length2, length-append (sec1 d) (sec2 d)) in
+      let three : crossStart d 0 ≡ 0 + length (sec1 d ++ sec2 d) = omega (arith, length1, length2, length-append (sec1 d) (sec2 d)) in
       all-append At 0 (sec1 d ++ sec2 d) (sec3 d)
       (all-append At 0 (sec1 d) (sec2 d)
       (subst (λ (n : ℕ). AllFrom At n (sec1 d)) none (all-each (λ i. concatMap (above d i) (cell1 i)) (λ i. 2 * rowStart d i) At 0 d follows1 (λ i k z. row1 i (omega arith))))
       (subst (λ (n : ℕ). AllFrom At n (sec2 d)) two (all-each cell2 (λ i. d * (d - 1) + 3 * i) At 0 d follows2 (λ i k z. (refl, (omega arith, (omega arith, tt)))))))
-      (subst (λ (n : ℕ). AllFrom At n (sec3 d)) three (all-each (λ i. concatMap (others d i) (cell3 i)) (cellRow d) At 0 d
+      (subst (λ (n : ℕ). AllFrom At n (sec3 d)) three (all-each (λ i. concatMap (others d i) (cell3 i)) (crossStart d) At 0 d
       (λ i k z. omega (arith, row3-length i (omega arith))) (λ i k z. row3 i (omega arith))))
 
-  pub and-site : {p : Part} → InAND d p → index p (inAND d) ≡ site d p
+  pub and-site : {p : Part} → InAND d p → index p (inAND d) ≡ site 2 d p
   and-site {p} o = omega (arith, index-at At 0 (inAND d) p (and-has d o) sites)
 
   pub r-site : (i j : ℕ) → Pair d i j → index (sorted r i j) (inAND d) ≡ 2 * pairSite d i j
@@ -179,24 +179,8 @@ module _ (d : ℕ) where
       (λ e. let k = ltb-other i j (o .apart) e in rw (e, k) (and-site (is-R j i (other o) k)))
 
   -- REF
-  abbrev pub refSite : Part → ℕ
-  refSite (r i j) = rowStart d i + (j - i - 1)
-  refSite (s i) = pairs d + i
-  refSite (R i j) = 0
-  refSite (B i) = 0
-  refSite (m i) = 0
-  refSite (M i) = 0
-  refSite (u i j) = 0
-  refSite (U i j) = 0
-  refSite (v i j) = 0
-  refSite (V′ i j) = 0
-  refSite (w i j) = 0
-  refSite (W i j) = 0
-  refSite (c i) = 0
-  refSite (S i) = 0
-
   abbrev In : ℕ → Part → Type 0
-  In x p = x ≡ refSite p
+  In x p = x ≡ site 1 d p
 
   abbrev draw : ℕ → ℕ → List Part
   draw i j = r i j ∷ []
@@ -215,7 +199,7 @@ module _ (d : ℕ) where
       let start : ℕ → ℕ = λ j. rowStart d i + (j - i - 1) in
       let e : start (suc i) ≡ rowStart d i = none-before (rowStart d i) i in
       rw (above-is d i l) (subst (λ (n : ℕ). AllFrom In n (concatMap (range (suc i) (d - suc i)) (draw i))) e
-      (all-each (draw i) start In (suc i) (d - suc i) (λ j k z. next-one (rowStart d i) i j k) (λ j k z. (refl, tt))))
+      (all-each (draw i) start In (suc i) (d - suc i) (λ j k z. next-one (rowStart d i) i j k) (λ j k z. (omega arith, tt))))
 
   ref-sites : AllFrom In 0 (inREF d)
   unfolding inREF
@@ -226,10 +210,10 @@ module _ (d : ℕ) where
       (subst (λ (n : ℕ). AllFrom In n (fresh1 d)) none (all-each (λ i. concatMap (above d i) (draw i)) (rowStart d) In 0 d follows-draw (λ i k z. draw-row i (omega arith))))
       (subst (λ (n : ℕ). AllFrom In n (map s (labels d))) two (at-all In s (pairs d) 0 d (λ i l. omega arith)))
 
-  pub ref-site : {p : Part} → InREF d p → index p (inREF d) ≡ refSite p
+  pub ref-site : {p : Part} → InREF d p → index p (inREF d) ≡ site 1 d p
   ref-site {p} o = omega (arith, index-at In 0 (inREF d) p (ref-has d o) ref-sites)
 
   pub fresh-site : (i j : ℕ) → Pair d i j → index (sorted r i j) (inREF d) ≡ pairSite d i j
   fresh-site i j o = cases (ltb i j)
-      (λ e. rw e (ref-site (fresh i j o e)))
-      (λ e. let k = ltb-other i j (o .apart) e in rw (e, k) (ref-site (fresh j i (other o) k)))
+      (λ e. rw e (omega (arith, ref-site (fresh i j o e))))
+      (λ e. let k = ltb-other i j (o .apart) e in rw (e, k) (omega (arith, ref-site (fresh j i (other o) k))))

@@ -9,15 +9,11 @@ use lib.ListN.{length, getD, take, drop, length-append, List·getD-append}
 use lib.Seq.{drop-drop, take-suc, getD-append-add}
 use Rattle.circuit.specs.Lists.{_⊕_}
 use Rattle.circuit.specs.Wires.{Gate, input, constant, random, reg, inverse, sum, product, andNot, Wire}
-use Rattle.circuit.proofs.Base.{Every, every-imp, AllFrom}
+use Rattle.circuit.proofs.Base.{Every, every-imp}
 use Rattle.semantics.specs.Values.{at, xorSum, value, isRandom, valuesFrom, valuesOf}
 use Rattle.semantics.specs.Probes.{operands}
 use Rattle.semantics.proofs.Randoms.{randomsIn, randoms-append}
-use Rattle.simulation.specs.Internal.Gates.{nothing, gateAt}
-
--- every gate takes earlier wires
-abbrev pub OrderedFrom : ℕ → List Wire → Type 0
-OrderedFrom n ws = AllFrom (λ x wire. Every (λ y. y < x) (operands (wire .gate))) n ws
+use Rattle.simulation.specs.Internal.Gates.{nothing, gateAt, OrderedFrom}
 
 -- a gate's value depends on the values of the wires it takes alone
 xorSum-same : (f g : ℕ → Bool) (xs : List ℕ) → Every (λ y. f y ≡ g y) xs → xorSum xs f ≡ xorSum xs g

@@ -4,9 +4,9 @@ pub mod Gates
 -- Values filled in
 pub mod Filling
 pub mod Gadgets
-pub mod Evaluating
+pub mod Accepting
 -- Marks that end on stops
 pub mod Marks
-pub mod Walking
+pub mod Reading
 -- Bytes looked at together
 pub mod Bytes

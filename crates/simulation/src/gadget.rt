@@ -3,19 +3,19 @@ ghost use mathlib.Core.Path.{_≡_};
 ghost use Prim.Native.Nat.{ℕ, _+_, _-_, _*_, _≤_, _<_};
 ghost use lib.ListN.{length};
 ghost use Rattle.circuit.specs.Kinds.{pairs};
-ghost use Rattle.simulation.specs.Internal.Places.{wordA, wordB, ownAt, cellRow, outAt};
-ghost use Rattle.simulation.specs.Internal.Filling.{Fills, Bits, Copied, Drawn, Owned, Multiplied, AndValues, Masked, Held, RefValues};
+ghost use Rattle.simulation.specs.Internal.Places.{wordA, wordB, productAt, crossStart, outAt};
+ghost use Rattle.simulation.specs.Internal.Filling.{Fills, Bits, Copied, Drawn, ShareProducts, Multiplied, AndValues, Masked, Held, RefValues};
 ghost use Rattle.simulation.specs.Internal.Gadgets.{Crosses, CrossesRow, Sums, Small, RowBefore, Roomy};
 use super::places;
 
-// So many bits of a sheet, from a place on.
-pub(crate) fn copy(values: &mut [u8], at: usize, sheet: &[u8], from: usize, count: usize)
-    requires { ⌜ (at + count ≤ length (now values)) × (from + count ≤ length (now sheet)) × Bits (now sheet) ⌝ }
-    ensures { λ _. ⌜ Fills (Copied (now (sheet .entry)) from at count) at (at + count) (now (values .entry)) (now (values .exit)) ⌝ }
+// So many bits, from a place of another buffer on.
+pub(crate) fn copy(values: &mut [u8], at: usize, bits: &[u8], from: usize, count: usize)
+    requires { ⌜ (at + count ≤ length (now values)) × (from + count ≤ length (now bits)) × Bits (now bits) ⌝ }
+    ensures { λ _. ⌜ Fills (Copied (now (bits .entry)) from at count) at (at + count) (now (values .entry)) (now (values .exit)) ⌝ }
 {
     let mut q = 0;
     while q < count {
-        values[at + q] = sheet[from + q];
+        values[at + q] = bits[from + q];
         q += 1;
     }
 }
@@ -35,20 +35,20 @@ fn draws(values: &mut [u8], at: usize, tape: &[u8], used: usize, count: usize)
 }
 
 // AND's wires B, m and M of every share.
-fn owns(values: &mut [u8], first: usize, d: usize, ops: &[u16])
-    requires { ⌜ Small first d × (length (now ops) ≡ 1 + d + d) × RowBefore first d (wordA (now ops)) × RowBefore first d (wordB d (now ops)) × (ownAt d first d ≤ length (now values)) ⌝ }
-    ensures { λ _. ⌜ Fills (Owned d first (wordA (now (ops .entry))) (wordB d (now (ops .entry)))) (ownAt d first 0) (ownAt d first d) (now (values .entry)) (now (values .exit)) ⌝ }
+fn share_products(values: &mut [u8], first: usize, d: usize, ops: &[u16])
+    requires { ⌜ Small first d × (length (now ops) ≡ 1 + d + d) × RowBefore first d (wordA (now ops)) × RowBefore first d (wordB d (now ops)) × (productAt d first d ≤ length (now values)) ⌝ }
+    ensures { λ _. ⌜ Fills (ShareProducts d first (wordA (now (ops .entry))) (wordB d (now (ops .entry)))) (productAt d first 0) (productAt d first d) (now (values .entry)) (now (values .exit)) ⌝ }
 {
-    let start = first + d * (d - 1);
     let mut i = 0;
     while i < d {
-        let x = ops[1 + i] as usize;
-        let y = ops[1 + d + i] as usize;
+        let x = places::word_a(ops, i);
+        let y = places::word_b(ops, d, i);
         let b = values[y];
         let m = values[x] & b;
-        values[start + 3 * i] = b;
-        values[start + 3 * i + 1] = m;
-        values[start + 3 * i + 2] = m;
+        let at = places::product_at(d, first, i);
+        values[at] = b;
+        values[at + 1] = m;
+        values[at + 2] = m;
         i += 1;
     }
 }
@@ -84,14 +84,12 @@ fn cross_row(
     requires { ⌜ Small first d × (i < d) × (to ≤ d) × Roomy d first (now values) × ((j : ℕ) → from ≤ j → j < to → j ≡ i → ⊥) × (from ≤ to) ⌝ }
     ensures { λ s. ⌜ CrossesRow d first i a bit from to (now (values .entry)) (now (values .exit)) s ⌝ }
 {
-    let own = first + d * (d - 1);
-    let start = first + places::cell_row(d, i);
     let mut sum = bit;
     let mut j = from;
     while j < to {
-        let r = values[first + 2 * places::pair_site(d, i, j)];
-        let b = values[own + 3 * j];
-        sum = sum ^ cross(values, start + 6 * places::slot(i, j), a, b, r);
+        let r = values[places::pair_at(d, first, i, j)];
+        let b = values[places::product_at(d, first, j)];
+        sum = sum ^ cross(values, places::cross_at(d, first, i, j), a, b, r);
         j += 1;
     }
     sum
@@ -100,17 +98,15 @@ fn cross_row(
 // The same of every share and each other, and the outputs.
 fn cross_all(values: &mut [u8], first: usize, d: usize, ops: &[u16])
     requires { ⌜ Small first d × (1 + d ≤ length (now ops)) × RowBefore first d (wordA (now ops)) × Roomy d first (now values) ⌝ }
-    ensures { λ _. ⌜ Fills (Multiplied d first (wordA (now (ops .entry)))) (first + cellRow d 0) (outAt d first d) (now (values .entry)) (now (values .exit)) ⌝ }
+    ensures { λ _. ⌜ Fills (Multiplied d first (wordA (now (ops .entry)))) (first + crossStart d 0) (outAt d first d) (now (values .entry)) (now (values .exit)) ⌝ }
 {
-    let own = first + d * (d - 1);
-    let outs = first + places::cell_row(d, d);
     let mut i = 0;
     while i < d {
-        let x = ops[1 + i] as usize;
-        let a = values[x];
-        let m = values[own + 3 * i + 2];
+        let a = values[places::word_a(ops, i)];
+        let m = values[places::product_at(d, first, i) + 2];
         let lower = cross_row(values, first, d, i, a, m, 0, i);
-        values[outs + i] = cross_row(values, first, d, i, a, lower, i + 1, d);
+        let sum = cross_row(values, first, d, i, a, lower, i + 1, d);
+        values[places::out_at(d, first, i)] = sum;
         i += 1;
     }
 }
@@ -121,7 +117,7 @@ pub(crate) fn and(values: &mut [u8], first: usize, d: usize, ops: &[u16], tape: 
     ensures { λ _. ⌜ Fills (AndValues d first (wordA (now (ops .entry))) (wordB d (now (ops .entry))) (now (tape .entry)) used) first (first + (7 * (d * (d - 1)) + 4 * d)) (now (values .entry)) (now (values .exit)) ⌝ }
 {
     draws(values, first, tape, used, places::pairs(d));
-    owns(values, first, d, ops);
+    share_products(values, first, d, ops);
     cross_all(values, first, d, ops);
 }
 
@@ -133,7 +129,7 @@ fn add_masks(values: &[u8], first: usize, d: usize, i: usize, bit: u8, from: usi
     let mut sum = bit;
     let mut j = from;
     while j < to {
-        sum = sum ^ values[first + places::pair_site(d, i, j)];
+        sum = sum ^ values[places::mask_at(d, first, i, j)];
         j += 1;
     }
     sum
@@ -144,13 +140,11 @@ fn sums(values: &mut [u8], first: usize, d: usize, ops: &[u16])
     requires { ⌜ Small first d × (1 + d ≤ length (now ops)) × RowBefore first d (wordA (now ops)) × (first + pairs d + d ≤ length (now values)) ⌝ }
     ensures { λ _. ⌜ Fills (Masked d first (wordA (now (ops .entry)))) (first + pairs d) (first + pairs d + d) (now (values .entry)) (now (values .exit)) ⌝ }
 {
-    let start = first + places::pairs(d);
     let mut i = 0;
     while i < d {
-        let x = ops[1 + i] as usize;
-        let a = values[x];
+        let a = values[places::word_a(ops, i)];
         let lower = add_masks(values, first, d, i, a, 0, i);
-        values[start + i] = add_masks(values, first, d, i, lower, i + 1, d);
+        values[places::sum_at(d, first, i)] = add_masks(values, first, d, i, lower, i + 1, d);
         i += 1;
     }
 }

@@ -1,7 +1,9 @@
-// Where the wires of AND and REF stand, as offsets from the gadget's first wire.
+// Where the wires of AND and REF stand, behind the wires before the gadget.
 ghost use mathlib.Core.Path.{_≡_};
-ghost use Prim.Native.Nat.{_*_, _/_, _-_, _≤_, _<_};
-ghost use Rattle.simulation.specs.Internal.Places.{rowStart, pairSite, slotOf, cellRow};
+ghost use Prim.Native.Nat.{_+_, _*_, _/_, _-_, _≤_, _<_};
+ghost use lib.ListN.{length};
+ghost use Rattle.simulation.specs.Internal.Places.{wordA, wordB, rowStart, pairSite, slotOf, crossStart, pairAt, productAt, crossAt, outAt, maskAt, sumAt};
+ghost use Rattle.simulation.specs.Internal.Gadgets.{Small};
 
 // How many pairs two of d shares make.
 pub(crate) fn pairs(d: usize) -> usize
@@ -20,7 +22,7 @@ fn row_start(d: usize, i: usize) -> usize
 }
 
 // The place of the pair of two different shares among all pairs.
-pub(crate) fn pair_site(d: usize, i: usize, j: usize) -> usize
+fn pair_site(d: usize, i: usize, j: usize) -> usize
     requires { ⌜ (i < d) × (j < d) × (d ≤ 8) ⌝ }
     ensures { λ r. ⌜ (r ≡ pairSite d i j) × (r ≤ 72) ⌝ }
 {
@@ -34,16 +36,86 @@ pub(crate) fn pair_site(d: usize, i: usize, j: usize) -> usize
 }
 
 // The place of the share j among those other than i.
-pub(crate) fn slot(i: usize, j: usize) -> usize
+fn slot(i: usize, j: usize) -> usize
     ensures { λ r. ⌜ (r ≡ slotOf i j) × (r ≤ j) ⌝ }
 {
     if i < j { j - 1 } else { j }
 }
 
 // Where the parts of AND begin that belong to the share i and another; of i = d, where the outputs begin.
-pub(crate) fn cell_row(d: usize, i: usize) -> usize
+pub(crate) fn cross_start(d: usize, i: usize) -> usize
     requires { ⌜ (i ≤ d) × (0 < d) × (d ≤ 8) ⌝ }
-    ensures { λ r. ⌜ (r ≡ cellRow d i) × (r ≤ 512) ⌝ }
+    ensures { λ r. ⌜ (r ≡ crossStart d i) × (r ≤ 512) ⌝ }
 {
     d * (d - 1) + 3 * d + 6 * (i * (d - 1))
+}
+
+// AND's wire r of the shares i and j; R stands behind it.
+pub(crate) fn pair_at(d: usize, first: usize, i: usize, j: usize) -> usize
+    requires { ⌜ Small first d × (i < d) × (j < d) ⌝ }
+    ensures { λ r. ⌜ (r ≡ pairAt d first i j) × (r ≤ first + 144) ⌝ }
+{
+    first + 2 * pair_site(d, i, j)
+}
+
+// AND's wire B of the share i; m and M stand behind it.
+pub(crate) fn product_at(d: usize, first: usize, i: usize) -> usize
+    requires { ⌜ Small first d × (i ≤ d) ⌝ }
+    ensures { λ r. ⌜ (r ≡ productAt d first i) × (r ≤ first + 88) ⌝ }
+{
+    first + d * (d - 1) + 3 * i
+}
+
+// AND's wire u of the shares i and j; U, v, V, w and W stand behind it.
+pub(crate) fn cross_at(d: usize, first: usize, i: usize, j: usize) -> usize
+    requires { ⌜ Small first d × (i < d) × (j < d) ⌝ }
+    ensures { λ r. ⌜ (r ≡ crossAt d first i j) × (r ≤ first + 560) ⌝ }
+{
+    first + cross_start(d, i) + 6 * slot(i, j)
+}
+
+// The output of the share i.
+pub(crate) fn out_at(d: usize, first: usize, i: usize) -> usize
+    requires { ⌜ Small first d × (i < d) ⌝ }
+    ensures { λ r. ⌜ (r ≡ outAt d first i) × (r ≤ first + 520) ⌝ }
+{
+    first + cross_start(d, d) + i
+}
+
+// REF's random bit of the shares i and j, and its sum of the share i.
+pub(crate) fn mask_at(d: usize, first: usize, i: usize, j: usize) -> usize
+    requires { ⌜ Small first d × (i < d) × (j < d) ⌝ }
+    ensures { λ r. ⌜ (r ≡ maskAt d first i j) × (r ≤ first + 72) ⌝ }
+{
+    first + pair_site(d, i, j)
+}
+
+pub(crate) fn sum_at(d: usize, first: usize, i: usize) -> usize
+    requires { ⌜ Small first d × (i ≤ d) ⌝ }
+    ensures { λ r. ⌜ (r ≡ sumAt d first i) × (r ≤ first + 40) ⌝ }
+{
+    first + pairs(d) + i
+}
+
+// How many wires AND has.
+pub(crate) fn and_wires(d: usize) -> usize
+    requires { ⌜ (0 < d) × (d ≤ 8) ⌝ }
+    ensures { λ r. ⌜ (r ≡ 7 * (d * (d - 1)) + 4 * d) × (r ≤ 480) ⌝ }
+{
+    7 * (d * (d - 1)) + 4 * d
+}
+
+// The wires a and b of the share i, among a gadget's words.
+pub(crate) fn word_a(ops: &[u16], i: usize) -> usize
+    requires { ⌜ 1 + i < length (now ops) ⌝ }
+    ensures { λ r. ⌜ r ≡ wordA (now (ops .entry)) i ⌝ }
+{
+    ops[1 + i] as usize
+}
+
+pub(crate) fn word_b(ops: &[u16], d: usize, i: usize) -> usize
+    requires { ⌜ 1 + d + i < length (now ops) ⌝ }
+    ensures { λ r. ⌜ r ≡ wordB d (now (ops .entry)) i ⌝ }
+{
+    ops[1 + d + i] as usize
 }

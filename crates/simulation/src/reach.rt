@@ -3,17 +3,18 @@ ghost use mathlib.Core.Path.{_≡_};
 ghost use mathlib.Core.List.{[], _∷_, map};
 ghost use Prim.Native.Nat.{ℕ, _+_, _-_, _*_, _≤_, _<_};
 ghost use lib.ListN.{length};
+ghost use Rattle.circuit.specs.Limits.{wireLimit};
 ghost use Rattle.circuit.specs.Lists.{range};
 ghost use Rattle.circuit.specs.Gadgets.{others};
 ghost use Rattle.circuit.specs.Kinds.{pairs};
-ghost use Rattle.simulation.specs.Internal.Places.{wordA, wordB, ownAt, cellRow, cellAt, outAt, maskAt, sumAt};
-ghost use Rattle.simulation.specs.Internal.Gates.{CellGates, CellsGates, RowsGates, OwnsGates, OutGates, AndGates, SumGates, RefGates};
+ghost use Rattle.simulation.specs.Internal.Places.{wordA, wordB, productAt, crossStart, crossAt, outAt, maskAt, sumAt};
+ghost use Rattle.simulation.specs.Internal.Gates.{CrossGates, CrossRowGates, CrossAllGates, ProductsGates, OutGates, AndGates, SumGates, RefGates};
 ghost use Rattle.simulation.specs.Internal.Gadgets.{Small, RowBefore, Roomy};
-ghost use Rattle.simulation.specs.Internal.Marks.{markAll, propagated, sixes, outWires, Moves};
+ghost use Rattle.simulation.specs.Internal.Marks.{markAll, propagated, sixApart, outWires, Moves};
 use super::places;
 
 // The mark of a wire goes to two others.
-pub(crate) fn propagate(marks: &mut [u8], wire: usize, one: usize, other: usize)
+fn propagate(marks: &mut [u8], wire: usize, one: usize, other: usize)
     requires { ⌜ (wire < length (now marks)) × (one < length (now marks)) × (other < length (now marks)) ⌝ }
     ensures { λ _. ⌜ now (marks .exit) ≡ propagated wire (one ∷ other ∷ []) (now (marks .entry)) ⌝ }
 {
@@ -25,10 +26,18 @@ pub(crate) fn propagate(marks: &mut [u8], wire: usize, one: usize, other: usize)
     marks[wire] = 0;
 }
 
+// The mark of a gate's wire goes to the wires that its words name.
+pub(crate) fn propagate_gate(marks: &mut [u8], wire: usize, one: u16, other: u16)
+    requires { ⌜ (wire < length (now marks)) × (one < length (now marks)) × (other < length (now marks)) ⌝ }
+    ensures { λ _. ⌜ now (marks .exit) ≡ propagated wire (one ∷ other ∷ []) (now (marks .entry)) ⌝ }
+{
+    propagate(marks, wire, one as usize, other as usize);
+}
+
 // Marks on so many wires, six apart.
-fn mark_sixes(marks: &mut [u8], from: usize, count: usize)
-    requires { ⌜ (from + 6 * count ≤ length (now marks) + 5) × (from ≤ 16384) × (count ≤ 8) ⌝ }
-    ensures { λ _. ⌜ now (marks .exit) ≡ markAll (now (marks .entry)) (sixes from count) ⌝ }
+fn mark_six_apart(marks: &mut [u8], from: usize, count: usize)
+    requires { ⌜ (from + 6 * count ≤ length (now marks) + 5) × (from ≤ 2 * wireLimit) × (count ≤ 8) ⌝ }
+    ensures { λ _. ⌜ now (marks .exit) ≡ markAll (now (marks .entry)) (sixApart from count) ⌝ }
 {
     let mut x = from;
     let mut k = 0;
@@ -44,14 +53,14 @@ fn propagate_output(marks: &mut [u8], first: usize, d: usize, i: usize)
     requires { ⌜ Small first d × (i < d) × Roomy d first (now marks) ⌝ }
     ensures { λ _. ⌜ now (marks .exit) ≡ propagated (outAt d first i) (outWires d first i) (now (marks .entry)) ⌝ }
 {
-    let wire = first + places::cell_row(d, d) + i;
+    let wire = places::out_at(d, first, i);
     if marks[wire] < 1 {
         return;
     }
-    let row = first + places::cell_row(d, i);
-    marks[first + d * (d - 1) + 3 * i + 2] = 1;
-    mark_sixes(marks, row + 1, d - 1);
-    mark_sixes(marks, row + 5, d - 1);
+    marks[places::product_at(d, first, i) + 2] = 1;
+    let row = first + places::cross_start(d, i);
+    mark_six_apart(marks, row + 1, d - 1);
+    mark_six_apart(marks, row + 5, d - 1);
     marks[wire] = 0;
 }
 
@@ -70,7 +79,7 @@ fn propagate_outputs(marks: &mut [u8], first: usize, d: usize)
 // The wires w, v and u of two shares, from the wire u on, with a(i), b(j) and r(i,j).
 fn propagate_cross(marks: &mut [u8], at: usize, a: usize, b: usize, r: usize)
     requires { ⌜ (at + 6 ≤ length (now marks)) × (a < at) × (b < at) × (r + 1 < at) ⌝ }
-    ensures { λ _. ⌜ Moves (CellGates at a b r) at (at + 6) (now (marks .entry)) (now (marks .exit)) ⌝ }
+    ensures { λ _. ⌜ Moves (CrossGates at a b r) at (at + 6) (now (marks .entry)) (now (marks .exit)) ⌝ }
 {
     propagate(marks, at + 4, a, at + 3);
     propagate(marks, at + 2, b, r);
@@ -88,23 +97,22 @@ fn propagate_row(
     to: usize,
 )
     requires { ⌜ Small first d × (i < d) × (to ≤ d) × Roomy d first (now marks) × ((j : ℕ) → from ≤ j → j < to → j ≡ i → ⊥) × (from ≤ to) × (length (now ops) ≡ 1 + d + d) × RowBefore first d (wordA (now ops)) × RowBefore first d (wordB d (now ops)) ⌝ }
-    ensures { λ _. ⌜ Moves (CellsGates d first (wordA (now (ops .entry))) (wordB d (now (ops .entry))) i) (cellAt d first i from) (cellAt d first i to) (now (marks .entry)) (now (marks .exit)) ⌝ }
+    ensures { λ _. ⌜ Moves (CrossRowGates d first (wordA (now (ops .entry))) (wordB d (now (ops .entry))) i) (crossAt d first i from) (crossAt d first i to) (now (marks .entry)) (now (marks .exit)) ⌝ }
 {
-    let a = ops[1 + i] as usize;
-    let start = first + places::cell_row(d, i);
+    let a = places::word_a(ops, i);
     let mut j = to;
     while from < j {
         j -= 1;
-        let b = ops[1 + d + j] as usize;
-        let r = first + 2 * places::pair_site(d, i, j);
-        propagate_cross(marks, start + 6 * places::slot(i, j), a, b, r);
+        let b = places::word_b(ops, d, j);
+        let r = places::pair_at(d, first, i, j);
+        propagate_cross(marks, places::cross_at(d, first, i, j), a, b, r);
     }
 }
 
 // The same of every share and each other.
 fn propagate_rows(marks: &mut [u8], first: usize, d: usize, ops: &[u16])
     requires { ⌜ Small first d × Roomy d first (now marks) × (length (now ops) ≡ 1 + d + d) × RowBefore first d (wordA (now ops)) × RowBefore first d (wordB d (now ops)) ⌝ }
-    ensures { λ _. ⌜ Moves (RowsGates d first (wordA (now (ops .entry))) (wordB d (now (ops .entry)))) (first + cellRow d 0) (first + cellRow d d) (now (marks .entry)) (now (marks .exit)) ⌝ }
+    ensures { λ _. ⌜ Moves (CrossAllGates d first (wordA (now (ops .entry))) (wordB d (now (ops .entry)))) (first + crossStart d 0) (first + crossStart d d) (now (marks .entry)) (now (marks .exit)) ⌝ }
 {
     let mut i = d;
     while 0 < i {
@@ -117,15 +125,14 @@ fn propagate_rows(marks: &mut [u8], first: usize, d: usize, ops: &[u16])
 // The wires m of all shares. Their B and M are stops.
 fn propagate_products(marks: &mut [u8], first: usize, d: usize, ops: &[u16])
     requires { ⌜ Small first d × Roomy d first (now marks) × (length (now ops) ≡ 1 + d + d) × RowBefore first d (wordA (now ops)) ⌝ }
-    ensures { λ _. ⌜ Moves (OwnsGates d first (wordA (now (ops .entry))) (wordB d (now (ops .entry)))) (ownAt d first 0) (ownAt d first d) (now (marks .entry)) (now (marks .exit)) ⌝ }
+    ensures { λ _. ⌜ Moves (ProductsGates d first (wordA (now (ops .entry))) (wordB d (now (ops .entry)))) (productAt d first 0) (productAt d first d) (now (marks .entry)) (now (marks .exit)) ⌝ }
 {
-    let start = first + d * (d - 1);
     let mut i = d;
     while 0 < i {
         i -= 1;
-        let a = ops[1 + i] as usize;
-        let own = start + 3 * i;
-        propagate(marks, own + 1, a, own);
+        let a = places::word_a(ops, i);
+        let at = places::product_at(d, first, i);
+        propagate(marks, at + 1, a, at);
     }
 }
 
@@ -146,7 +153,7 @@ fn mark_masks(marks: &mut [u8], first: usize, d: usize, i: usize, from: usize, t
 {
     let mut j = from;
     while j < to {
-        marks[first + places::pair_site(d, i, j)] = 1;
+        marks[places::mask_at(d, first, i, j)] = 1;
         j += 1;
     }
 }
@@ -156,7 +163,7 @@ fn propagate_sum(marks: &mut [u8], first: usize, d: usize, i: usize, a: usize)
     requires { ⌜ Small first d × (i < d) × (a < first) × (first + pairs d + d ≤ length (now marks)) ⌝ }
     ensures { λ _. ⌜ now (marks .exit) ≡ propagated (sumAt d first i) (a ∷ map (maskAt d first i) (others d i)) (now (marks .entry)) ⌝ }
 {
-    let wire = first + places::pairs(d) + i;
+    let wire = places::sum_at(d, first, i);
     if marks[wire] < 1 {
         return;
     }
@@ -174,7 +181,7 @@ pub(crate) fn propagate_refresh(marks: &mut [u8], first: usize, d: usize, ops: &
     let mut i = d;
     while 0 < i {
         i -= 1;
-        let a = ops[1 + i] as usize;
+        let a = places::word_a(ops, i);
         propagate_sum(marks, first, d, i, a);
     }
 }

@@ -1,28 +1,39 @@
 // What probes read: marks on probed wires, moved on frame by frame from the last to the first, and shown where they end.
 ghost use mathlib.Core.Path.{_≡_};
-ghost use Prim.Native.Nat.{ℕ, _+_, _≤_, _<_};
-ghost use lib.ListN.{length};
-ghost use lib.Seq.{sets};
-ghost use Rattle.circuit.specs.Lists.{nth};
-ghost use Rattle.simulation.specs.Internal.Filling.{frameMakes};
-ghost use Rattle.simulation.specs.Internal.Gadgets.{Small, Roomy, RowBefore};
-ghost use Rattle.simulation.specs.Internal.Marks.{markAll, Moves, FrameGates, FrameEarly, shownAt, shownFrom};
-ghost use Rattle.simulation.specs.Internal.Walking.{Walkable, Lists, ReachesStops, Markable};
+ghost use Prim.Native.Nat.{ℕ, _+_, _*_, _≤_, _<_};
+ghost use lib.ListN.{length, replicate};
+ghost use Rattle.circuit.specs.Limits.{tableLimit, wireLimit};
+ghost use Rattle.circuit.proofs.Base.{In};
+ghost use Rattle.circuit.specs.Circuit.{size};
+ghost use Rattle.simulation.specs.Internal.Places.{wordA, wordB};
+ghost use Rattle.simulation.specs.Internal.Gates.{AndGates, FrameGates};
+ghost use Rattle.simulation.specs.Internal.Filling.{frameWires};
+ghost use Rattle.simulation.specs.Internal.Gadgets.{Small, FrameEarly};
+ghost use Rattle.simulation.specs.Internal.Accepting.{AcceptedTable, circuitIn};
+ghost use Rattle.simulation.specs.Internal.Marks.{Marked, markAll, Moves, shownAt};
+ghost use Rattle.simulation.specs.Internal.Reading.{Lists, Propagates, OnStops, Shows};
 use super::bytes;
+use super::places;
 use super::reach;
+use circuit::TABLE_WORDS;
+use circuit::WIRES;
+use frames::kinds::decide;
 use frames::walk::Frame;
 use frames::walk::Gate;
 use frames::walk::Step;
 use frames::walk::Walk;
 
+// The most frames behind HEAD: each of them, and HEAD too, has at least two words.
+const FRAMES: usize = TABLE_WORDS / 2;
+
 // A mark on each probed wire.
-pub fn mark(marks: &mut [u8], wires: &[u16])
-    requires { ⌜ ((x : ℕ) → x < length (now wires) → nth (now wires) x < length (now marks)) ⌝ }
-    ensures { λ _. ⌜ now (marks .exit) ≡ markAll (now (marks .entry)) (now (wires .entry)) ⌝ }
+fn mark(marks: &mut [u8; WIRES], probes: &[u16])
+    requires { ⌜ ((x : ℕ) → In x (now probes) → x < wireLimit) ⌝ }
+    ensures { λ _. ⌜ now (marks .exit) ≡ markAll (now (marks .entry)) (now (probes .entry)) ⌝ }
 {
     let mut i = 0;
-    while i < wires.len() {
-        let wire = wires[i] as usize;
+    while i < probes.len() {
+        let wire = probes[i] as usize;
         marks[wire] = 1;
         i += 1;
     }
@@ -30,10 +41,10 @@ pub fn mark(marks: &mut [u8], wires: &[u16])
 
 // AND's wires, where one of them is marked.
 fn propagate_and(marks: &mut [u8], first: usize, d: usize, ops: &[u16])
-    requires { ⌜ Small first d × (first + frameMakes Frame.And d ≤ length (now marks)) × FrameEarly Frame.And d first (now ops) ⌝ }
-    ensures { λ _. ⌜ Moves (FrameGates Frame.And d first (now (ops .entry))) first (first + frameMakes Frame.And d) (now (marks .entry)) (now (marks .exit)) ⌝ }
+    requires { ⌜ Small first d × (first + frameWires Frame.And d ≤ length (now marks)) × FrameEarly Frame.And d first (now ops) ⌝ }
+    ensures { λ _. ⌜ Moves (λ g. AndGates g d first (wordA (now (ops .entry))) (wordB d (now (ops .entry)))) first (first + frameWires Frame.And d) (now (marks .entry)) (now (marks .exit)) ⌝ }
 {
-    let most = bytes::largest(marks, first, 7 * (d * (d - 1)) + 4 * d);
+    let most = bytes::largest(marks, first, places::and_wires(d));
     if most < 1 {
         return;
     }
@@ -42,8 +53,8 @@ fn propagate_and(marks: &mut [u8], first: usize, d: usize, ops: &[u16])
 
 // A frame's wires.
 fn propagate_frame(marks: &mut [u8], frame: Frame, d: usize, first: usize, ops: &[u16])
-    requires { ⌜ Small first d × (first + frameMakes frame d ≤ length (now marks)) × FrameEarly frame d first (now ops) ⌝ }
-    ensures { λ _. ⌜ Moves (FrameGates frame d first (now (ops .entry))) first (first + frameMakes frame d) (now (marks .entry)) (now (marks .exit)) ⌝ }
+    requires { ⌜ Small first d × (first + frameWires frame d ≤ length (now marks)) × FrameEarly frame d first (now ops) ⌝ }
+    ensures { λ _. ⌜ ((from : ℕ) → Moves (FrameGates frame d first from (now (ops .entry))) first (first + frameWires frame d) (now (marks .entry)) (now (marks .exit))) ⌝ }
 {
     match frame {
         Frame::Gate(gate) => match gate {
@@ -56,8 +67,8 @@ fn propagate_frame(marks: &mut [u8], frame: Frame, d: usize, first: usize, ops: 
             Gate::Xor {
                 first: one,
                 second: other,
-            } => reach::propagate(marks, first, one as usize, other as usize),
-            Gate::Not { wire } => reach::propagate(marks, first, wire as usize, wire as usize),
+            } => reach::propagate_gate(marks, first, one, other),
+            Gate::Not { wire } => reach::propagate_gate(marks, first, wire, wire),
             Gate::Reg { wire: _ } => {}
             Gate::Out => {}
         },
@@ -67,38 +78,31 @@ fn propagate_frame(marks: &mut [u8], frame: Frame, d: usize, first: usize, ops: 
 }
 
 // The places of an accepted table's frames, and how many there are.
-pub fn list(table: &[u16], starts: &mut [u16]) -> usize
-    requires { ⌜ Walkable (now table) × (4096 ≤ length (now starts)) ⌝ }
-    ensures { λ r. ⌜ Lists (now (table .entry)) (now (starts .exit)) r × (r ≤ length (now (starts .exit))) ⌝ }
+fn list_frames(table: &[u16], starts: &mut [u16]) -> usize
+    requires { ⌜ AcceptedTable (now table) × (tableLimit ≤ 2 * length (now starts)) ⌝ }
+    ensures { λ r. ⌜ Lists (now (table .entry)) (now (starts .exit)) r ⌝ }
 {
-    let mut walk = Walk { d: table[1], at: 2 };
+    let d = table[1];
+    let mut at = 2;
     let mut count = 0;
-    loop {
-        let step = walk.step(table);
-        match step {
-            Step::End => {
-                return count;
-            }
-            Step::Refused { rule: _ } => {
-                return count;
-            }
-            Step::Next {
-                frame: _,
-                shape: _,
-                walk: next,
-            } => {
-                starts[count] = walk.at as u16;
-                count += 1;
-                walk = next;
-            }
-        }
+    while at < table.len() {
+        starts[count] = at as u16;
+        count += 1;
+        at += 1 + decide(table[at], d).words;
     }
+    count
 }
 
-// The marks moved on from the last frame to the first.
-pub fn settle(table: &[u16], starts: &[u16], count: usize, wires: usize, marks: &mut [u8])
-    requires { ⌜ Lists (now table) (now starts) count × (count ≤ length (now starts)) × Markable (now table) wires (now marks) ⌝ }
-    ensures { λ _. ⌜ ReachesStops (now (table .entry)) wires (now (marks .entry)) (now (marks .exit)) ⌝ }
+// The marks moved on, from the last frame to the first.
+fn propagate_frames(
+    table: &[u16],
+    starts: &[u16],
+    count: usize,
+    wires: usize,
+    marks: &mut [u8; WIRES],
+)
+    requires { ⌜ Lists (now table) (now starts) count × (count ≤ length (now starts)) × (wires ≡ size (circuitIn (now table))) ⌝ }
+    ensures { λ _. ⌜ Propagates (circuitIn (now (table .entry)) .wires) (now (marks .entry)) (now (marks .exit)) ⌝ }
 {
     let d = table[1];
     let n = d as usize;
@@ -131,24 +135,35 @@ pub fn settle(table: &[u16], starts: &[u16], count: usize, wires: usize, marks: 
     }
 }
 
-// A wire's byte on the reading sheet: its value where it is marked, 2 elsewhere.
+// From clear marks, a mark on exactly the stops that the probes on an accepted table's wires read.
+pub fn reach_stops(table: &[u16], wires: usize, probes: &[u16], marks: &mut [u8; WIRES])
+    requires { ⌜ AcceptedTable (now table) × (wires ≡ size (circuitIn (now table))) × ((x : ℕ) → In x (now probes) → x < wires) × (now marks ≡ replicate wireLimit 0) ⌝ }
+    ensures { λ _. ⌜ OnStops (circuitIn (now (table .entry)) .wires) (now (probes .entry)) (now (marks .exit)) ⌝ }
+{
+    let mut starts = [0u16; FRAMES];
+    let count = list_frames(table, &mut starts);
+    mark(marks, probes);
+    propagate_frames(table, &starts, count, wires, marks);
+}
+
+// A wire's byte of the reading: its value where it is marked, 2 elsewhere.
 fn shown(mark: u8, value: u8) -> u8
     ensures { λ r. ⌜ r ≡ shownAt mark value ⌝ }
 {
     if mark < 1 { 2 } else { value }
 }
 
-// The reading sheet's 8,192 bytes. No wire from `wires` on is marked.
-pub fn show(marks: &[u8], values: &[u8], wires: usize, reading: &mut [u8])
-    requires { ⌜ (8192 ≤ length (now marks)) × (8192 ≤ length (now values)) × (8192 ≤ length (now reading)) × (wires ≤ 8192) × ((x : ℕ) → wires ≤ x → nth (now marks) x < 1) ⌝ }
-    ensures { λ _. ⌜ now (reading .exit) ≡ sets (now (reading .entry)) 0 (shownFrom (now (marks .entry)) (now (values .entry)) 0 8192) ⌝ }
+// The reading, from the values of all wires and marks on the stops that are read.
+pub fn show(marks: &[u8; WIRES], values: &[u8], wires: usize, reading: &mut [u8])
+    requires { ⌜ (wires ≤ wireLimit) × (wireLimit ≤ length (now values)) × (wireLimit ≤ length (now reading)) × ((x : ℕ) → Marked (now marks) x → x < wires) ⌝ }
+    ensures { λ _. ⌜ Shows (now (marks .entry)) (now (values .entry)) (now (reading .entry)) (now (reading .exit)) ⌝ }
 {
     let mut x = 0;
     while x < wires {
         reading[x] = shown(marks[x], values[x]);
         x += 1;
     }
-    while x < 8192 {
+    while x < WIRES {
         reading[x] = 2;
         x += 1;
     }

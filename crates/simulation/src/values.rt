@@ -3,12 +3,12 @@ ghost use mathlib.Core.Path.{_≡_};
 ghost use mathlib.Core.Bool.{not};
 ghost use Prim.Native.Nat.{_+_, _≤_, _<_};
 ghost use lib.ListN.{length};
-ghost use Rattle.circuit.specs.Lists.{_⊕_};
+ghost use Rattle.circuit.specs.Lists.{_⊕_, overwrite};
 ghost use Rattle.circuit.specs.Circuit.{isSet};
-ghost use Rattle.semantics.specs.Values.{byte};
-ghost use Rattle.simulation.specs.Internal.Filling.{Fills, Bits, FrameValues, frameMakes};
-ghost use Rattle.simulation.specs.Internal.Gadgets.{Small, FrameReady};
-ghost use Rattle.simulation.specs.Internal.Evaluating.{Evaluable, Evaluates};
+ghost use Rattle.semantics.specs.Values.{byte, bits, bytes, valuesOf};
+ghost use Rattle.simulation.specs.Internal.Filling.{Fills, Bits, FrameValues, frameWires};
+ghost use Rattle.simulation.specs.Internal.Gadgets.{Small, FrameEarly, FrameSupplied};
+ghost use Rattle.simulation.specs.Internal.Accepting.{Evaluable, circuitIn};
 use super::gadget;
 use frames::walk::Frame;
 use frames::walk::Gate;
@@ -58,30 +58,24 @@ fn register(values: &mut [u8], first: usize, wire: u16)
     values[first] = values[x];
 }
 
-// The circuit so far: how many wires, shares and random bits.
-pub struct Ends {
-    pub wires: usize,
-    pub shares: usize,
-    pub randoms: usize,
-}
-
-// A frame's wires.
+// A frame's wires, behind so many wires, shares and random bits.
 fn write_frame(
     values: &mut [u8],
     frame: Frame,
     d: usize,
-    ends: Ends,
+    first: usize,
+    from: usize,
+    used: usize,
     ops: &[u16],
     shares: &[u8],
     tape: &[u8],
 )
-    requires { ⌜ Small (ends .wires) d × (ends .wires + frameMakes frame d ≤ length (now values)) × FrameReady frame d (ends .wires) (ends .shares) (ends .randoms) (now ops) (length (now shares)) (length (now tape)) × Bits (now shares) × Bits (now tape) ⌝ }
-    ensures { λ _. ⌜ Fills (FrameValues frame d (ends .wires) (ends .shares) (ends .randoms) (now (ops .entry)) (now (shares .entry)) (now (tape .entry))) (ends .wires) (ends .wires + frameMakes frame d) (now (values .entry)) (now (values .exit)) ⌝ }
+    requires { ⌜ Small first d × (first + frameWires frame d ≤ length (now values)) × FrameEarly frame d first (now ops) × FrameSupplied frame d from used (length (now shares)) (length (now tape)) × Bits (now shares) × Bits (now tape) ⌝ }
+    ensures { λ _. ⌜ Fills (FrameValues frame d first from used (now (ops .entry)) (now (shares .entry)) (now (tape .entry))) first (first + frameWires frame d) (now (values .entry)) (now (values .exit)) ⌝ }
 {
-    let first = ends.wires;
     match frame {
         Frame::Gate(gate) => match gate {
-            Gate::In { stage: _ } => gadget::copy(values, first, shares, ends.shares, d),
+            Gate::In { stage: _ } => gadget::copy(values, first, shares, from, d),
             Gate::Con {
                 label: _,
                 value,
@@ -95,24 +89,22 @@ fn write_frame(
             Gate::Reg { wire } => register(values, first, wire),
             Gate::Out => {}
         },
-        Frame::And => gadget::and(values, first, d, ops, tape, ends.randoms),
-        Frame::Ref => gadget::refresh(values, first, d, ops, tape, ends.randoms),
+        Frame::And => gadget::and(values, first, d, ops, tape, used),
+        Frame::Ref => gadget::refresh(values, first, d, ops, tape, used),
     }
 }
 
 // The values of an accepted table's wires.
 pub fn fill(table: &[u16], shares: &[u8], tape: &[u8], values: &mut [u8])
     requires { ⌜ Evaluable (now table) (now shares) (now tape) (length (now values)) ⌝ }
-    ensures { λ _. ⌜ Evaluates (now (table .entry)) (now (shares .entry)) (now (tape .entry)) (now (values .entry)) (now (values .exit)) ⌝ }
+    ensures { λ _. ⌜ now (values .exit) ≡ overwrite (bytes (valuesOf (circuitIn (now (table .entry)) .wires) (bits (now (shares .entry))) (bits (now (tape .entry))))) (now (values .entry)) ⌝ }
 {
     let d = table[1];
     let n = d as usize;
     let mut walk = Walk { d: d, at: 2 };
-    let mut ends = Ends {
-        wires: 0,
-        shares: 0,
-        randoms: 0,
-    };
+    let mut first = 0;
+    let mut from = 0;
+    let mut used = 0;
     loop {
         let step = walk.step(table);
         match step {
@@ -128,12 +120,10 @@ pub fn fill(table: &[u16], shares: &[u8], tape: &[u8], values: &mut [u8])
                 walk: next,
             } => {
                 let ops = walk.operands(table);
-                write_frame(values, frame, n, ends, ops, shares, tape);
-                ends = Ends {
-                    wires: ends.wires + shape.wires,
-                    shares: ends.shares + n * shape.inputs,
-                    randoms: ends.randoms + shape.randoms,
-                };
+                write_frame(values, frame, n, first, from, used, ops, shares, tape);
+                first += shape.wires;
+                from += n * shape.inputs;
+                used += shape.randoms;
                 walk = next;
             }
         }

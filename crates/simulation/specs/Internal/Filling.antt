@@ -1,4 +1,4 @@
--- The values of a frame's wires: what each is, from those of the wires before them, and sheets on which they are filled in.
+-- The values of a frame's wires: what each is, from those of the wires before them, and buffers in which they are filled in.
 use mathlib.Core.Path.{_≡_}
 use mathlib.Core.Bool.{Bool, not, _&&_}
 use mathlib.Core.List.{List}
@@ -13,39 +13,39 @@ use Rattle.frames.specs.declared.walk.Gate.{Gate as GateCode}
 use Rattle.frames.specs.declared.walk.Gate.the-variants as gate
 use Rattle.frames.specs.declared.walk.Frame.{Frame as FrameCode}
 use Rattle.frames.specs.declared.walk.Frame.the-variants as frame
-use Rattle.simulation.specs.Internal.Places.{wordA, wordB, pairAt, ownAt, cellAt, outAt, maskAt, sumAt, heldAt}
+use Rattle.simulation.specs.Internal.Places.{wordA, wordB, pairAt, productAt, crossAt, outAt, maskAt, sumAt, heldAt}
 
 -- the value of each wire
 abbrev pub Values : Type 0
 Values = ℕ → Bool
 
--- a sheet that holds the values of the wires from one to another
+-- a buffer that holds the values of the wires from one to another
 abbrev pub Known : Values → (from to : ℕ) → List ℕ → Type 0
-Known v from to sheet = (x : ℕ) → from ≤ x → x < to → nth sheet x ≡ byte (v x)
+Known v from to values = (x : ℕ) → from ≤ x → x < to → nth values x ≡ byte (v x)
 
--- a sheet on which the values of the wires from one to another are filled in, where they meet these equations; the rest is
--- as it was
+-- a buffer in which the values of the wires from one to another are filled in, where they meet these equations; the rest
+-- is as it was
 pub record Fills (Equations : Values → Type 0) (from to : ℕ) (old new : List ℕ) : Type 0 where
   pub filled : (v : Values) → Equations v → Known v 0 from old → Known v from to new
   pub below : (x : ℕ) → x < from → nth new x ≡ nth old x
   pub above : (x : ℕ) → to ≤ x → nth new x ≡ nth old x
   pub size : length new ≡ length old
 
--- a sheet of bits
+-- bytes that are bits
 abbrev pub Bits : List ℕ → Type 0
-Bits sheet = (x : ℕ) → nth sheet x ≤ 1
+Bits values = (x : ℕ) → nth values x ≤ 1
 
--- wires that have the bits of another sheet, from one place to another
-abbrev pub Copied : (sheet : List ℕ) (from to count : ℕ) → Values → Type 0
-Copied sheet from to count v = (q : ℕ) → q < count → v (to + q) ≡ isSet (nth sheet (from + q))
+-- wires that have the bits of another buffer, from one place to another
+abbrev pub Copied : (source : List ℕ) (from to count : ℕ) → Values → Type 0
+Copied source from to count v = (q : ℕ) → q < count → v (to + q) ≡ isSet (nth source (from + q))
 
 -- r and R of every pair
 abbrev pub Drawn : (tape : List ℕ) (used to count : ℕ) → Values → Type 0
 Drawn tape used to count v = (q : ℕ) → q < count → let b = isSet (nth tape (used + q)) in (v (to + 2 * q) ≡ b) × (v (to + 2 * q + 1) ≡ b)
 
 -- B, m and M of every share
-abbrev pub Owned : (d first : ℕ) (a b : ℕ → ℕ) → Values → Type 0
-Owned d first a b v = (i : ℕ) → i < d → let x = ownAt d first i in
+abbrev pub ShareProducts : (d first : ℕ) (a b : ℕ → ℕ) → Values → Type 0
+ShareProducts d first a b v = (i : ℕ) → i < d → let x = productAt d first i in
     (v x ≡ v (b i)) × (v (x + 1) ≡ (v (a i) && v (b i))) × (v (x + 2) ≡ (v (a i) && v (b i)))
 
 -- u and U, v and V, w and W, from the bits of a, b and r
@@ -61,20 +61,20 @@ crossing a b r = (not a && r) ⊕ (a && (b ⊕ r))
 
 -- of the share i, whose bit of a is given, and every other
 abbrev pub RowCrossed : (d first i : ℕ) (a : Bool) → Values → Type 0
-RowCrossed d first i a v = (j : ℕ) → j < d → (j ≡ i → ⊥) → Crossed (cellAt d first i j) a (v (ownAt d first j)) (v (pairAt d first i j)) v
+RowCrossed d first i a v = (j : ℕ) → j < d → (j ≡ i → ⊥) → Crossed (crossAt d first i j) a (v (productAt d first j)) (v (pairAt d first i j)) v
 
 abbrev pub crossingAt : (d first i : ℕ) (a : Bool) → Values → ℕ → Bool
-crossingAt d first i a v j = crossing a (v (ownAt d first j)) (v (pairAt d first i j))
+crossingAt d first i a v j = crossing a (v (productAt d first j)) (v (pairAt d first i j))
 
 -- the outputs of AND
 pub record Multiplied (d first : ℕ) (a : ℕ → ℕ) (v : Values) : Type 0 where
   pub crossed : (i : ℕ) → i < d → RowCrossed d first i (v (a i)) v
-  pub out : (i : ℕ) → i < d → v (outAt d first i) ≡ (v (ownAt d first i + 2) ⊕ xorSum (others d i) (crossingAt d first i (v (a i)) v))
+  pub out : (i : ℕ) → i < d → v (outAt d first i) ≡ (v (productAt d first i + 2) ⊕ xorSum (others d i) (crossingAt d first i (v (a i)) v))
 
 -- AND
 pub record AndValues (d first : ℕ) (a b : ℕ → ℕ) (tape : List ℕ) (used : ℕ) (v : Values) : Type 0 where
   pub drawn : Drawn tape used first (pairs d) v
-  pub owned : Owned d first a b v
+  pub products : ShareProducts d first a b v
   pub multiplied : Multiplied d first a v
 
 -- the sums of REF, from its random bits
@@ -106,15 +106,15 @@ FrameValues frame.And d first from used ops shares tape v = AndValues d first (w
 FrameValues frame.Ref d first from used ops shares tape v = RefValues d first (wordA ops) tape used v
 
 -- how many wires a frame makes
-abbrev pub gateMakes : GateCode → ℕ → ℕ
-gateMakes (gate.In t) d = d
-gateMakes (gate.Con l b t) d = 1
-gateMakes (gate.Xor x y) d = 1
-gateMakes (gate.Not x) d = 1
-gateMakes (gate.Reg x) d = 1
-gateMakes gate.Out d = 0
+abbrev pub gateWires : GateCode → ℕ → ℕ
+gateWires (gate.In t) d = d
+gateWires (gate.Con l b t) d = 1
+gateWires (gate.Xor x y) d = 1
+gateWires (gate.Not x) d = 1
+gateWires (gate.Reg x) d = 1
+gateWires gate.Out d = 0
 
-abbrev pub frameMakes : FrameCode → ℕ → ℕ
-frameMakes (frame.Gate g) d = gateMakes g d
-frameMakes frame.And d = 7 * (d * (d - 1)) + 4 * d
-frameMakes frame.Ref d = pairs d + 2 * d
+abbrev pub frameWires : FrameCode → ℕ → ℕ
+frameWires (frame.Gate g) d = gateWires g d
+frameWires frame.And d = 7 * (d * (d - 1)) + 4 * d
+frameWires frame.Ref d = pairs d + 2 * d

@@ -23,21 +23,21 @@ pairSite d i j = cond (ltb i j) (rowStart d i + (j - i - 1)) (cond (ltb j i) (ro
 abbrev pub slotOf : (i j : ℕ) → ℕ
 slotOf i j = cond (ltb i j) (j - 1) j
 
-abbrev pub cellRow : (d i : ℕ) → ℕ
-cellRow d i = d * (d - 1) + 3 * d + 6 * (i * (d - 1))
+abbrev pub crossStart : (d i : ℕ) → ℕ
+crossStart d i = d * (d - 1) + 3 * d + 6 * (i * (d - 1))
 
 -- AND: the wires r(i,j), B(i), u(i,j) and c(i); R stands behind r, m and M behind B, and U, v, V, w and W behind u
 abbrev pub pairAt : (d first i j : ℕ) → ℕ
 pairAt d first i j = first + 2 * pairSite d i j
 
-abbrev pub ownAt : (d first i : ℕ) → ℕ
-ownAt d first i = first + d * (d - 1) + 3 * i
+abbrev pub productAt : (d first i : ℕ) → ℕ
+productAt d first i = first + d * (d - 1) + 3 * i
 
-abbrev pub cellAt : (d first i j : ℕ) → ℕ
-cellAt d first i j = first + cellRow d i + 6 * slotOf i j
+abbrev pub crossAt : (d first i j : ℕ) → ℕ
+crossAt d first i j = first + crossStart d i + 6 * slotOf i j
 
 abbrev pub outAt : (d first i : ℕ) → ℕ
-outAt d first i = first + cellRow d d + i
+outAt d first i = first + crossStart d d + i
 
 -- REF: the wires r(i,j), s(i) and S(i)
 abbrev pub maskAt : (d first i j : ℕ) → ℕ

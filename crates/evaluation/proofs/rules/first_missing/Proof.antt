@@ -1,4 +1,4 @@
--- `evaluation::rules::first_missing` meets its contract.
+-- The loop's invariant: every probe before i keeps rule 19.
 use mathlib.Core.Path.{_≡_}
 use Prim.Native.Nat.{_≤_, _-_}
 use native.Mathlib.Omega.{arith}
@@ -16,12 +16,6 @@ Inv-loop probes wires i₀ i = (i ≤ length probes) × ((k : Circuit) → size 
 abbrev μ-loop : tie.MeasureT-loop
 μ-loop probes wires i₀ i = length probes - i
 
-loop-holds : tie.Need-loop-holds Inv-loop μ-loop
-loop-holds c = (search needs, λ k e. passed-start (probesRule k) (c .args .probes .now))
-
-cast-if1 : tie.Need-cast-if1 Inv-loop μ-loop
-cast-if1 c = record { fits = omega (arith, c .shared-slice-known .given (c .before .before .loop .i)) }
-
 returns : tie.Need-returns Inv-loop μ-loop
 returns c = record { is = λ k e. probe-found k (c .before .before .before .before .args .probes .now) (c .before .before .before .loop .i) (c .before .before .before .loop .inv .1 k e) (c .before .before .loop-test .taken) (omega arith) }
 
@@ -37,10 +31,10 @@ first-missing-spec =
     (tie.spec
     Inv-loop
     μ-loop
-    loop-holds
+    (λ c. (search needs, λ k e. passed-start (probesRule k) (c .args .probes .now)))
     (λ c. search needs)
     (λ c. search needs)
-    cast-if1
+    (λ c. record { fits = omega (arith, c .shared-slice-known .given (c .before .before .loop .i)) })
     returns
     (λ c. search needs)
     (λ c. search needs)

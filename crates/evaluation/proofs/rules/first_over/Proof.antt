@@ -1,4 +1,4 @@
--- `evaluation::rules::first_over` meets its contract.
+-- No byte over 1 is first, or the first is searched for: every byte before i keeps rule 18.
 use Prim.Native.Nat.{_-_, _≤_}
 use native.Mathlib.Omega.{arith}
 use lib.ListN.{length}
@@ -14,14 +14,8 @@ Inv-loop bytes count i₀ i = (i ≤ length bytes) × Passed bytesRule bytes i
 abbrev μ-loop : tie.MeasureT-loop
 μ-loop bytes count i₀ i = length bytes - i
 
-largest-requires : tie.Need-largest-requires Inv-loop μ-loop
-largest-requires c κs = omega arith
-
 returns : tie.Need-returns Inv-loop μ-loop
 returns c = overwrite-none (c .before .before .before .args .bytes .now) (λ x l. omega (arith, c .before .largest .ensures .is x (omega arith) (omega arith)))
-
-loop-holds : tie.Need-loop-holds Inv-loop μ-loop
-loop-holds c = (omega arith, passed-start bytesRule (c .before .before .before .args .bytes .now))
 
 returns-2 : tie.Need-returns-2 Inv-loop μ-loop
 returns-2 c = record { is = byte-found (c .before .before .before .before .before .before .before .args .bytes .now) (c .before .before .before .loop .i) (c .before .before .before .loop .inv .1) (c .before .before .loop-test .taken) (c .if2 .taken) }
@@ -38,9 +32,9 @@ first-over-spec =
     (tie.spec
     Inv-loop
     μ-loop
-    largest-requires
+    (λ c κs. omega arith)
     returns
-    loop-holds
+    (λ c. (omega arith, passed-start bytesRule (c .before .before .before .args .bytes .now)))
     (λ c. search needs)
     returns-2
     (λ c. search needs)

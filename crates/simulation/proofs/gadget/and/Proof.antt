@@ -1,31 +1,26 @@
--- `evaluation::gadget::and` meets its contract.
+-- r and R, then B, m and M, then the rows with the outputs are filled in.
 use native.Mathlib.Omega.{arith}
 use borrow.Author.Needs.{needs}
-use Rattle.circuit.specs.Kinds.{pairs}
 use Rattle.simulation.proofs.gadget.and.Statement.{statement}
 use Rattle.simulation.proofs.gadget.and.Tie as tie
 use Rattle.simulation.specs.Internal.Places.{wordA, wordB}
 use Rattle.simulation.proofs.Gadgets.{and-filled}
 
-pairs-requires : tie.Need-pairs-requires
-pairs-requires c κs = (omega arith, omega arith)
-
-draws-requires : tie.Need-draws-requires
-draws-requires c κs = (omega arith, omega arith, c .before .before .before .before .before .pre .6)
-
-owns-requires : tie.Need-owns-requires
-owns-requires c κs = (c .before .before .before .before .before .before .before .before .before .pre .0, c .before .before .before .before .before .before .before .before .before .pre .1, c .before .before .before .before .before .before .before .before .before .pre .2, c .before .before .before .before .before .before .before .before .before .pre .3, omega arith)
-
-cross-all-requires : tie.Need-cross-all-requires
-cross-all-requires c κs = (c .before .before .before .before .before .before .before .before .before .before .before .before .before .pre .0, omega arith, c .before .before .before .before .before .before .before .before .before .before .before .before .before .pre .2, omega arith)
-
 returns : tie.Need-returns
 returns c =
-    let a = c .before .before .before .before .before .before .before .before .before .before .before .before .before .before .before .before .args in
-    and-filled (a .d) (a .first) (wordA (a .ops .now)) (wordB (a .d) (a .ops .now)) (a .tape .now) (a .used) (a .values .now) (c .before .before .before .before .before .before .before .before .before .before .draws .last .0) (c .before .before .before .before .before .before .owns .last .0) (c .before .before .cross-all .last .0)
-    (c .before .before .before .before .before .before .before .before .before .before .before .pairs .result) (c .before .before .before .before .before .before .before .before .before .before .before .pairs .ensures .0) (c .before .before .before .before .before .before .before .before .before .before .draws .ensures) (c .before .before .before .before .before .before .owns .ensures) (c .before .before .cross-all .ensures)
+    let s = c .before .before .before .before .before .before in
+    let d = s .before .before .before .before in
+    let p = d .before in
+    let a = p .before .before .before .before .before .args in
+    and-filled (a .d) (a .first) (wordA (a .ops .now)) (wordB (a .d) (a .ops .now)) (a .tape .now) (a .used) _ (p .pairs .ensures .0) (d .draws .ensures) (s .share-products .ensures) (c .before .before .cross-all .ensures)
 
 pub and-spec : {M : Type 1} → statement M
 and-spec =
     tie.close
-    (tie.spec pairs-requires draws-requires owns-requires cross-all-requires (λ c. search needs) returns)
+    (tie.spec
+    (λ c κs. (omega arith, omega arith))
+    (λ c κs. (omega arith, omega arith, c .before .before .before .before .before .pre .6))
+    (λ c κs. let p = c .before .before .before .before .before .before .before .before .before .pre in (p .0, p .1, p .2, p .3, omega arith))
+    (λ c κs. let p = c .before .before .before .before .before .before .before .before .before .before .before .before .before .pre in (p .0, omega arith, p .2, omega arith))
+    (λ c. search needs)
+    returns)

@@ -1,6 +1,7 @@
--- `evaluation::gadget::copy` meets its contract.
+-- The loop's invariant: the bits below q are copied.
 use mathlib.Core.Path.{refl, sym, ap, _∙_}
 use Prim.Native.Nat.{_+_, _-_, _≤_}
+use borrow.Author.Needs.{needs}
 use native.Mathlib.Omega.{arith}
 use Rattle.circuit.specs.Lists.{nth}
 use Rattle.semantics.specs.Values.{byte}
@@ -11,46 +12,19 @@ use Rattle.simulation.proofs.Filled.{fills-none, fills-at, fills-set}
 use Rattle.simulation.specs.Internal.Filling.{Fills, Copied}
 
 abbrev Inv-loop : tie.InvT-loop
-Inv-loop values₀ at sheet from count q₀ values q = (q ≤ count) × Fills (Copied sheet from at count) at (at + q) values₀ values
+Inv-loop values₀ at bits from count q₀ values q = (q ≤ count) × Fills (Copied bits from at count) at (at + q) values₀ values
 
 abbrev μ-loop : tie.MeasureT-loop
-μ-loop values₀ at sheet from count q₀ values q = count - q
-
-loop-holds : tie.Need-loop-holds Inv-loop μ-loop
-loop-holds c = (omega arith, fills-at refl (omega arith) (fills-none (c .args .at) (c .args .values .now)))
-
-add-values : tie.Need-add-values Inv-loop μ-loop
-add-values c = record { fits = omega arith }
-
-shared-slice-read-values : tie.Need-shared-slice-read-values Inv-loop μ-loop
-shared-slice-read-values c = omega arith
-
-add-values-2 : tie.Need-add-values-2 Inv-loop μ-loop
-add-values-2 c = record { fits = omega arith }
-
-slice-write-values : tie.Need-slice-write-values Inv-loop μ-loop
-slice-write-values c = omega arith
-
-add-q : tie.Need-add-q Inv-loop μ-loop
-add-q c = record { fits = omega arith }
-
-loop-less : tie.Need-loop-less Inv-loop μ-loop
-loop-less c = omega arith
+μ-loop values₀ at bits from count q₀ values q = count - q
 
 loop-again : tie.Need-loop-again Inv-loop μ-loop
 loop-again c =
     let a = c .before .before .before .args in
     let q = c .before .before .loop .q in (
       omega arith,
-      fills-at refl (omega arith) (fills-set (nth (a .sheet .now) (a .from + q)) (c .before .before .loop .inv .1) (omega arith) (omega arith)
-          (λ v e k. set-byte (nth (a .sheet .now) (a .from + q)) (c .before .before .before .pre .2 (a .from + q)) ∙ ap byte (sym (e q (c .before .loop-test .taken))))),
+      fills-at refl (omega arith) (fills-set (nth (a .bits .now) (a .from + q)) (c .before .before .loop .inv .1) (omega arith) (omega arith)
+          (λ v e k. set-byte (nth (a .bits .now) (a .from + q)) (c .before .before .before .pre .2 (a .from + q)) ∙ ap byte (sym (e q (c .before .loop-test .taken))))),
     )
-
-same-length : tie.Need-same-length Inv-loop μ-loop
-same-length c = c .before .loop .inv .1 .size
-
-returns : tie.Need-returns Inv-loop μ-loop
-returns c = fills-at refl (omega arith) (c .before .loop .inv .1)
 
 pub copy-spec : {M : Type 1} → statement M
 copy-spec =
@@ -58,13 +32,13 @@ copy-spec =
     (tie.spec
     Inv-loop
     μ-loop
-    loop-holds
-    add-values
-    shared-slice-read-values
-    add-values-2
-    slice-write-values
-    add-q
-    loop-less
+    (λ c. (omega arith, fills-at refl (omega arith) (fills-none (c .args .at) (c .args .values .now))))
+    (λ c. search needs)
+    (λ c. omega arith)
+    (λ c. search needs)
+    (λ c. omega arith)
+    (λ c. search needs)
+    (λ c. omega arith)
     loop-again
-    same-length
-    returns)
+    (λ c. c .before .loop .inv .1 .size)
+    (λ c. fills-at refl (omega arith) (c .before .loop .inv .1)))

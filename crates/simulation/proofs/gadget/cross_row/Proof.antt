@@ -1,85 +1,40 @@
--- `evaluation::gadget::cross_row` meets its contract.
-use Prim.Native.Nat.{_+_, _-_, _*_}
+-- The loop's invariant: the wires of the share i and the others below j are filled in, and their U and W are added.
+use mathlib.Core.Path.{_≡_}
+use Prim.Native.Nat.{_+_, _-_, _*_, _≤_, _<_}
 use native.Mathlib.Omega.{arith}
+use lib.ListN.{length}
 use borrow.Author.Needs.{needs}
+use Rattle.simulation.specs.Internal.Places.{outAt}
 use Rattle.simulation.proofs.gadget.cross_row.Statement.{statement}
 use Rattle.simulation.proofs.gadget.cross_row.Tie as tie
-use Rattle.simulation.proofs.Bounds.{eights}
-use Rattle.simulation.proofs.Rows.{RowOn, row-start, row-turn-at, row-end, pair-early, own-early, cell-room}
+use Rattle.simulation.proofs.Rows.{RowOn, row-start, row-turn, row-end, Sites, sites}
 
 abbrev Inv-loop : tie.InvT-loop
-Inv-loop values₀ first d i a bit from to own start sum₀ j₀ values sum j = RowOn d first i a bit from to values₀ values sum j
+Inv-loop values₀ first d i a bit from to sum₀ j₀ values sum j = RowOn d first i a bit from to values₀ values sum j
 
 abbrev μ-loop : tie.MeasureT-loop
-μ-loop values₀ first d i a bit from to own start sum₀ j₀ values sum j = to - j
+μ-loop values₀ first d i a bit from to sum₀ j₀ values sum j = to - j
 
-sub-own : tie.Need-sub-own Inv-loop μ-loop
-sub-own c = omega arith
+-- where the wires of a turn's shares stand
+abbrev start : tie.In-loop Inv-loop μ-loop → tie.Start Inv-loop μ-loop
+start c = c .before .before .before
 
-mul-own : tie.Need-mul-own Inv-loop μ-loop
-mul-own c = record { fits = omega arith }
+below : (c : tie.In-loop Inv-loop μ-loop) → c .before .loop .j < start c .args .d
+below c = omega (arith, start c .pre .2)
 
-add-own : tie.Need-add-own Inv-loop μ-loop
-add-own c = record { fits = omega arith }
+site : (c : tie.In-loop Inv-loop μ-loop) → Sites (start c .args .d) (start c .args .first) (start c .args .i) (c .before .loop .j)
+site c = let p = start c .pre in sites _ _ _ _ (p .0 .2) (p .1) (below c) (p .4 (c .before .loop .j) (c .before .loop .inv .low) (c .loop-test .taken))
 
-cell-row-requires : tie.Need-cell-row-requires Inv-loop μ-loop
-cell-row-requires c κs = (omega arith, omega arith, omega arith)
-
-add-start : tie.Need-add-start Inv-loop μ-loop
-add-start c = record { fits = omega arith }
-
-loop-holds : tie.Need-loop-holds Inv-loop μ-loop
-loop-holds c = row-start (c .before .before .args .d) (c .before .before .args .first) (c .before .before .args .i) (c .before .before .args .a) (c .before .before .args .bit) (c .before .before .args .from) (c .before .before .args .to) (c .before .before .args .values .now) (c .before .before .pre .5)
-
-pair-site-requires : tie.Need-pair-site-requires Inv-loop μ-loop
-pair-site-requires c κs = (omega arith, omega arith, omega arith)
-
-mul-r : tie.Need-mul-r Inv-loop μ-loop
-mul-r c = record { fits = omega arith }
-
-add-r : tie.Need-add-r Inv-loop μ-loop
-add-r c = record { fits = omega arith }
-
-slice-read-r : tie.Need-slice-read-r Inv-loop μ-loop
-slice-read-r c = omega (arith, eights (c .before .before .before .before .before .before .args .d) (c .before .before .before .before .before .before .args .d - 1) (omega arith) (omega arith), pair-early (c .before .before .before .before .before .before .args .d) (c .before .before .before .before .before .before .args .first) (c .before .before .before .before .before .before .args .i) (c .before .before .before .loop .j) (c .before .before .before .before .before .before .pre .1) (omega arith) (c .before .before .before .before .before .before .pre .4 (c .before .before .before .loop .j) (c .before .before .before .loop .inv .low) (c .before .before .loop-test .taken)), own-early (c .before .before .before .before .before .before .args .d) (c .before .before .before .before .before .before .args .first) (c .before .before .before .before .before .before .args .d) 0 (omega arith))
-
-mul-b : tie.Need-mul-b Inv-loop μ-loop
-mul-b c = record { fits = omega arith }
-
-add-b : tie.Need-add-b Inv-loop μ-loop
-add-b c = record { fits = omega arith }
-
-slice-read-b : tie.Need-slice-read-b Inv-loop μ-loop
-slice-read-b c = omega arith
-
-mul-cross : tie.Need-mul-cross Inv-loop μ-loop
-mul-cross c = record { fits = omega arith }
-
-add-cross : tie.Need-add-cross Inv-loop μ-loop
-add-cross c = record { fits = omega arith }
-
-cross-requires : tie.Need-cross-requires Inv-loop μ-loop
-cross-requires c κs = omega (arith, eights (c .before .before .before .before .before .before .before .before .before .args .d) (c .before .before .before .before .before .before .before .before .before .args .d - 1) (omega arith) (omega arith), cell-room (c .before .before .before .before .before .before .before .before .before .args .d) (c .before .before .before .before .before .before .before .before .before .args .first) (c .before .before .before .before .before .before .before .before .before .args .i) (c .before .before .before .before .before .before .loop .j) (c .before .before .before .before .before .before .before .before .before .pre .1) (omega arith) (c .before .before .before .before .before .before .before .before .before .pre .4 (c .before .before .before .before .before .before .loop .j) (c .before .before .before .before .before .before .loop .inv .low) (c .before .before .before .before .before .loop-test .taken)))
-
-add-j : tie.Need-add-j Inv-loop μ-loop
-add-j c = record { fits = omega arith }
-
-loop-less : tie.Need-loop-less Inv-loop μ-loop
-loop-less c = omega arith
+room : (c : tie.In-loop Inv-loop μ-loop) → outAt (start c .args .d) (start c .args .first) (start c .args .d) ≤ length (c .before .loop .values)
+room c = omega (arith, start c .pre .3, c .before .loop .inv .fills .size)
 
 loop-again : tie.Need-loop-again Inv-loop μ-loop
 loop-again c =
-    let a = c .before .before .before .before .before .before .before .before .before .before .before .before .args in
-    row-turn-at (a .d) (a .first) (a .i) (a .a) (a .bit) (a .from) (a .to) (c .before .before .before .before .before .before .before .before .before .before .before .before .pre .1) (c .before .before .before .before .before .before .before .before .before .before .before .before .pre .2) (c .before .before .before .before .before .before .before .before .before .before .before .before .pre .4) (a .values .now) (c .before .before .before .before .before .before .before .before .before .loop .values) (c .before .before .before .before .before .before .before .before .before .loop .sum) (c .before .before .before .before .before .before .before .before .before .loop .j) (c .before .before .before .before .before .before .before .before .before .loop .inv) (c .before .before .before .before .before .before .before .before .loop-test .taken)
-    (a .first + 2 * c .before .before .before .before .before .before .before .pair-site .result) (a .first + c .before .before .before .before .before .before .before .before .before .before .cell-row .result + 6 * c .before .before .before .slot .result) (omega arith) (omega arith) _ _ (c .before .before .cross .ensures)
-
-same-length : tie.Need-same-length Inv-loop μ-loop
-same-length c = c .before .loop .inv .fills .size
-
-returns : tie.Need-returns Inv-loop μ-loop
-returns c =
-    let a = c .before .before .before .before .args in
-    row-end (a .d) (a .first) (a .i) (a .a) (a .bit) (a .from) (a .to) (c .before .before .before .before .pre .1) (c .before .before .before .before .pre .2) (c .before .before .before .before .pre .4) (a .values .now) (c .before .loop .values) (c .before .loop .sum) (c .before .loop .j) (c .before .loop .inv) (c .loop-test .left)
+    let x = c .before .before .before in
+    let y = x .before .before .before in
+    let z = y .before .before in
+    let p = start (z .before) .pre in
+    row-turn (z .before .before .loop .inv) (p .1) (p .2) (p .4) (z .before .loop-test .taken) _ _ _ (x .cross-at .ensures .0) (z .pair-at .ensures .0) (y .product-at .ensures .0) (c .before .before .cross .ensures)
 
 pub cross-row-spec : {M : Type 1} → statement M
 cross-row-spec =
@@ -87,25 +42,15 @@ cross-row-spec =
     (tie.spec
     Inv-loop
     μ-loop
-    sub-own
-    mul-own
-    add-own
-    cell-row-requires
-    add-start
-    loop-holds
-    pair-site-requires
-    mul-r
-    add-r
-    slice-read-r
-    mul-b
-    add-b
-    slice-read-b
-    (λ c κs. search needs)
-    mul-cross
-    add-cross
-    cross-requires
-    add-j
-    loop-less
+    (λ c. row-start (c .before .pre .5))
+    (λ c κs. (start c .pre .0, start c .pre .1, below c))
+    (λ c. omega (arith, site (c .before .before), c .before .pair-at .ensures .0, room (c .before .before)))
+    (λ c κs. (start (c .before .before) .pre .0, omega (arith, below (c .before .before))))
+    (λ c. omega (arith, site (c .before .before .before .before), c .before .product-at .ensures .0, room (c .before .before .before .before)))
+    (λ c κs. let t = c .before .before .before .before .before in (start t .pre .0, start t .pre .1, below t))
+    (λ c κs. let t = c .before .before .before .before .before .before in rw (c .cross-at .ensures .0) (omega (arith, site t .room, room t)))
+    (λ c. search needs)
+    (λ c. omega arith)
     loop-again
-    same-length
-    returns)
+    (λ c. c .before .loop .inv .fills .size)
+    (λ c. row-end (c .before .loop .inv) (c .loop-test .left)))

@@ -1,6 +1,7 @@
--- `evaluation::gadget::holds` meets its contract.
+-- The loop's invariant: the outputs of the shares below i are filled in.
 use mathlib.Core.Path.{_≡_, refl, sym, ap, _∙_}
 use Prim.Native.Nat.{_+_, _-_, _≤_}
+use borrow.Author.Needs.{needs}
 use native.Mathlib.Omega.{arith}
 use Rattle.circuit.specs.Lists.{nth}
 use Rattle.circuit.specs.Kinds.{pairs}
@@ -17,35 +18,8 @@ Inv-loop values₀ first d start i₀ values i = (i ≤ d) × Fills (Held d firs
 abbrev μ-loop : tie.MeasureT-loop
 μ-loop values₀ first d start i₀ values i = d - i
 
-pairs-requires : tie.Need-pairs-requires Inv-loop μ-loop
-pairs-requires c κs = (omega arith, omega arith)
-
-add-start : tie.Need-add-start Inv-loop μ-loop
-add-start c = record { fits = omega arith }
-
 loop-holds : tie.Need-loop-holds Inv-loop μ-loop
 loop-holds c = (omega arith, fills-at refl (omega arith) (fills-none (c .before .before .args .first + pairs (c .before .before .args .d) + c .before .before .args .d) (c .before .before .args .values .now)))
-
-add-values : tie.Need-add-values Inv-loop μ-loop
-add-values c = record { fits = omega arith }
-
-slice-read-values : tie.Need-slice-read-values Inv-loop μ-loop
-slice-read-values c = omega arith
-
-add-values-2 : tie.Need-add-values-2 Inv-loop μ-loop
-add-values-2 c = record { fits = omega arith }
-
-add-values-3 : tie.Need-add-values-3 Inv-loop μ-loop
-add-values-3 c = record { fits = omega arith }
-
-slice-write-values : tie.Need-slice-write-values Inv-loop μ-loop
-slice-write-values c = omega arith
-
-add-i : tie.Need-add-i Inv-loop μ-loop
-add-i c = record { fits = omega arith }
-
-loop-less : tie.Need-loop-less Inv-loop μ-loop
-loop-less c = omega arith
 
 loop-again : tie.Need-loop-again Inv-loop μ-loop
 loop-again c =
@@ -60,28 +34,22 @@ loop-again c =
           (λ v e k. known-all (c .before .before .loop .inv .1) v e k (start + i) (omega arith) (omega arith) ∙ ap (λ n. byte (v n)) from ∙ ap byte (sym (e i (c .before .loop-test .taken))) ∙ ap (λ n. byte (v n)) here)),
     )
 
-same-length : tie.Need-same-length Inv-loop μ-loop
-same-length c = c .before .loop .inv .1 .size
-
-returns : tie.Need-returns Inv-loop μ-loop
-returns c = fills-at refl (omega arith) (c .before .loop .inv .1)
-
 pub holds-spec : {M : Type 1} → statement M
 holds-spec =
     tie.close
     (tie.spec
     Inv-loop
     μ-loop
-    pairs-requires
-    add-start
+    (λ c κs. (omega arith, omega arith))
+    (λ c. search needs)
     loop-holds
-    add-values
-    slice-read-values
-    add-values-2
-    add-values-3
-    slice-write-values
-    add-i
-    loop-less
+    (λ c. search needs)
+    (λ c. omega arith)
+    (λ c. search needs)
+    (λ c. search needs)
+    (λ c. omega arith)
+    (λ c. search needs)
+    (λ c. omega arith)
     loop-again
-    same-length
-    returns)
+    (λ c. c .before .loop .inv .1 .size)
+    (λ c. fills-at refl (omega arith) (c .before .loop .inv .1)))

@@ -1,78 +1,34 @@
--- `evaluation::gadget::sums` meets its contract.
-use mathlib.Core.Path.{_≡_, refl, subst}
-use Prim.Native.Nat.{ℕ, _+_, _-_, _≤_}
+-- The loop's invariant: the sums of the shares below i are filled in.
+use mathlib.Core.Path.{_≡_, refl}
+use Prim.Native.Nat.{_+_, _-_, _≤_, _<_}
 use native.Mathlib.Omega.{arith}
-use lib.ListN.{set}
 use borrow.Author.Needs.{needs}
 use Rattle.circuit.specs.Kinds.{pairs}
 use Rattle.simulation.proofs.gadget.sums.Statement.{statement}
 use Rattle.simulation.proofs.gadget.sums.Tie as tie
-use Rattle.simulation.proofs.Gadgets.{masked-turn}
 use Rattle.simulation.specs.Internal.Places.{wordA}
 use Rattle.simulation.specs.Internal.Filling.{Fills, Masked}
+use Rattle.simulation.proofs.Gadgets.{masked-turn}
 use Rattle.simulation.proofs.Filled.{fills-none, fills-at}
 
 abbrev Inv-loop : tie.InvT-loop
-Inv-loop values₀ first d ops start i₀ values i = (i ≤ d) × Fills (Masked d first (wordA ops)) (first + pairs d) (first + pairs d + i) values₀ values
+Inv-loop values₀ first d ops i₀ values i = (i ≤ d) × Fills (Masked d first (wordA ops)) (first + pairs d) (first + pairs d + i) values₀ values
 
 abbrev μ-loop : tie.MeasureT-loop
-μ-loop values₀ first d ops start i₀ values i = d - i
+μ-loop values₀ first d ops i₀ values i = d - i
 
-pairs-requires : tie.Need-pairs-requires Inv-loop μ-loop
-pairs-requires c κs = (omega arith, omega arith)
+-- a turn's wire stands before the gadget
+abbrev entry : tie.In-loop Inv-loop μ-loop → tie.Start Inv-loop μ-loop
+entry c = c .before .before .before .before
 
-add-start : tie.Need-add-start Inv-loop μ-loop
-add-start c = record { fits = omega arith }
-
-loop-holds : tie.Need-loop-holds Inv-loop μ-loop
-loop-holds c = (omega arith, fills-at refl (omega arith) (fills-none (c .before .before .before .args .first + pairs (c .before .before .before .args .d)) (c .before .before .before .args .values .now)))
-
-shared-slice-read-x : tie.Need-shared-slice-read-x Inv-loop μ-loop
-shared-slice-read-x c = omega arith
-
-cast-x : tie.Need-cast-x Inv-loop μ-loop
-cast-x c = record { fits = omega (arith, c .before .before .before .before .before .before .pre .2 (c .before .before .loop .i) (c .before .loop-test .taken)) }
-
-slice-read-a : tie.Need-slice-read-a Inv-loop μ-loop
-slice-read-a c = omega (arith, c .before .before .before .before .before .before .before .pre .2 (c .before .before .before .loop .i) (c .before .before .loop-test .taken))
-
-add-masks-requires : tie.Need-add-masks-requires Inv-loop μ-loop
-add-masks-requires c κs = (c .before .before .before .before .before .before .before .before .pre .0, c .before .before .before .loop-test .taken, omega arith, omega arith, (λ j l u e. omega arith), omega arith)
-
-add-add-masks : tie.Need-add-add-masks Inv-loop μ-loop
-add-add-masks c = record { fits = omega arith }
-
-add-masks-requires-2 : tie.Need-add-masks-requires-2 Inv-loop μ-loop
-add-masks-requires-2 c κs = (c .before .before .before .before .before .before .before .before .before .before .pre .0, c .before .before .before .before .before .loop-test .taken, omega arith, omega arith, (λ j l u e. omega arith), omega arith)
-
-add-values : tie.Need-add-values Inv-loop μ-loop
-add-values c = record { fits = omega arith }
-
-slice-write-values : tie.Need-slice-write-values Inv-loop μ-loop
-slice-write-values c = omega arith
-
-add-i : tie.Need-add-i Inv-loop μ-loop
-add-i c = record { fits = omega arith }
-
-loop-less : tie.Need-loop-less Inv-loop μ-loop
-loop-less c = omega arith
+early : (c : tie.In-loop Inv-loop μ-loop) → wordA (entry c .args .ops .now) (c .before .loop .i) < entry c .args .first
+early c = entry c .pre .2 (c .before .loop .i) (c .loop-test .taken)
 
 loop-again : tie.Need-loop-again Inv-loop μ-loop
 loop-again c =
-    let a = c .before .before .before .before .before .before .before .before .before .before .before .args in
-    let i = c .before .before .before .before .before .before .before .loop .i in
-    let l = c .before .before .before .before .before .before .loop-test .taken in
-    let here : a .first + pairs (a .d) + i ≡ a .first + c .before .before .before .before .before .before .before .before .pairs .result + i = omega arith in (
-      omega arith,
-      subst (λ (n : ℕ). Fills (Masked (a .d) (a .first) (wordA (a .ops .now))) (a .first + pairs (a .d)) (a .first + pairs (a .d) + (i + 1)) (a .values .now) (set (c .before .before .before .before .before .before .before .loop .values) n (c .add-masks2 .result))) here
-          (masked-turn (a .d) (a .first) (wordA (a .ops .now)) (a .values .now) (c .before .before .before .before .before .before .before .loop .values) i l (omega arith) (c .before .before .before .before .before .before .before .before .before .before .before .pre .2 i l) (c .before .before .before .before .before .before .before .loop .inv .1) (c .before .before .add-masks .result) (c .add-masks2 .result) (c .before .before .add-masks .ensures) (c .add-masks2 .ensures)),
-    )
-
-same-length : tie.Need-same-length Inv-loop μ-loop
-same-length c = c .before .loop .inv .1 .size
-
-returns : tie.Need-returns Inv-loop μ-loop
-returns c = fills-at refl (omega arith) (c .before .loop .inv .1)
+    let w = c .before .before .before .before .before .before in
+    let t = w .before in
+    (omega arith, masked-turn (t .before .loop .inv .1) (t .loop-test .taken) (omega (arith, entry t .pre .3)) (early t) _ _ (w .word-a .ensures) (c .sum-at .ensures .0) (c .before .before .before .add-masks .ensures) (c .before .add-masks2 .ensures))
 
 pub sums-spec : {M : Type 1} → statement M
 sums-spec =
@@ -80,21 +36,16 @@ sums-spec =
     (tie.spec
     Inv-loop
     μ-loop
-    pairs-requires
-    add-start
-    loop-holds
+    (λ c. (omega arith, fills-at refl (omega arith) (fills-none (c .before .before .args .first + pairs (c .before .before .args .d)) _)))
+    (λ c κs. omega arith)
+    (λ c. omega (arith, early (c .before .before), c .before .word-a .ensures))
+    (λ c κs. let t = c .before .before .before in (entry t .pre .0, t .loop-test .taken, omega arith, omega arith, (λ j l u e. omega arith), omega arith))
     (λ c. search needs)
+    (λ c κs. let t = c .before .before .before .before .before in (entry t .pre .0, t .loop-test .taken, omega arith, omega arith, (λ j l u e. omega arith), omega arith))
+    (λ c κs. (entry (c .before .before .before .before .before .before) .pre .0, omega arith))
+    (λ c. let t = c .before .before .before .before .before .before .before in omega (arith, c .sum-at .ensures .0, t .before .loop .inv .1 .size, entry t .pre .3))
     (λ c. search needs)
-    shared-slice-read-x
-    cast-x
-    slice-read-a
-    add-masks-requires
-    add-add-masks
-    add-masks-requires-2
-    add-values
-    slice-write-values
-    add-i
-    loop-less
+    (λ c. omega arith)
     loop-again
-    same-length
-    returns)
+    (λ c. c .before .loop .inv .1 .size)
+    (λ c. fills-at refl (omega arith) (c .before .loop .inv .1)))

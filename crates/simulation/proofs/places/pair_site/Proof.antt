@@ -1,4 +1,4 @@
--- `evaluation::places::pair_site` meets its contract.
+-- Of two different shares the lower decides the row.
 use mathlib.Core.Path.{ap}
 use Prim.Native.Nat.{_+_, _-_}
 use native.Mathlib.Omega.{arith}

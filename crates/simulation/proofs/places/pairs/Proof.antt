@@ -1,17 +1,15 @@
--- `evaluation::places::pairs` meets its contract.
+-- Small numbers: no sum and no product wraps.
 use mathlib.Core.Path.{refl}
-use Prim.Native.Nat.{_-_}
+use Prim.Native.Nat.{_-_, _*_, _≤_}
 use native.Mathlib.Omega.{arith}
 use borrow.Author.Needs.{needs}
+use Rattle.simulation.proofs.Bounds.{eights}
 use Rattle.simulation.proofs.places.pairs.Statement.{statement}
 use Rattle.simulation.proofs.places.pairs.Tie as tie
-use Rattle.simulation.proofs.Bounds.{eights}
 
-mul-result : tie.Need-mul-result
-mul-result c = record { fits = omega (arith, eights (c .args .d) (c .args .d - 1) (omega arith) (omega arith)) }
-
-returns : tie.Need-returns
-returns c = (refl, omega (arith, eights (c .args .d) (c .args .d - 1) (omega arith) (omega arith)))
+few : (s : tie.Start) → s .args .d * (s .args .d - 1) ≤ 64
+few s = eights (s .args .d) (s .args .d - 1) (omega arith) (omega arith)
 
 pub pairs-spec : {M : Type 1} → statement M
-pairs-spec = tie.close (tie.spec (λ c. search needs) mul-result returns)
+pairs-spec = tie.close
+    (tie.spec (λ c. search needs) (λ c. record { fits = omega (arith, few c) }) (λ c. (refl, omega (arith, few c))))

@@ -1,4 +1,4 @@
--- `evaluation::places::row_start` meets its contract.
+-- Small numbers: no sum and no product wraps.
 use mathlib.Core.Path.{refl}
 use Prim.Native.Nat.{_*_, _-_}
 use native.Mathlib.Omega.{arith}
@@ -7,11 +7,5 @@ use Rattle.simulation.proofs.Bounds.{sixteens}
 use Rattle.simulation.proofs.places.row_start.Statement.{statement}
 use Rattle.simulation.proofs.places.row_start.Tie as tie
 
-mul-result-2 : tie.Need-mul-result-2
-mul-result-2 c = record { fits = omega (arith, sixteens (c .args .i) (2 * c .args .d - c .args .i - 1) (omega arith) (omega arith)) }
-
-returns : tie.Need-returns
-returns c = (refl, omega (arith, sixteens (c .args .i) (2 * c .args .d - c .args .i - 1) (omega arith) (omega arith)))
-
 pub row-start-spec : {M : Type 1} → statement M
-row-start-spec = tie.close (tie.spec (λ c. search needs) (λ c. search needs) (λ c. search needs) mul-result-2 returns)
+row-start-spec = tie.close (tie.spec (λ c. search needs) (λ c. search needs) (λ c. search needs) (λ c. record { fits = omega (arith, sixteens (c .args .i) (2 * c .args .d - c .args .i - 1) (omega arith) (omega arith)) }) (λ c. (refl, omega (arith, sixteens (c .args .i) (2 * c .args .d - c .args .i - 1) (omega arith) (omega arith)))))

@@ -1,15 +1,9 @@
--- `evaluation::places::slot` meets its contract.
+-- The shares above i stand one slot lower.
 use native.Mathlib.Omega.{arith}
 use borrow.Author.Tests.{lt-ltb, le-ltb}
 use borrow.Author.Needs.{needs}
 use Rattle.simulation.proofs.places.slot.Statement.{statement}
 use Rattle.simulation.proofs.places.slot.Tie as tie
 
-returns : tie.Need-returns
-returns c = (rw (lt-ltb _ _ (c .if1 .taken)), omega arith)
-
-returns-2 : tie.Need-returns-2
-returns-2 c = (rw (le-ltb _ _ (c .if1 .left)), omega arith)
-
 pub slot-spec : {M : Type 1} → statement M
-slot-spec = tie.close (tie.spec (λ c. search needs) returns returns-2)
+slot-spec = tie.close (tie.spec (λ c. search needs) (λ c. (rw (lt-ltb _ _ (c .if1 .taken)), omega arith)) (λ c. (rw (le-ltb _ _ (c .if1 .left)), omega arith)))

@@ -1,58 +1,51 @@
--- `evaluation::reach::mark_masks` meets its contract.
+-- The loop's invariant: marking all random bits comes to marking those from j on.
 use mathlib.Core.Path.{_≡_, refl, sym, ap, _∙_}
 use mathlib.Core.List.{map}
-use Prim.Native.Nat.{_+_, _-_, _≤_}
+use Prim.Native.Nat.{_+_, _-_, _≤_, _<_}
 use native.Mathlib.Omega.{arith}
 use lib.ListN.{length, set, length-set}
+use borrow.Author.Needs.{needs}
 use Rattle.circuit.specs.Lists.{range}
 use Rattle.simulation.proofs.reach.mark_masks.Statement.{statement}
 use Rattle.simulation.proofs.reach.mark_masks.Tie as tie
 use Rattle.simulation.specs.Internal.Places.{maskAt}
 use Rattle.simulation.specs.Internal.Marks.{markAll}
-use Rattle.simulation.proofs.Moved.{masks-turn, masks-end}
-use Rattle.simulation.proofs.Sites.{pair-lt}
+use Rattle.simulation.proofs.Adding.{range-turn, range-end}
+use Rattle.simulation.proofs.Gadgets.{mask-lt}
 
 abbrev Inv-loop : tie.InvT-loop
-Inv-loop marks₀ first d i from to j₀ marks j = (from ≤ j) × (j ≤ to) × (markAll marks (map (maskAt d first i) (range j (to - j))) ≡ markAll marks₀ (map (maskAt d first i) (range from (to - from)))) × (length marks ≡ length marks₀)
+Inv-loop marks₀ first d i from to j₀ marks j = (from ≤ j) × (j ≤ to) × (length marks ≡ length marks₀)
+    × (markAll marks (map (maskAt d first i) (range j (to - j))) ≡ markAll marks₀ (map (maskAt d first i) (range from (to - from))))
 
 abbrev μ-loop : tie.MeasureT-loop
 μ-loop marks₀ first d i from to j₀ marks j = to - j
 
-loop-holds : tie.Need-loop-holds Inv-loop μ-loop
-loop-holds c = (omega arith, c .before .pre .5, refl, refl)
+-- a turn's random bit stands among the pairs
+abbrev start : tie.In-loop Inv-loop μ-loop → tie.Start Inv-loop μ-loop
+start c = c .before .before .before
 
-pair-site-requires : tie.Need-pair-site-requires Inv-loop μ-loop
-pair-site-requires c κs = (omega arith, omega arith, omega arith)
-
-add-marks : tie.Need-add-marks Inv-loop μ-loop
-add-marks c = record { fits = omega arith }
+below : (c : tie.In-loop Inv-loop μ-loop) → c .before .loop .j < start c .args .d
+below c = omega (arith, start c .pre .2)
 
 slice-write-marks : tie.Need-slice-write-marks Inv-loop μ-loop
-slice-write-marks c = omega (arith, pair-lt (c .before .before .before .before .args .d) (c .before .before .before .before .args .i) (c .before .before .loop .j) (c .before .before .before .before .pre .1) (omega arith) (c .before .before .before .before .pre .4 (c .before .before .loop .j) (c .before .before .loop .inv .0) (c .before .loop-test .taken)))
-
-add-j : tie.Need-add-j Inv-loop μ-loop
-add-j c = record { fits = omega arith }
-
-loop-less : tie.Need-loop-less Inv-loop μ-loop
-loop-less c = omega arith
+slice-write-marks c =
+    let t = c .before in
+    let s = start t in
+    let j = t .before .loop .j in
+    omega (arith, c .mask-at .ensures .0, s .pre .3, mask-lt (s .args .d) (s .args .first) (s .args .i) j (s .pre .1) (below t) (s .pre .4 j (t .before .loop .inv .0) (t .loop-test .taken)))
 
 loop-again : tie.Need-loop-again Inv-loop μ-loop
 loop-again c =
-    let a = c .before .before .before .before .args in
     let l = c .before .before .loop in
-    let p : a .first + c .pair-site .result ≡ maskAt (a .d) (a .first) (a .i) (l .j) = omega arith in (
-      omega arith,
-      omega arith,
-      ap (λ n. markAll (set (l .marks) n 1) (map (maskAt (a .d) (a .first) (a .i)) (range (l .j + 1) (a .to - (l .j + 1))))) p
-          ∙ sym (ap (markAll (l .marks)) (masks-turn (maskAt (a .d) (a .first) (a .i)) (a .to) (l .j) (c .before .loop-test .taken))) ∙ l .inv .2,
-      length-set (l .marks) (a .first + c .pair-site .result) 1 ∙ l .inv .3,
-    )
-
-same-length : tie.Need-same-length Inv-loop μ-loop
-same-length c = c .before .loop .inv .3
+    let a = start (c .before) .args in
+    let f = maskAt (a .d) (a .first) (a .i) in
+    (omega arith, omega arith, length-set (l .marks) _ 1 ∙ l .inv .2, rw (c .mask-at .ensures .0) (sym (ap (λ r. markAll (l .marks) (map f r)) (range-turn (a .to) (l .j) (c .before .loop-test .taken))) ∙ l .inv .3))
 
 returns : tie.Need-returns Inv-loop μ-loop
-returns c = sym (ap (markAll (c .before .loop .marks)) (masks-end (maskAt (c .before .before .before .args .d) (c .before .before .before .args .first) (c .before .before .before .args .i)) (c .before .before .before .args .to) (c .before .loop .j) (c .loop-test .left))) ∙ c .before .loop .inv .2
+returns c =
+    let l = c .before .loop in
+    let a = c .before .before .before .args in
+    sym (ap (λ r. markAll (l .marks) (map (maskAt (a .d) (a .first) (a .i)) r)) (range-end (a .to) (l .j) (c .loop-test .left))) ∙ l .inv .3
 
 pub mark-masks-spec : {M : Type 1} → statement M
 mark-masks-spec =
@@ -60,12 +53,11 @@ mark-masks-spec =
     (tie.spec
     Inv-loop
     μ-loop
-    loop-holds
-    pair-site-requires
-    add-marks
+    (λ c. (omega arith, c .before .pre .5, refl, refl))
+    (λ c κs. (start c .pre .0, start c .pre .1, below c))
     slice-write-marks
-    add-j
-    loop-less
+    (λ c. search needs)
+    (λ c. omega arith)
     loop-again
-    same-length
+    (λ c. c .before .loop .inv .2)
     returns)

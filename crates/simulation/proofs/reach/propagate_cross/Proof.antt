@@ -1,56 +1,28 @@
--- `evaluation::reach::propagate_cross` meets its contract.
-use mathlib.Core.Path.{sym, ap, subst, _∙_}
-use mathlib.Core.List.{List, [], _∷_}
-use Prim.Native.Nat.{ℕ, _+_}
+-- The marks of w, v and u go on one after the other.
+use mathlib.Core.Path.{_∙_}
+use borrow.Author.Needs.{needs}
 use native.Mathlib.Omega.{arith}
-use lib.ListN.{length}
 use Rattle.simulation.proofs.reach.propagate_cross.Statement.{statement}
 use Rattle.simulation.proofs.reach.propagate_cross.Tie as tie
-use Rattle.simulation.specs.Internal.Marks.{propagated, Moves}
-use Rattle.simulation.proofs.Moved.{handed-length, cell-moved}
-use Rattle.simulation.specs.Internal.Gates.{CellGates}
-
-add-propagate : tie.Need-add-propagate
-add-propagate c = record { fits = omega arith }
-
-add-propagate-2 : tie.Need-add-propagate-2
-add-propagate-2 c = record { fits = omega arith }
-
-propagate-requires : tie.Need-propagate-requires
-propagate-requires c κs = (omega arith, omega arith, omega arith)
-
-add-propagate-3 : tie.Need-add-propagate-3
-add-propagate-3 c = record { fits = omega arith }
-
-propagate-requires-2 : tie.Need-propagate-requires-2
-propagate-requires-2 c κs = (omega arith, omega arith, omega arith)
-
-add-propagate-4 : tie.Need-add-propagate-4
-add-propagate-4 c = record { fits = omega arith }
-
-propagate-requires-3 : tie.Need-propagate-requires-3
-propagate-requires-3 c κs = (omega arith, omega arith, omega arith)
-
-same-length : tie.Need-same-length
-same-length c = (ap length (c .before .before .propagate3 .ensures) ∙ handed-length (c .before .before .before .before .before .before .before .before .before .before .before .before .before .args .at) (c .before .before .before .before .before .before .before .before .before .before .before .before .before .args .a ∷ (c .before .before .before .before .before .before .before .before .before .before .before .before .before .args .r + 1) ∷ []) (c .before .before .before .before .before .before .propagate2 .last .0)) ∙ (ap length (c .before .before .before .before .before .before .propagate2 .ensures) ∙ handed-length (c .before .before .before .before .before .before .before .before .before .before .before .before .before .args .at + 2) (c .before .before .before .before .before .before .before .before .before .before .before .before .before .args .b ∷ c .before .before .before .before .before .before .before .before .before .before .before .before .before .args .r ∷ []) (c .before .before .before .before .before .before .before .before .before .before .propagate .last .0)) ∙ (ap length (c .before .before .before .before .before .before .before .before .before .before .propagate .ensures) ∙ handed-length (c .before .before .before .before .before .before .before .before .before .before .before .before .before .args .at + 4) (c .before .before .before .before .before .before .before .before .before .before .before .before .before .args .a ∷ (c .before .before .before .before .before .before .before .before .before .before .before .before .before .args .at + 3) ∷ []) (c .before .before .before .before .before .before .before .before .before .before .before .before .before .args .marks .now))
+use Rattle.simulation.proofs.Moved.{cross-moved}
 
 returns : tie.Need-returns
 returns c =
-    let a = c .before .before .before .before .before .before .before .before .before .before .before .before .before .args in
-    subst (λ (n : List ℕ). Moves (CellGates (a .at) (a .a) (a .b) (a .r)) (a .at) (a .at + 6) (a .marks .now) n)
-    (sym (c .before .before .propagate3 .ensures ∙ ap (propagated (a .at) (a .a ∷ (a .r + 1) ∷ [])) (c .before .before .before .before .before .before .propagate2 .ensures ∙ ap (propagated (a .at + 2) (a .b ∷ a .r ∷ [])) (c .before .before .before .before .before .before .before .before .before .before .propagate .ensures))))
-    (cell-moved (a .at) (a .a) (a .b) (a .r) (a .marks .now))
+    let two = c .before .before .before .before .before .before in
+    let one = two .before .before .before .before in
+    let a = one .before .before .before .args in
+    cross-moved (a .at) (a .a) (a .b) (a .r) (a .marks .now) (one .propagate .ensures) (two .propagate2 .ensures) (c .before .before .propagate3 .ensures)
 
 pub propagate-cross-spec : {M : Type 1} → statement M
 propagate-cross-spec =
     tie.close
     (tie.spec
-    add-propagate
-    add-propagate-2
-    propagate-requires
-    add-propagate-3
-    propagate-requires-2
-    add-propagate-4
-    propagate-requires-3
-    same-length
+    (λ c. search needs)
+    (λ c. search needs)
+    (λ c κs. (omega arith, omega arith, omega arith))
+    (λ c. search needs)
+    (λ c κs. (omega arith, omega arith, omega arith))
+    (λ c. search needs)
+    (λ c κs. (omega arith, omega arith, omega arith))
+    (λ c. let two = c .before .before .before .before .before .before in c .before .before .propagate3 .kept .0 ∙ two .propagate2 .kept .0 ∙ two .before .before .before .before .propagate .kept .0)
     returns)

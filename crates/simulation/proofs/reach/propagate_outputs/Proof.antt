@@ -1,14 +1,13 @@
--- `evaluation::reach::propagate_outputs` meets its contract.
-use mathlib.Core.Path.{refl, sym, subst}
-use mathlib.Core.List.{List}
-use Prim.Native.Nat.{ℕ, _+_, _-_, _≤_}
+-- The loop's invariant: the marks of the outputs from i on are moved on.
+use mathlib.Core.Path.{refl}
+use Prim.Native.Nat.{_-_, _≤_}
 use native.Mathlib.Omega.{arith}
 use Rattle.simulation.proofs.reach.propagate_outputs.Statement.{statement}
 use Rattle.simulation.proofs.reach.propagate_outputs.Tie as tie
 use Rattle.simulation.specs.Internal.Places.{outAt}
-use Rattle.simulation.specs.Internal.Marks.{Moves}
-use Rattle.simulation.proofs.Moved.{moves-none, moves-then, moves-at, out-moved}
 use Rattle.simulation.specs.Internal.Gates.{OutGates}
+use Rattle.simulation.specs.Internal.Marks.{Moves}
+use Rattle.simulation.proofs.Moved.{moves-none, moves-at, outs-moved}
 
 abbrev Inv-loop : tie.InvT-loop
 Inv-loop marks₀ first d i₀ marks i = (i ≤ d) × Moves (OutGates d first) (outAt d first i) (outAt d first d) marks₀ marks
@@ -16,33 +15,11 @@ Inv-loop marks₀ first d i₀ marks i = (i ≤ d) × Moves (OutGates d first) (
 abbrev μ-loop : tie.MeasureT-loop
 μ-loop marks₀ first d i₀ marks i = i
 
-loop-holds : tie.Need-loop-holds Inv-loop μ-loop
-loop-holds c = (omega arith, moves-none (outAt (c .before .args .d) (c .before .args .first) (c .before .args .d)) (c .before .args .marks .now))
-
-sub-i : tie.Need-sub-i Inv-loop μ-loop
-sub-i c = omega arith
-
-propagate-output-requires : tie.Need-propagate-output-requires Inv-loop μ-loop
-propagate-output-requires c κs = (c .before .before .before .before .pre .0, omega arith, omega arith)
-
-loop-less : tie.Need-loop-less Inv-loop μ-loop
-loop-less c = omega arith
-
 loop-again : tie.Need-loop-again Inv-loop μ-loop
 loop-again c =
-    let a = c .before .before .before .before .before .before .before .args in
     let l = c .before .before .before .before .before .loop in
-    let i = l .i - 1 in (
-      omega arith,
-      moves-then (omega arith) (l .inv .1) (moves-at refl (omega arith)
-          (subst (λ (n : List ℕ). Moves (OutGates (a .d) (a .first)) (outAt (a .d) (a .first) i) (outAt (a .d) (a .first) (i + 1)) (l .marks) n) (sym (c .before .before .propagate-output .ensures)) (out-moved (a .d) (a .first) i (l .marks) (omega arith)))),
-    )
-
-same-length : tie.Need-same-length Inv-loop μ-loop
-same-length c = c .before .loop .inv .1 .size
-
-returns : tie.Need-returns Inv-loop μ-loop
-returns c = moves-at (omega arith) refl (c .before .loop .inv .1)
+    let a = c .before .before .before .before .before .before .before .args in
+    (omega arith, outs-moved (a .d) (a .first) (l .i - 1) (omega arith) (omega arith) (l .inv .1) (c .before .before .propagate-output .ensures))
 
 pub propagate-outputs-spec : {M : Type 1} → statement M
 propagate-outputs-spec =
@@ -50,10 +27,10 @@ propagate-outputs-spec =
     (tie.spec
     Inv-loop
     μ-loop
-    loop-holds
-    sub-i
-    propagate-output-requires
-    loop-less
+    (λ c. (omega arith, moves-none _ _))
+    (λ c. omega arith)
+    (λ c κs. (c .before .before .before .before .pre .0, omega arith, omega arith))
+    (λ c. omega arith)
     loop-again
-    same-length
-    returns)
+    (λ c. c .before .loop .inv .1 .size)
+    (λ c. moves-at (omega arith) refl (c .before .loop .inv .1)))

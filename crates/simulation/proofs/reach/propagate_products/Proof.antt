@@ -1,82 +1,48 @@
--- `evaluation::reach::propagate_products` meets its contract.
-use mathlib.Core.Path.{refl, sym, ap, subst}
-use mathlib.Core.List.{List}
-use Prim.Native.Nat.{ℕ, _+_, _-_, _≤_, _<_}
+-- The loop's invariant: the marks of the shares from i on are moved on.
+use mathlib.Core.Path.{_≡_, refl, ap}
+use Prim.Native.Nat.{_+_, _-_, _≤_, _<_}
 use native.Mathlib.Omega.{arith}
 use borrow.Author.Needs.{needs}
 use Rattle.simulation.proofs.reach.propagate_products.Statement.{statement}
 use Rattle.simulation.proofs.reach.propagate_products.Tie as tie
-use Rattle.simulation.proofs.Bounds.{eights}
-use Rattle.simulation.specs.Internal.Places.{wordA, wordB, ownAt}
+use Rattle.simulation.specs.Internal.Places.{wordA, wordB, productAt}
+use Rattle.simulation.specs.Internal.Gates.{ProductsGates}
 use Rattle.simulation.specs.Internal.Marks.{Moves}
-use Rattle.simulation.proofs.Moved.{moves-none, moves-then, moves-for, moves-at, own-moved, zero-is}
-use Rattle.simulation.specs.Internal.Gates.{OwnGates, OwnsGates}
-use Rattle.simulation.proofs.Rows.{own-early}
+use Rattle.simulation.proofs.Moved.{moves-none, moves-at, products-moved, below-is}
+use Rattle.simulation.proofs.Rows.{ShareOf, share-of}
 
 abbrev Inv-loop : tie.InvT-loop
-Inv-loop marks₀ first d ops start i₀ marks i = (i ≤ d) × Moves (OwnsGates d first (wordA ops) (wordB d ops)) (ownAt d first i) (ownAt d first d) marks₀ marks
+Inv-loop marks₀ first d ops i₀ marks i = (i ≤ d) × Moves (ProductsGates d first (wordA ops) (wordB d ops)) (productAt d first i) (productAt d first d) marks₀ marks
 
 abbrev μ-loop : tie.MeasureT-loop
-μ-loop marks₀ first d ops start i₀ marks i = i
+μ-loop marks₀ first d ops i₀ marks i = i
 
-sub-start : tie.Need-sub-start Inv-loop μ-loop
-sub-start c = omega arith
+-- a turn's numbers, and its wire a, which stands before the gadget
+abbrev start : tie.In-loop Inv-loop μ-loop → tie.Start Inv-loop μ-loop
+start c = c .before .before .before .before
 
-mul-start : tie.Need-mul-start Inv-loop μ-loop
-mul-start c = record { fits = omega arith }
+below : (c : tie.In-loop Inv-loop μ-loop) → c .before .loop .i - 1 < start c .args .d
+below c = omega (arith, c .before .loop .inv .0)
 
-add-start : tie.Need-add-start Inv-loop μ-loop
-add-start c = record { fits = omega arith }
-
-loop-holds : tie.Need-loop-holds Inv-loop μ-loop
-loop-holds c = (omega arith, moves-none (ownAt (c .before .before .args .d) (c .before .before .args .first) (c .before .before .args .d)) (c .before .before .args .marks .now))
-
-sub-i : tie.Need-sub-i Inv-loop μ-loop
-sub-i c = omega arith
-
-add-a : tie.Need-add-a Inv-loop μ-loop
-add-a c = record { fits = omega arith }
-
-shared-slice-read-a : tie.Need-shared-slice-read-a Inv-loop μ-loop
-shared-slice-read-a c = omega arith
-
-cast-a : tie.Need-cast-a Inv-loop μ-loop
-cast-a c = record { fits = omega (arith, eights (c .before .before .before .before .before .args .d) (c .before .before .before .before .before .args .d - 1) (omega arith) (omega arith), c .before .before .before .before .before .pre .3 (c .before .before .loop .i - 1) (omega arith), own-early (c .before .before .before .before .before .args .d) (c .before .before .before .before .before .args .first) (c .before .before .before .before .before .args .d) (c .before .before .loop .i - 1) (omega arith)) }
-
-mul-own : tie.Need-mul-own Inv-loop μ-loop
-mul-own c = record { fits = omega arith }
-
-add-own : tie.Need-add-own Inv-loop μ-loop
-add-own c = record { fits = omega arith }
-
-add-propagate : tie.Need-add-propagate Inv-loop μ-loop
-add-propagate c = record { fits = omega arith }
+share : (c : tie.In-loop Inv-loop μ-loop) → ShareOf (start c .args .d) (start c .args .first) (c .before .loop .i - 1)
+share c = share-of _ _ _ (start c .pre .0 .2) (below c)
 
 propagate-requires : tie.Need-propagate-requires Inv-loop μ-loop
-propagate-requires c κs = (omega (arith, eights (c .before .before .before .before .before .before .args .d) (c .before .before .before .before .before .before .args .d - 1) (omega arith) (omega arith), c .before .before .before .before .before .before .pre .3 (c .before .before .before .loop .i - 1) (omega arith), own-early (c .before .before .before .before .before .before .args .d) (c .before .before .before .before .before .before .args .first) (c .before .before .before .before .before .before .args .d) (c .before .before .before .loop .i - 1) (omega arith)), omega (arith, eights (c .before .before .before .before .before .before .args .d) (c .before .before .before .before .before .before .args .d - 1) (omega arith) (omega arith), c .before .before .before .before .before .before .pre .3 (c .before .before .before .loop .i - 1) (omega arith), own-early (c .before .before .before .before .before .before .args .d) (c .before .before .before .before .before .before .args .first) (c .before .before .before .before .before .before .args .d) (c .before .before .before .loop .i - 1) (omega arith)), omega (arith, eights (c .before .before .before .before .before .before .args .d) (c .before .before .before .before .before .before .args .d - 1) (omega arith) (omega arith), c .before .before .before .before .before .before .pre .3 (c .before .before .before .loop .i - 1) (omega arith), own-early (c .before .before .before .before .before .before .args .d) (c .before .before .before .before .before .before .args .first) (c .before .before .before .before .before .before .args .d) (c .before .before .before .loop .i - 1) (omega arith)))
-
-loop-less : tie.Need-loop-less Inv-loop μ-loop
-loop-less c = omega arith
+propagate-requires c κs =
+    let w = c .before .before in
+    let t = w .before in
+    let early = start t .pre .3 (t .before .loop .i - 1) (below t) in
+    let q = share t in
+    let size = t .before .loop .inv .1 .size in
+    let at = c .before .product-at .ensures .0 in
+    (omega (arith, start t .pre .1), omega (arith, start t .pre .1, w .word-a .ensures), omega (arith, start t .pre .1))
 
 loop-again : tie.Need-loop-again Inv-loop μ-loop
 loop-again c =
-    let a = c .before .before .before .before .before .before .before .before .before .args in
-    let l = c .before .before .before .before .before .before .loop in
-    let i = l .i - 1 in
-    let x = ownAt (a .d) (a .first) i in
-    let lt : i < a .d = omega arith in (
-      omega arith,
-      moves-then (omega arith) (l .inv .1) (moves-at refl (omega arith) (moves-for (λ g h. h i lt)
-          (subst (λ (n : List ℕ). Moves (OwnGates x (wordA (a .ops .now) i) (wordB (a .d) (a .ops .now) i)) x (x + 3) (l .marks) n) (sym (c .before .before .propagate .ensures)) (own-moved x (wordA (a .ops .now) i) (wordB (a .d) (a .ops .now) i) (l .marks))))),
-    )
-
-same-length : tie.Need-same-length Inv-loop μ-loop
-same-length c = c .before .loop .inv .1 .size
-
-returns : tie.Need-returns Inv-loop μ-loop
-returns c =
-    let a = c .before .before .before .before .args in
-    moves-at (ap (ownAt (a .d) (a .first)) (zero-is (c .before .loop .i) (c .loop-test .left))) refl (c .before .loop .inv .1)
+    let p = c .before .before .before .before in
+    let t = p .before .before in
+    let a = start t .args in
+    (omega arith, products-moved (a .d) (a .first) (wordA (a .ops .now)) (wordB (a .d) (a .ops .now)) (t .before .loop .i - 1) (below t) (omega arith) (t .before .loop .inv .1) _ _ (p .product-at .ensures .0) (p .before .word-a .ensures) (c .before .before .propagate .ensures))
 
 pub propagate-products-spec : {M : Type 1} → statement M
 propagate-products-spec =
@@ -84,20 +50,13 @@ propagate-products-spec =
     (tie.spec
     Inv-loop
     μ-loop
-    sub-start
-    mul-start
-    add-start
-    loop-holds
-    sub-i
-    add-a
+    (λ c. (omega arith, moves-none _ _))
+    (λ c. omega arith)
+    (λ c κs. omega arith)
+    (λ c κs. (start (c .before) .pre .0, omega (arith, below (c .before))))
     (λ c. search needs)
-    shared-slice-read-a
-    cast-a
-    mul-own
-    add-own
-    add-propagate
     propagate-requires
-    loop-less
+    (λ c. omega arith)
     loop-again
-    same-length
-    returns)
+    (λ c. c .before .loop .inv .1 .size)
+    (λ c. let a = c .before .before .before .before .args in moves-at (ap (productAt (a .d) (a .first)) (below-is _ 0 (omega arith) (c .loop-test .left))) refl (c .before .loop .inv .1)))

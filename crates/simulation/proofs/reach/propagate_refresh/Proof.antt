@@ -1,16 +1,15 @@
--- `evaluation::reach::propagate_refresh` meets its contract.
-use mathlib.Core.Path.{refl, sym, ap, subst}
-use mathlib.Core.List.{List}
-use Prim.Native.Nat.{ℕ, _+_, _-_, _*_, _≤_}
+-- The loop's invariant: the marks of the sums from i on are moved on.
+use mathlib.Core.Path.{_≡_, refl, ap}
+use Prim.Native.Nat.{_+_, _-_, _*_, _≤_}
 use native.Mathlib.Omega.{arith}
 use borrow.Author.Needs.{needs}
 use Rattle.circuit.specs.Kinds.{pairs}
 use Rattle.simulation.proofs.reach.propagate_refresh.Statement.{statement}
 use Rattle.simulation.proofs.reach.propagate_refresh.Tie as tie
 use Rattle.simulation.specs.Internal.Places.{wordA, sumAt}
-use Rattle.simulation.specs.Internal.Marks.{Moves}
-use Rattle.simulation.proofs.Moved.{moves-then, moves-at, sum-moved, held-moved, drawn-moved, zero-is}
 use Rattle.simulation.specs.Internal.Gates.{RefGates}
+use Rattle.simulation.specs.Internal.Marks.{Moves}
+use Rattle.simulation.proofs.Moved.{moves-then, moves-at, sums-moved, held-moved, drawn-moved, below-is}
 
 abbrev Inv-loop : tie.InvT-loop
 Inv-loop marks₀ first d ops i₀ marks i = (i ≤ d) × Moves (λ g. RefGates g d first (wordA ops)) (sumAt d first i) (first + (pairs d + 2 * d)) marks₀ marks
@@ -18,44 +17,23 @@ Inv-loop marks₀ first d ops i₀ marks i = (i ≤ d) × Moves (λ g. RefGates 
 abbrev μ-loop : tie.MeasureT-loop
 μ-loop marks₀ first d ops i₀ marks i = i
 
-loop-holds : tie.Need-loop-holds Inv-loop μ-loop
-loop-holds c = (omega arith, held-moved (c .before .before .args .d) (c .before .before .args .first) (wordA (c .before .before .args .ops .now)) (c .before .before .args .marks .now))
-
-sub-i : tie.Need-sub-i Inv-loop μ-loop
-sub-i c = omega arith
-
-add-a : tie.Need-add-a Inv-loop μ-loop
-add-a c = record { fits = omega arith }
-
-shared-slice-read-a : tie.Need-shared-slice-read-a Inv-loop μ-loop
-shared-slice-read-a c = omega arith
-
-cast-a : tie.Need-cast-a Inv-loop μ-loop
-cast-a c = record { fits = omega (arith, c .before .before .before .before .before .pre .3 (c .before .before .loop .i - 1) (omega arith)) }
-
 propagate-sum-requires : tie.Need-propagate-sum-requires Inv-loop μ-loop
-propagate-sum-requires c κs = (c .before .before .before .before .before .before .pre .0, omega arith, c .before .before .before .before .before .before .pre .3 (c .before .before .before .loop .i - 1) (omega arith), omega arith)
-
-loop-less : tie.Need-loop-less Inv-loop μ-loop
-loop-less c = omega arith
+propagate-sum-requires c κs =
+    let l = c .before .before .before .loop in
+    let s = c .before .before .before .before .before .before in
+    (s .pre .0, omega arith, omega (arith, c .before .word-a .ensures, s .pre .3 (l .i - 1) (omega arith)), omega (arith, l .inv .1 .size))
 
 loop-again : tie.Need-loop-again Inv-loop μ-loop
 loop-again c =
-    let a = c .before .before .before .before .before .before .before .before .before .args in
-    let l = c .before .before .before .before .before .before .loop in
-    let i = l .i - 1 in (
-      omega arith,
-      moves-then (omega arith) (l .inv .1) (moves-at refl (omega arith)
-          (subst (λ (n : List ℕ). Moves (λ g. RefGates g (a .d) (a .first) (wordA (a .ops .now))) (sumAt (a .d) (a .first) i) (sumAt (a .d) (a .first) (i + 1)) (l .marks) n) (sym (c .before .before .propagate-sum .ensures)) (sum-moved (a .d) (a .first) (wordA (a .ops .now)) i (l .marks) (omega arith)))),
-    )
-
-same-length : tie.Need-same-length Inv-loop μ-loop
-same-length c = c .before .loop .inv .1 .size
+    let w = c .before .before .before .before in
+    let l = w .before .before .loop in
+    let a = w .before .before .before .before .before .args in
+    (omega arith, sums-moved (a .d) (a .first) (wordA (a .ops .now)) (l .i - 1) (omega arith) (omega arith) (l .inv .1) _ (w .word-a .ensures) (c .before .before .propagate-sum .ensures) (omega arith))
 
 returns : tie.Need-returns Inv-loop μ-loop
 returns c =
     let a = c .before .before .before .before .args in
-    moves-then (omega arith) (moves-at (ap (sumAt (a .d) (a .first)) (zero-is (c .before .loop .i) (c .loop-test .left))) refl (c .before .loop .inv .1)) (drawn-moved (a .d) (a .first) (wordA (a .ops .now)) (c .before .loop .marks))
+    moves-then (omega arith) (moves-at (ap (sumAt (a .d) (a .first)) (below-is _ 0 (omega arith) (c .loop-test .left))) refl (c .before .loop .inv .1)) (drawn-moved (a .d) (a .first) (wordA (a .ops .now)) (c .before .loop .marks))
 
 pub propagate-refresh-spec : {M : Type 1} → statement M
 propagate-refresh-spec =
@@ -63,14 +41,11 @@ propagate-refresh-spec =
     (tie.spec
     Inv-loop
     μ-loop
-    loop-holds
-    sub-i
-    add-a
-    (λ c. search needs)
-    shared-slice-read-a
-    cast-a
+    (λ c. let a = c .before .before .args in (omega arith, held-moved (a .d) (a .first) (wordA (a .ops .now)) (a .marks .now)))
+    (λ c. omega arith)
+    (λ c κs. omega arith)
     propagate-sum-requires
-    loop-less
+    (λ c. omega arith)
     loop-again
-    same-length
+    (λ c. c .before .loop .inv .1 .size)
     returns)

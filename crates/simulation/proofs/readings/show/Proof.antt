@@ -1,86 +1,34 @@
--- `evaluation::readings::show` meets its contract.
-use mathlib.Core.Path.{_≡_, refl, sym, ap, _∙_}
-use Prim.Native.Nat.{_+_, _-_, _≤_}
+-- The loops' invariant: writing all bytes comes to writing those from wire x on. From `wires` on no wire is marked, so each is 2.
+use mathlib.Core.List.{List}
+use Prim.Native.Nat.{ℕ, _-_, _≤_}
 use native.Mathlib.Omega.{arith}
-use lib.ListN.{length, set, length-set}
-use lib.Seq.{sets}
 use borrow.Author.Needs.{needs}
-use borrow.Author.Tests.{lt-ltb}
-use Rattle.circuit.specs.Lists.{nth}
+use Rattle.circuit.specs.Limits.{wireLimit}
 use Rattle.simulation.proofs.readings.show.Statement.{statement}
 use Rattle.simulation.proofs.readings.show.Tie as tie
-use Rattle.simulation.specs.Internal.Marks.{shownAt, shownFrom}
-use Rattle.simulation.proofs.Marking.{show-store, show-end}
+use Rattle.simulation.proofs.Showing.{ShownTo, shown-start, shown-next, shown-end, unmarked}
 
 abbrev Inv-loop : tie.InvT-loop
-Inv-loop marks values wires reading₀ x₀ reading x = (x ≤ wires) × (length reading ≡ length reading₀) × (sets reading₀ 0 (shownFrom marks values 0 8192) ≡ sets reading x (shownFrom marks values x (8192 - x)))
+Inv-loop marks values wires reading₀ x₀ reading x = (x ≤ wires) × ShownTo marks values reading₀ reading x
 
 abbrev μ-loop : tie.MeasureT-loop
 μ-loop marks values wires reading₀ x₀ reading x = wires - x
 
 abbrev Inv-loop2 : tie.InvT-loop2
-Inv-loop2 marks values wires reading₀ x₀ reading x = (x₀ ≤ x) × (x ≤ 8192) × (length reading ≡ length reading₀) × (sets reading₀ x₀ (shownFrom marks values x₀ (8192 - x₀)) ≡ sets reading x (shownFrom marks values x (8192 - x)))
+Inv-loop2 marks values wires reading₀ x₀ reading x = (x₀ ≤ x) × (x ≤ wireLimit) × ((old : List ℕ) → ShownTo marks values old reading₀ x₀ → ShownTo marks values old reading x)
 
 abbrev μ-loop2 : tie.MeasureT-loop2
-μ-loop2 marks values wires reading₀ x₀ reading x = 8192 - x
-
-loop-holds : tie.Need-loop-holds Inv-loop μ-loop Inv-loop2 μ-loop2
-loop-holds c = (omega arith, refl, refl)
-
-shared-slice-read-shown : tie.Need-shared-slice-read-shown Inv-loop μ-loop Inv-loop2 μ-loop2
-shared-slice-read-shown c = omega arith
-
-shared-slice-read-shown-2 : tie.Need-shared-slice-read-shown-2 Inv-loop μ-loop Inv-loop2 μ-loop2
-shared-slice-read-shown-2 c = omega arith
-
-slice-write-reading : tie.Need-slice-write-reading Inv-loop μ-loop Inv-loop2 μ-loop2
-slice-write-reading c = omega arith
-
-add-x : tie.Need-add-x Inv-loop μ-loop Inv-loop2 μ-loop2
-add-x c = record { fits = omega arith }
-
-loop-less : tie.Need-loop-less Inv-loop μ-loop Inv-loop2 μ-loop2
-loop-less c = omega arith
-
-loop-again : tie.Need-loop-again Inv-loop μ-loop Inv-loop2 μ-loop2
-loop-again c =
-    let a = c .before .before .before .before .before .before .before .before .args in
-    let l = c .before .before .before .before .loop in (
-      omega arith,
-      length-set (l .reading) (l .x) (c .shown .result) ∙ l .inv .1,
-      l .inv .2 ∙ show-store (a .marks .now) (a .values .now) (l .reading) 8192 (l .x) (omega arith)
-          ∙ ap (λ n. sets (set (l .reading) (l .x) n) (l .x + 1) (shownFrom (a .marks .now) (a .values .now) (l .x + 1) (8192 - (l .x + 1)))) (sym (c .shown .ensures)),
-    )
-
-loop2-holds : tie.Need-loop2-holds Inv-loop μ-loop Inv-loop2 μ-loop2
-loop2-holds c = (omega arith, omega arith, refl, refl)
-
-slice-write-reading-2 : tie.Need-slice-write-reading-2 Inv-loop μ-loop Inv-loop2 μ-loop2
-slice-write-reading-2 c = omega arith
-
-add-x-2 : tie.Need-add-x-2 Inv-loop μ-loop Inv-loop2 μ-loop2
-add-x-2 c = record { fits = omega arith }
-
-loop2-less : tie.Need-loop2-less Inv-loop μ-loop Inv-loop2 μ-loop2
-loop2-less c = omega arith
+μ-loop2 marks values wires reading₀ x₀ reading x = wireLimit - x
 
 loop2-again : tie.Need-loop2-again Inv-loop μ-loop Inv-loop2 μ-loop2
 loop2-again c =
-    let a = c .before .before .before .before .before .before .before .args in
-    let l = c .before .loop2 in
-    let two : 2 ≡ shownAt (nth (a .marks .now) (l .x)) (nth (a .values .now) (l .x)) = rw (lt-ltb (nth (a .marks .now) (l .x)) 1 (c .before .before .before .before .before .before .before .pre .4 (l .x) (omega arith))) in (
-      omega arith,
-      omega arith,
-      length-set (l .reading) (l .x) 2 ∙ l .inv .2,
-      l .inv .3 ∙ show-store (a .marks .now) (a .values .now) (l .reading) 8192 (l .x) (omega arith)
-          ∙ ap (λ n. sets (set (l .reading) (l .x) n) (l .x + 1) (shownFrom (a .marks .now) (a .values .now) (l .x + 1) (8192 - (l .x + 1)))) (sym (two)),
-    )
+    let s = c .before .before .before .before .before .before in
+    (omega arith, omega arith, λ old t. shown-next _ _ (c .before .loop2 .inv .2 old t) (c .loop2-test .taken) (unmarked (s .args .marks .now) (s .args .values .now) {x = c .before .loop2 .x} (s .pre .3) (omega arith)))
 
-same-length : tie.Need-same-length Inv-loop μ-loop Inv-loop2 μ-loop2
-same-length c = c .before .loop2 .inv .2 ∙ c .before .before .before .loop .inv .1
-
-returns : tie.Need-returns Inv-loop μ-loop Inv-loop2 μ-loop2
-returns c = sym (c .before .before .before .loop .inv .2 ∙ c .before .loop2 .inv .3 ∙ show-end (c .before .before .before .before .before .before .before .args .marks .now) (c .before .before .before .before .before .before .before .args .values .now) (c .before .loop2 .reading) 8192 (c .before .loop2 .x) (c .loop2-test .left))
+-- both loops together
+shown : (c : tie.At-loop2 Inv-loop μ-loop Inv-loop2 μ-loop2) → let a = c .before .before .before .before .before .args in
+    ShownTo (a .marks .now) (a .values .now) (a .reading .now) (c .loop2 .reading) (c .loop2 .x)
+shown c = c .loop2 .inv .2 _ (c .before .before .loop .inv .1)
 
 pub show-spec : {M : Type 1} → statement M
 show-spec =
@@ -90,18 +38,18 @@ show-spec =
     μ-loop
     Inv-loop2
     μ-loop2
-    loop-holds
-    shared-slice-read-shown
-    shared-slice-read-shown-2
+    (λ c. (omega arith, shown-start _ _ _))
+    (λ c. omega arith)
+    (λ c. omega arith)
     (λ c κs. search needs)
-    slice-write-reading
-    add-x
-    loop-less
-    loop-again
-    loop2-holds
-    slice-write-reading-2
-    add-x-2
-    loop2-less
+    (λ c. omega (arith, c .before .before .before .before .loop .inv .1 .sized))
+    (λ c. search needs)
+    (λ c. omega arith)
+    (λ c. (omega arith, shown-next _ _ (c .before .before .before .before .loop .inv .1) (omega arith) (c .shown .ensures)))
+    (λ c. (omega arith, omega arith, λ old s. s))
+    (λ c. omega (arith, shown (c .before) .sized))
+    (λ c. search needs)
+    (λ c. omega arith)
     loop2-again
-    same-length
-    returns)
+    (λ c. shown (c .before) .sized)
+    (λ c. shown-end _ _ (shown (c .before)) (c .loop2-test .left) (c .before .before .before .before .before .before .pre .2)))

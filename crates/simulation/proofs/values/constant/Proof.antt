@@ -1,4 +1,4 @@
--- `evaluation::values::constant` meets its contract.
+-- One wire, of a word's bit.
 use mathlib.Core.Path.{sym, ap, _∙_}
 use native.Mathlib.Omega.{arith}
 use borrow.Author.Needs.{needs}
@@ -7,11 +7,8 @@ use Rattle.simulation.proofs.values.constant.Statement.{statement}
 use Rattle.simulation.proofs.values.constant.Tie as tie
 use Rattle.simulation.proofs.Filled.{fills-one}
 
-slice-write-values : tie.Need-slice-write-values
-slice-write-values c = omega arith
-
 returns : tie.Need-returns
 returns c = fills-one (c .before .before .args .first) (c .before .before .args .values .now) (c .bit .result) (omega arith) (λ v e k. c .bit .ensures ∙ ap byte (sym e))
 
 pub constant-spec : {M : Type 1} → statement M
-constant-spec = tie.close (tie.spec (λ c κs. search needs) slice-write-values (λ c. search needs) returns)
+constant-spec = tie.close (tie.spec (λ c κs. search needs) (λ c. omega arith) (λ c. search needs) returns)

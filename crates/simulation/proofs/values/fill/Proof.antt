@@ -1,167 +1,71 @@
--- `evaluation::values::fill` meets its contract.
-use mathlib.Core.Path.{_≡_, refl, sym, ap, subst, _∙_}
+-- The loop's invariant: the values of the frames before the walk's place are filled in.
+use mathlib.Core.Path.{_≡_, refl, sym, ap, _∙_}
 use mathlib.Core.List.{List}
-use Prim.Native.Nat.{ℕ, _+_, _-_}
+use Prim.Native.Nat.{ℕ, _+_, _*_, _-_, _≤_}
 use native.Mathlib.Omega.{arith}
 use lib.ListN.{length}
 use borrow.Author.Needs.{needs}
+use Rattle.circuit.specs.Limits.{wireLimit}
 use Rattle.circuit.specs.Lists.{nth}
-use Rattle.circuit.specs.Rules.{checked}
-use Rattle.circuit.proofs.Exact.{Accepted}
+use Rattle.frames.specs.declared.walk.Step.{Step}
 use Rattle.frames.specs.Walk.{operandsAt, stepAt}
-use Rattle.frames.specs.declared.walk.Step.the-variants.{Next, Refused, End}
 use Rattle.simulation.proofs.values.fill.Statement.{statement}
 use Rattle.simulation.proofs.values.fill.Tie as tie
-use Rattle.simulation.specs.Internal.Filling.{Fills, FrameValues, frameMakes}
-use Rattle.simulation.specs.Internal.Gadgets.{FrameReady}
-use Rattle.simulation.specs.Internal.Evaluating.{Supplied}
-use Rattle.simulation.proofs.Evaluating.{FilledTo, filled-start, frame-taken, no-refusal, all-filled, second-word}
+use Rattle.simulation.proofs.Walking.{headed, second-word, Met, Answers, step-answers}
+use Rattle.simulation.proofs.Evaluating.{FilledTo, filled-start, inputs-in, draws-in, frame-filled, all-filled}
 
 abbrev Inv-loop : tie.InvT-loop
-Inv-loop table shares tape values₀ d n walk₀ ends₀ values walk ends = (walk .d ≡ nth table 1) × ((room : ℕ) (a : Accepted table room) → Supplied (checked table room .circuit) shares tape → FilledTo a shares tape values₀ values (walk .at) (ends .wires) (ends .shares) (ends .randoms))
+Inv-loop table shares tape values₀ d n walk₀ first₀ from₀ used₀ values walk first from used = (walk .d ≡ nth table 1) × FilledTo table shares tape values₀ values (walk .at) first from used
 
 abbrev μ-loop : tie.MeasureT-loop
-μ-loop table shares tape values₀ d n walk₀ ends₀ values walk ends = length table - walk .at
+μ-loop table shares tape values₀ d n walk₀ first₀ from₀ used₀ values walk first from used = length table - walk .at
 
-shared-slice-read-d : tie.Need-shared-slice-read-d Inv-loop μ-loop
-shared-slice-read-d c = omega (arith, ap length (c .before .before .before .before .before .pre .accepted .table-is))
+-- the step's answer at the loop's head
+abbrev start : tie.At-loop Inv-loop μ-loop → tie.Start Inv-loop μ-loop
+start c = c .before .before .before .before .before .before
 
-cast-n : tie.Need-cast-n Inv-loop μ-loop
-cast-n c = record { fits = omega (arith, second-word (c .before .before .before .before .before .pre .accepted)) }
+answered : (c : tie.At-loop Inv-loop μ-loop) {s : Step} → let l = c .loop in let f = l .inv .1 in let table = start c .args .table .now in
+    stepAt table (l .walk .d) (l .walk .at) ≡ s → Answers (f .accepted) (f .between) (nth table 1) (l .first) (l .from) s
+answered c e = let f = c .loop .inv .1 in
+    step-answers (f .accepted) (f .between) (second-word (f .accepted)) (f .wires-are) (f .from-are) (ap (λ n. stepAt (start c .args .table .now) n (c .loop .walk .at)) (sym (c .loop .inv .0)) ∙ e)
 
-loop-holds : tie.Need-loop-holds Inv-loop μ-loop
-loop-holds c = (refl, λ room q s. filled-start q (c .before .before .before .before .before .args .shares .now) (c .before .before .before .before .before .args .tape .now) (c .before .before .before .before .before .args .values .now))
+-- the frame that a turn meets, and its words
+abbrev head : tie.After-step2 Inv-loop μ-loop → tie.At-loop Inv-loop μ-loop
+head c = c .before .before .before
 
-same-length : tie.Need-same-length Inv-loop μ-loop
-same-length c =
-    let a = c .before .before .before .before .before .before .before .before .before .args in
-    let pre = c .before .before .before .before .before .before .before .before .before .pre in
-    let l = c .before .before .before .loop in
-    let table = a .table .now in
-    l .inv .1 (pre .room) (pre .accepted) (pre .supplied) .sized
+met : (c : tie.After-step2 Inv-loop μ-loop) → let l = head c .loop in let f = l .inv .1 in let g = c .step2 .given .0 in
+    Met (f .accepted) (f .between) (nth (start (head c) .args .table .now) 1) (l .first) (l .from) (g .0) (g .1 .0) (g .1 .1 .0)
+met c = answered (head c) (sym (c .before .before .step .ensures) ∙ c .step2 .given .1)
 
-returns : tie.Need-returns Inv-loop μ-loop
-returns c =
-    let a = c .before .before .before .before .before .before .before .before .before .args in
-    let pre = c .before .before .before .before .before .before .before .before .before .pre in
-    let l = c .before .before .before .loop in
-    let table = a .table .now in
-    record {
-      is = λ room q s. all-filled q (a .shares .now) (a .tape .now) s (a .values .now) (l .values) (l .walk .at) (l .ends .wires) (l .ends .shares) (l .ends .randoms) (l .inv .1 room q s)
-          (subst (λ n. stepAt table n (l .walk .at) ≡ End) (l .inv .0 ∙ second-word q) (sym (c .before .before .step .ensures) ∙ c .enum-told .given .1)) (pre .roomy);
-    }
+words : (c : tie.After-operands Inv-loop μ-loop) → let h = head (c .before .before) in let table = start h .args .table .now in
+    c .operands .result .now ≡ operandsAt table (nth table 1) (h .loop .walk .at)
+words c = let h = head (c .before .before) in c .operands .ensures ∙ ap (λ n. operandsAt (start h .args .table .now) n (h .loop .walk .at)) (h .loop .inv .0)
 
-same-length-2 : tie.Need-same-length-2 Inv-loop μ-loop
-same-length-2 c =
-    let a = c .before .before .before .before .before .before .before .before .before .args in
-    let pre = c .before .before .before .before .before .before .before .before .before .pre in
-    let l = c .before .before .before .loop in
-    let table = a .table .now in
-    l .inv .1 (pre .room) (pre .accepted) (pre .supplied) .sized
+-- the counts behind it
+record Counts (c : tie.After-step2 Inv-loop μ-loop) : Type 0 where
+  wires : head c .loop .first + c .step2 .given .0 .1 .0 .wires ≤ wireLimit
+  shares : head c .loop .from + nth (start (head c) .args .table .now) 1 * c .step2 .given .0 .1 .0 .inputs ≤ length (start (head c) .args .shares .now)
+  randoms : head c .loop .used + c .step2 .given .0 .1 .0 .randoms ≤ length (start (head c) .args .tape .now)
 
-returns-2 : tie.Need-returns-2 Inv-loop μ-loop
-returns-2 c =
-    let a = c .before .before .before .before .before .before .before .before .before .args in
-    let pre = c .before .before .before .before .before .before .before .before .before .pre in
-    let l = c .before .before .before .loop in
-    let table = a .table .now in
-    absurd (no-refusal (pre .accepted) (a .shares .now) (a .tape .now) (pre .supplied) (a .values .now) (l .values) (l .walk .at) (l .ends .wires) (l .ends .shares) (l .ends .randoms) (l .inv .1 (pre .room) (pre .accepted) (pre .supplied)) (c .enum-told2 .given .0 .0)
-    (subst (λ n. stepAt table n (l .walk .at) ≡ Refused (c .enum-told2 .given .0 .0)) (l .inv .0 ∙ second-word (pre .accepted)) (sym (c .before .before .step .ensures) ∙ c .enum-told2 .given .1)))
+counts : (c : tie.After-step2 Inv-loop μ-loop) → Counts c
+counts c = let f = head c .loop .inv .1 in record { wires = met c .few; shares = inputs-in f (second-word (f .accepted)) (met c); randoms = draws-in f (second-word (f .accepted)) (met c) }
 
 write-frame-requires : tie.Need-write-frame-requires Inv-loop μ-loop
 write-frame-requires c κs =
-    let a = c .before .before .before .before .before .before .before .before .before .before .before .before .args in
-    let pre = c .before .before .before .before .before .before .before .before .before .before .before .before .pre in
-    let l = c .before .before .before .before .before .before .loop in
-    let table = a .table .now in
-    let g = c .before .before .before .step2 .given in
-    let d = nth table 1 in
-    let e : stepAt table d (l .walk .at) ≡ Next (g .0 .0) (g .0 .1 .0) (g .0 .1 .1 .0) = subst (λ n. stepAt table n (l .walk .at) ≡ Next (g .0 .0) (g .0 .1 .0) (g .0 .1 .1 .0)) (l .inv .0) (sym (c .before .before .before .before .before .step .ensures) ∙ g .1) in
-    let t = frame-taken (pre .accepted) (a .shares .now) (a .tape .now) (pre .supplied) (a .values .now) (l .values) (l .walk .at) (l .ends .wires) (l .ends .shares) (l .ends .randoms) (l .inv .1 (pre .room) (pre .accepted) (pre .supplied)) d (second-word (pre .accepted)) (g .0 .0) (g .0 .1 .0) (g .0 .1 .1 .0) e in
-    let o : c .before .operands .result .now ≡ operandsAt table d (l .walk .at) = c .before .operands .ensures ∙ ap (λ n. operandsAt table n (l .walk .at)) (l .inv .0) in (
-      t .small,
-      omega (arith, t .few, l .inv .1 (pre .room) (pre .accepted) (pre .supplied) .sized, pre .roomy),
-      subst (λ (x : List ℕ). FrameReady (g .0 .0) d (l .ends .wires) (l .ends .shares) (l .ends .randoms) x (length (a .shares .now)) (length (a .tape .now))) (sym o) (t .ready),
-      pre .supplied .shareBits,
-      pre .supplied .tapeBits,
-    )
+    let t = c .before .before .before in
+    let f = head t .loop .inv .1 in
+    let m = met t in
+    (m .small, omega (arith, m .few, m .as-many, f .sized, start (head t) .pre .roomy), rw (words (c .before)) (m .early), m .supplied _ _ _ (counts t .shares) (counts t .randoms), f .supplied .shareBits, f .supplied .tapeBits)
 
-add-t19 : tie.Need-add-t19 Inv-loop μ-loop
-add-t19 c =
-    let a = c .before .before .before .before .before .before .before .before .before .before .before .before .before .before .before .before .before .args in
-    let pre = c .before .before .before .before .before .before .before .before .before .before .before .before .before .before .before .before .before .pre in
-    let l = c .before .before .before .before .before .before .before .before .before .before .before .loop in
-    let table = a .table .now in
-    let g = c .before .before .before .before .before .before .before .before .step2 .given in
-    let d = nth table 1 in
-    let e : stepAt table d (l .walk .at) ≡ Next (g .0 .0) (g .0 .1 .0) (g .0 .1 .1 .0) = subst (λ n. stepAt table n (l .walk .at) ≡ Next (g .0 .0) (g .0 .1 .0) (g .0 .1 .1 .0)) (l .inv .0) (sym (c .before .before .before .before .before .before .before .before .before .before .step .ensures) ∙ g .1) in
-    let t = frame-taken (pre .accepted) (a .shares .now) (a .tape .now) (pre .supplied) (a .values .now) (l .values) (l .walk .at) (l .ends .wires) (l .ends .shares) (l .ends .randoms) (l .inv .1 (pre .room) (pre .accepted) (pre .supplied)) d (second-word (pre .accepted)) (g .0 .0) (g .0 .1 .0) (g .0 .1 .1 .0) e in
-    record { fits = omega arith }
-
-mul-t20 : tie.Need-mul-t20 Inv-loop μ-loop
-mul-t20 c =
-    let a = c .before .before .before .before .before .before .before .before .before .before .before .before .before .before .before .before .before .before .args in
-    let pre = c .before .before .before .before .before .before .before .before .before .before .before .before .before .before .before .before .before .before .pre in
-    let l = c .before .before .before .before .before .before .before .before .before .before .before .before .loop in
-    let table = a .table .now in
-    let g = c .before .before .before .before .before .before .before .before .before .step2 .given in
-    let d = nth table 1 in
-    let e : stepAt table d (l .walk .at) ≡ Next (g .0 .0) (g .0 .1 .0) (g .0 .1 .1 .0) = subst (λ n. stepAt table n (l .walk .at) ≡ Next (g .0 .0) (g .0 .1 .0) (g .0 .1 .1 .0)) (l .inv .0) (sym (c .before .before .before .before .before .before .before .before .before .before .before .step .ensures) ∙ g .1) in
-    let t = frame-taken (pre .accepted) (a .shares .now) (a .tape .now) (pre .supplied) (a .values .now) (l .values) (l .walk .at) (l .ends .wires) (l .ends .shares) (l .ends .randoms) (l .inv .1 (pre .room) (pre .accepted) (pre .supplied)) d (second-word (pre .accepted)) (g .0 .0) (g .0 .1 .0) (g .0 .1 .1 .0) e in
-    record { fits = omega (arith, t .inputs, c .before .before .before .before .before .before .before .before .before .before .before .before .before .before .before .before .before .before .good .1 .0 .0) }
-
-add-t21 : tie.Need-add-t21 Inv-loop μ-loop
-add-t21 c =
-    let a = c .before .before .before .before .before .before .before .before .before .before .before .before .before .before .before .before .before .before .before .args in
-    let pre = c .before .before .before .before .before .before .before .before .before .before .before .before .before .before .before .before .before .before .before .pre in
-    let l = c .before .before .before .before .before .before .before .before .before .before .before .before .before .loop in
-    let table = a .table .now in
-    let g = c .before .before .before .before .before .before .before .before .before .before .step2 .given in
-    let d = nth table 1 in
-    let e : stepAt table d (l .walk .at) ≡ Next (g .0 .0) (g .0 .1 .0) (g .0 .1 .1 .0) = subst (λ n. stepAt table n (l .walk .at) ≡ Next (g .0 .0) (g .0 .1 .0) (g .0 .1 .1 .0)) (l .inv .0) (sym (c .before .before .before .before .before .before .before .before .before .before .before .before .step .ensures) ∙ g .1) in
-    let t = frame-taken (pre .accepted) (a .shares .now) (a .tape .now) (pre .supplied) (a .values .now) (l .values) (l .walk .at) (l .ends .wires) (l .ends .shares) (l .ends .randoms) (l .inv .1 (pre .room) (pre .accepted) (pre .supplied)) d (second-word (pre .accepted)) (g .0 .0) (g .0 .1 .0) (g .0 .1 .1 .0) e in
-    record { fits = omega (arith, t .inputs, c .before .before .before .before .before .before .before .before .before .before .before .before .before .before .before .before .before .before .before .good .1 .0 .0) }
-
-add-t22 : tie.Need-add-t22 Inv-loop μ-loop
-add-t22 c =
-    let a = c .before .before .before .before .before .before .before .before .before .before .before .before .before .before .before .before .before .before .before .before .before .args in
-    let pre = c .before .before .before .before .before .before .before .before .before .before .before .before .before .before .before .before .before .before .before .before .before .pre in
-    let l = c .before .before .before .before .before .before .before .before .before .before .before .before .before .before .before .loop in
-    let table = a .table .now in
-    let g = c .before .before .before .before .before .before .before .before .before .before .before .before .step2 .given in
-    let d = nth table 1 in
-    let e : stepAt table d (l .walk .at) ≡ Next (g .0 .0) (g .0 .1 .0) (g .0 .1 .1 .0) = subst (λ n. stepAt table n (l .walk .at) ≡ Next (g .0 .0) (g .0 .1 .0) (g .0 .1 .1 .0)) (l .inv .0) (sym (c .before .before .before .before .before .before .before .before .before .before .before .before .before .before .step .ensures) ∙ g .1) in
-    let t = frame-taken (pre .accepted) (a .shares .now) (a .tape .now) (pre .supplied) (a .values .now) (l .values) (l .walk .at) (l .ends .wires) (l .ends .shares) (l .ends .randoms) (l .inv .1 (pre .room) (pre .accepted) (pre .supplied)) d (second-word (pre .accepted)) (g .0 .0) (g .0 .1 .0) (g .0 .1 .1 .0) e in
-    record { fits = omega (arith, t .draws, c .before .before .before .before .before .before .before .before .before .before .before .before .before .before .before .before .before .before .before .before .before .good .1 .1 .0 .0) }
-
-loop-less : tie.Need-loop-less Inv-loop μ-loop
-loop-less c =
-    let a = c .before .before .before .before .before .before .before .before .before .before .before .before .before .before .before .before .before .before .before .before .before .args in
-    let pre = c .before .before .before .before .before .before .before .before .before .before .before .before .before .before .before .before .before .before .before .before .before .pre in
-    let l = c .before .before .before .before .before .before .before .before .before .before .before .before .before .before .before .loop in
-    let table = a .table .now in
-    let g = c .before .before .before .before .before .before .before .before .before .before .before .before .step2 .given in
-    let d = nth table 1 in
-    let e : stepAt table d (l .walk .at) ≡ Next (g .0 .0) (g .0 .1 .0) (g .0 .1 .1 .0) = subst (λ n. stepAt table n (l .walk .at) ≡ Next (g .0 .0) (g .0 .1 .0) (g .0 .1 .1 .0)) (l .inv .0) (sym (c .before .before .before .before .before .before .before .before .before .before .before .before .before .before .step .ensures) ∙ g .1) in
-    let t = frame-taken (pre .accepted) (a .shares .now) (a .tape .now) (pre .supplied) (a .values .now) (l .values) (l .walk .at) (l .ends .wires) (l .ends .shares) (l .ends .randoms) (l .inv .1 (pre .room) (pre .accepted) (pre .supplied)) d (second-word (pre .accepted)) (g .0 .0) (g .0 .1 .0) (g .0 .1 .1 .0) e in
-    omega arith
+abbrev turn : tie.After-struct-known3 Inv-loop μ-loop → tie.After-step2 Inv-loop μ-loop
+turn c = c .before .before .before .before .before .before .before .before .before
 
 loop-again : tie.Need-loop-again Inv-loop μ-loop
 loop-again c =
-    let a = c .before .before .before .before .before .before .before .before .before .before .before .before .before .before .before .before .before .before .before .before .before .args in
-    let pre = c .before .before .before .before .before .before .before .before .before .before .before .before .before .before .before .before .before .before .before .before .before .pre in
-    let l = c .before .before .before .before .before .before .before .before .before .before .before .before .before .before .before .loop in
-    let table = a .table .now in
-    let g = c .before .before .before .before .before .before .before .before .before .before .before .before .step2 .given in
-    let d = nth table 1 in
-    let e : stepAt table d (l .walk .at) ≡ Next (g .0 .0) (g .0 .1 .0) (g .0 .1 .1 .0) = subst (λ n. stepAt table n (l .walk .at) ≡ Next (g .0 .0) (g .0 .1 .0) (g .0 .1 .1 .0)) (l .inv .0) (sym (c .before .before .before .before .before .before .before .before .before .before .before .before .before .before .step .ensures) ∙ g .1) in
-    let t = frame-taken (pre .accepted) (a .shares .now) (a .tape .now) (pre .supplied) (a .values .now) (l .values) (l .walk .at) (l .ends .wires) (l .ends .shares) (l .ends .randoms) (l .inv .1 (pre .room) (pre .accepted) (pre .supplied)) d (second-word (pre .accepted)) (g .0 .0) (g .0 .1 .0) (g .0 .1 .1 .0) e in
-    let o : c .before .before .before .before .before .before .before .before .before .before .operands .result .now ≡ operandsAt table d (l .walk .at) = c .before .before .before .before .before .before .before .before .before .before .operands .ensures ∙ ap (λ n. operandsAt table n (l .walk .at)) (l .inv .0) in (
-      t .same,
-      λ room q s.
-          frame-taken q (a .shares .now) (a .tape .now) s (a .values .now) (l .values) (l .walk .at) (l .ends .wires) (l .ends .shares) (l .ends .randoms) (l .inv .1 room q s) d (second-word q) (g .0 .0) (g .0 .1 .0) (g .0 .1 .1 .0) e .next
-          (c .before .before .before .before .before .before .before .before .write-frame .last .0) (subst (λ (x : List ℕ). Fills (FrameValues (g .0 .0) d (l .ends .wires) (l .ends .shares) (l .ends .randoms) x (a .shares .now) (a .tape .now)) (l .ends .wires) (l .ends .wires + frameMakes (g .0 .0) d) (l .values) (c .before .before .before .before .before .before .before .before .write-frame .last .0)) o (c .before .before .before .before .before .before .before .before .write-frame .ensures)),
-    )
+    let t = turn c in
+    let w = c .before .before .before .before .before in
+    let f = head t .loop .inv .1 in
+    (met t .same, frame-filled f (second-word (f .accepted)) (met t) _ (rw (words (w .before .before)) at (w .write-frame .ensures)))
 
 pub fill-spec : {M : Type 1} → statement M
 fill-spec =
@@ -169,22 +73,22 @@ fill-spec =
     (tie.spec
     Inv-loop
     μ-loop
-    shared-slice-read-d
-    cast-n
-    loop-holds
+    (λ c. omega (arith, headed (c .before .before .before .before .before .pre .accepted)))
+    (λ c. record { fits = omega (arith, second-word (c .before .before .before .before .before .pre .accepted)) })
+    (λ c. let p = c .before .before .before .before .before .pre in (refl, filled-start (p .accepted) (p .supplied) _))
     (λ c κs. search needs)
     (λ c. search needs)
-    same-length
-    returns
+    (λ c. c .before .before .before .loop .inv .1 .sized)
+    (λ c. let h = c .before .before .before in all-filled (h .loop .inv .1) (answered h (sym (c .before .before .step .ensures) ∙ c .enum-told .given .1)) (start h .pre .roomy))
     (λ c. search needs)
-    same-length-2
-    returns-2
+    (λ c. c .before .before .before .loop .inv .1 .sized)
+    (λ c. absurd (answered (c .before .before .before) (sym (c .before .before .step .ensures) ∙ c .enum-told2 .given .1)))
     (λ c. search needs)
     (λ c κs. search needs)
     write-frame-requires
-    add-t19
-    mul-t20
-    add-t21
-    add-t22
-    loop-less
+    (λ c. record { fits = omega (arith, counts (c .before .before .before .before .before .before .before) .wires) })
+    (λ c. let t = c .before .before .before .before .before .before .before .before in record { fits = omega (arith, counts t .shares, start (head t) .good .1 .0 .0) })
+    (λ c. let t = c .before .before .before .before .before .before .before .before in record { fits = omega (arith, counts t .shares, start (head t) .good .1 .0 .0) })
+    (λ c. record { fits = omega (arith, counts (turn c) .randoms, start (head (turn c)) .good .1 .1 .0 .0) })
+    (λ c. omega (arith, met (turn c) .later, met (turn c) .onward .most))
     loop-again)

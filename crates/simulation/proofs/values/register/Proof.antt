@@ -1,4 +1,4 @@
--- `evaluation::values::register` meets its contract.
+-- One wire, of the same bit.
 use mathlib.Core.Path.{sym, ap, _∙_}
 use native.Mathlib.Omega.{arith}
 use borrow.Author.Needs.{needs}
@@ -8,12 +8,6 @@ use Rattle.simulation.proofs.values.register.Statement.{statement}
 use Rattle.simulation.proofs.values.register.Tie as tie
 use Rattle.simulation.proofs.Filled.{fills-one}
 
-slice-read-values : tie.Need-slice-read-values
-slice-read-values c = omega arith
-
-slice-write-values : tie.Need-slice-write-values
-slice-write-values c = omega arith
-
 returns : tie.Need-returns
 returns c =
     let a = c .before .args in
@@ -21,4 +15,4 @@ returns c =
     fills-one (a .first) old (nth old (a .wire)) (omega arith) (λ v e k. k (a .wire) (omega arith) (c .before .pre .1) ∙ ap byte (sym e))
 
 pub register-spec : {M : Type 1} → statement M
-register-spec = tie.close (tie.spec slice-read-values slice-write-values (λ c. search needs) returns)
+register-spec = tie.close (tie.spec (λ c. omega arith) (λ c. omega arith) (λ c. search needs) returns)

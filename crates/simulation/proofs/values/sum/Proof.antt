@@ -1,4 +1,4 @@
--- `evaluation::values::sum` meets its contract.
+-- One wire, of two bits added.
 use mathlib.Core.Path.{sym, ap, ap₂, _∙_}
 use native.Mathlib.Omega.{arith}
 use lib.Bits.{bitXor}
@@ -10,15 +10,6 @@ use Rattle.simulation.proofs.values.sum.Tie as tie
 use Rattle.simulation.proofs.Bits.{byte-xor}
 use Rattle.simulation.proofs.Filled.{fills-one}
 
-slice-read-values : tie.Need-slice-read-values
-slice-read-values c = omega arith
-
-slice-read-values-2 : tie.Need-slice-read-values-2
-slice-read-values-2 c = omega arith
-
-slice-write-values : tie.Need-slice-write-values
-slice-write-values c = omega arith
-
 returns : tie.Need-returns
 returns c =
     let a = c .before .before .args in
@@ -28,4 +19,4 @@ returns c =
 pub sum-spec : {M : Type 1} → statement M
 sum-spec =
     tie.close
-    (tie.spec slice-read-values slice-read-values-2 slice-write-values (λ c. search needs) returns)
+    (tie.spec (λ c. omega arith) (λ c. omega arith) (λ c. omega arith) (λ c. search needs) returns)

@@ -1,4 +1,4 @@
--- `evaluation::values::write_frame` meets its contract: each arm's callee asks and ensures what the contract says of its frame.
+-- Each arm's callee asks and ensures what the contract says of its frame.
 use mathlib.Core.Path.{_≡_, refl, ap, subst, _∙_}
 use Prim.Native.Nat.{_+_, _≤_}
 use native.Mathlib.Omega.{arith}
@@ -7,8 +7,8 @@ use borrow.Author.Needs.{needs}
 use Rattle.frames.specs.declared.walk.Gate.{Gate as GateCode}
 use Rattle.frames.specs.declared.walk.Frame.{Frame as FrameCode}
 use Rattle.frames.specs.declared.walk.Frame.the-variants as frame
-use Rattle.simulation.specs.Internal.Filling.{frameMakes}
-use Rattle.simulation.specs.Internal.Gadgets.{FrameReady}
+use Rattle.simulation.specs.Internal.Filling.{frameWires}
+use Rattle.simulation.specs.Internal.Gadgets.{FrameEarly, FrameSupplied}
 use Rattle.simulation.proofs.values.write_frame.Statement.{statement}
 use Rattle.simulation.proofs.values.write_frame.Tie as tie
 use Rattle.simulation.proofs.Filled.{fills-none, fills-at}
@@ -17,10 +17,11 @@ use Rattle.simulation.proofs.Filled.{fills-none, fills-at}
 abbrev Asked : tie.Start → FrameCode → Type 0
 Asked s f =
     let a = s .args in
-    (a .ends .wires + frameMakes f (a .d) ≤ length (a .values .now)) × FrameReady f (a .d) (a .ends .wires) (a .ends .shares) (a .ends .randoms) (a .ops .now) (length (a .shares .now)) (length (a .tape .now))
+    (a .first + frameWires f (a .d) ≤ length (a .values .now)) × FrameEarly f (a .d) (a .first) (a .ops .now)
+    × FrameSupplied f (a .d) (a .from) (a .used) (length (a .shares .now)) (length (a .tape .now))
 
 asked : (s : tie.Start) {f : FrameCode} → s .args .frame ≡ f → Asked s f
-asked s e = subst (Asked s) e (s .pre .1, s .pre .2)
+asked s e = subst (Asked s) e (s .pre .1, s .pre .2, s .pre .3)
 
 -- where the frame is known to be a gate
 abbrev entry : tie.After-known-told → tie.Start
@@ -33,31 +34,19 @@ copy-requires : tie.Need-copy-requires
 copy-requires c κs =
     let g = c .before .before .before in
     let q = asked-gate g (c .before .enum-told .given .1) in
-    (q .0, q .1, entry g .pre .3)
-
-constant-requires : tie.Need-constant-requires
-constant-requires c κs = asked-gate (c .before .before .before .before) (c .before .before .gate .given .1) .0
-
-sum-requires : tie.Need-sum-requires
-sum-requires c κs = let q = asked-gate (c .before .before .before .before) (c .before .before .gate2 .given .1) in (q .0, q .1 .0, q .1 .1)
-
-inverse-requires : tie.Need-inverse-requires
-inverse-requires c κs = asked-gate (c .before .before .before .before) (c .before .before .gate3 .given .1)
-
-register-requires : tie.Need-register-requires
-register-requires c κs = asked-gate (c .before .before .before .before) (c .before .before .gate4 .given .1)
+    (q .0, q .2, entry g .pre .4)
 
 and-requires : tie.Need-and-requires
 and-requires c κs =
     let s = c .before .before .before .before .before .before .before in
     let q = asked s (c .before .enum-told3 .given .1) in
-    (s .pre .0, q .1 .0, q .1 .1, q .1 .2, omega (arith, q .0), q .1 .3, s .pre .4)
+    (s .pre .0, q .1 .0, q .1 .1, q .1 .2, omega (arith, q .0), q .2, s .pre .5)
 
 refresh-requires : tie.Need-refresh-requires
 refresh-requires c κs =
     let s = c .before .before .before .before .before .before .before in
     let q = asked s (c .before .enum-told4 .given .1) in
-    (s .pre .0, q .1 .0, q .1 .1, omega (arith, q .0), q .1 .2, s .pre .4)
+    (s .pre .0, q .1 .0, q .1 .1, omega (arith, q .0), q .2, s .pre .5)
 
 returns : tie.Need-returns
 returns c = rw (c .before .before .before .before .before .before .before .frame .given .1, c .before .before .before .before .enum-told .given .1) (c .before .before .copy .ensures)
@@ -74,15 +63,6 @@ returns-4 c = rw (c .before .before .before .before .before .before .before .bef
 returns-5 : tie.Need-returns-5
 returns-5 c = rw (c .before .before .before .before .before .before .before .before .frame .given .1, c .before .before .before .before .before .gate4 .given .1) (c .before .before .register .ensures)
 
-returns-6 : tie.Need-returns-6
-returns-6 c = rw (c .before .before .before .frame .given .1, c .enum-told2 .given .1) (fills-at refl (omega arith) (fills-none _ _))
-
-returns-7 : tie.Need-returns-7
-returns-7 c = rw (c .before .before .before .before .enum-told3 .given .1) (c .before .before .and .ensures)
-
-returns-8 : tie.Need-returns-8
-returns-8 c = rw (c .before .before .before .before .enum-told4 .given .1) (c .before .before .refresh .ensures)
-
 pub write-frame-spec : {M : Type 1} → statement M
 write-frame-spec =
     tie.close
@@ -91,13 +71,13 @@ write-frame-spec =
     (λ c. search needs)
     copy-requires
     (λ c. search needs)
-    constant-requires
+    (λ c κs. asked-gate (c .before .before .before .before) (c .before .before .gate .given .1) .0)
     (λ c. search needs)
-    sum-requires
+    (λ c κs. let q = asked-gate (c .before .before .before .before) (c .before .before .gate2 .given .1) in (q .0, q .1 .0, q .1 .1))
     (λ c. search needs)
-    inverse-requires
+    (λ c κs. let q = asked-gate (c .before .before .before .before) (c .before .before .gate3 .given .1) in (q .0, q .1))
     (λ c. search needs)
-    register-requires
+    (λ c κs. let q = asked-gate (c .before .before .before .before) (c .before .before .gate4 .given .1) in (q .0, q .1))
     (λ c. search needs)
     (λ c. search needs)
     and-requires
@@ -113,8 +93,8 @@ write-frame-spec =
     returns-4
     (λ c. c .before .before .register .ensures .size)
     returns-5
-    returns-6
+    (λ c. rw (c .before .before .before .frame .given .1, c .enum-told2 .given .1) (fills-at refl (omega arith) (fills-none _ _)))
     (λ c. c .before .before .and .ensures .size)
-    returns-7
+    (λ c. rw (c .before .before .before .before .enum-told3 .given .1) (c .before .before .and .ensures))
     (λ c. c .before .before .refresh .ensures .size)
-    returns-8)
+    (λ c. rw (c .before .before .before .before .enum-told4 .given .1) (c .before .before .refresh .ensures)))
