@@ -1,5 +1,5 @@
 -- The whole check, frame by frame: what the loop keeps, and what each way out of it answers.
-use mathlib.Core.Path.{_≡_, refl, ap, _∙_}
+use mathlib.Core.Path.{_≡_, refl, sym, ap, subst, _∙_}
 use mathlib.Core.Bool.{Bool, true, false, cond, _&&_}
 use mathlib.Core.List.{List, _∷_}
 use Prim.Native.Nat.{ℕ, zero, suc, _+_, _-_, _/_, _≤_, _<_}
@@ -20,6 +20,7 @@ use Rattle.checker.specs.declared.Verdict.the-variants.{Refused}
 use Rattle.frames.specs.declared.kinds.Shape.{Shape as ShapeCode}
 use Rattle.frames.specs.declared.walk.Frame.{Frame}
 use Rattle.frames.specs.declared.walk.Walk.{Walk}
+use Rattle.frames.specs.declared.walk.Step.{Step}
 use Rattle.frames.specs.declared.walk.Step.the-variants as step
 use Rattle.checker.specs.declared.frame.Tally.{Tally}
 use Rattle.checker.specs.Answers.{answerOf}
@@ -129,79 +130,49 @@ module _ (table : List ℕ) (d at : ℕ) where
   pub here : at < length table → drop at table ≡ word ∷ rest
   here h = let e : suc at ≡ at + 1 = omega arith in drop-cons table at 0 h ∙ ap (λ n. nth table at ∷ drop n table) e
 
-  -- the table's end
-  pub step-end : step.End ≡ stepAt table d at → length table ≤ at
-  step-end e = cases (ltb at (length table)) (λ a. cases (leb 1 (nth table at) && leb (nth table at) 8) (λ b.
-      cases (leb (words d (kindOf (nth table at))) (length (drop (at + 1) table)))
-      (λ c. off (rw (a, b, c) at e)) (λ c. off₂ (rw (a, b, c) at e))) (λ b. off₂ (rw (a, b) at e))) (λ a. ltb-false at (length table) a)
-    where
-      off : {A : Type 0} {f : Frame} {s : ShapeCode} {w : Walk} → step.End ≡ step.Next f s w → A
-      off e = let z : _≡_ {A = ℕ} 0 1 = cc in absurd (omega arith)
-
-      off₂ : {A : Type 0} {n : ℕ} → step.End ≡ step.Refused n → A
-      off₂ e = let z : _≡_ {A = ℕ} 0 1 = cc in absurd (omega arith)
-
-  -- 5 or 6
-  pub step-refused : (rule : ℕ) → step.Refused rule ≡ stepAt table d at
-      → (at < length table) × (rule ≡ 0 → ⊥) × ((k : Circuit) → k .d ≡ d → (f : ℕ) → frameRule k f word rest ≡ refuse rule f 0)
-  unfolding frameRule
-  step-refused rule e = cases (ltb at (length table)) (λ a. (
-    ltb-true at (length table) a,
-    λ z.
-        cases (leb 1 (nth table at) && leb (nth table at) 8)
-        (λ b. cases (leb (words d (kindOf (nth table at))) (length (drop (at + 1) table)))
-        (λ c. off (rw (a, b, c) at e)) (λ c. some (number (rw (a, b, c) at e)) z))
-        (λ b. some (number (rw (a, b) at e)) z),
-    λ k s f.
-        cases (leb 1 (nth table at) && leb (nth table at) 8)
-        (λ b. cases (leb (words d (kindOf (nth table at))) (length (drop (at + 1) table)))
-        (λ c. off (rw (a, b, c) at e)) (λ c. rw (s, b, c, number (rw (a, b, c) at e))))
-        (λ b. rw (b, number (rw (a, b) at e))),
-  )) (λ a. off₂ (rw a at e))
-    where
-      number : {n : ℕ} → step.Refused rule ≡ step.Refused n → rule ≡ n
-      number e = cc
-
-      some : {n : ℕ} → rule ≡ suc n → rule ≡ 0 → ⊥
-      some e z = omega arith
-
-      off : {A : Type 0} {f : Frame} {s : ShapeCode} {w : Walk} → step.Refused rule ≡ step.Next f s w → A
-      off e = let z : _≡_ {A = ℕ} 0 1 = cc in absurd (omega arith)
-
-      off₂ : {A : Type 0} → step.Refused rule ≡ step.End → A
-      off₂ e = let z : _≡_ {A = ℕ} 0 1 = cc in absurd (omega arith)
-
   -- a whole frame
-  pub record AtFrame (fr : Frame) (sh : ShapeCode) (w : Walk) : Type 0 where
+  pub record AtFrame (sh : ShapeCode) (w : Walk) : Type 0 where
     pub inside : at < length table
     pub low : 1 ≤ word
     pub high : word ≤ 8
     pub whole : words d (kindOf word) ≤ length rest
-    pub frame-is : fr ≡ frameCode (kindCode (kindOf word)) (operandsAt table d at)
     pub shape-is : sh ≡ shapeCode d (kindOf word)
     pub walk-is : w ≡ behind d at (words d (kindOf word))
 
-  pub step-next : (fr : Frame) (sh : ShapeCode) (w : Walk) → step.Next fr sh w ≡ stepAt table d at → AtFrame fr sh w
-  step-next fr sh w e = cases (ltb at (length table)) (λ a. cases (leb 1 (nth table at)) (λ b. cases (leb (nth table at) 8) (λ b₂.
-      cases (leb (words d (kindOf (nth table at))) (length (drop (at + 1) table)))
-      (λ c. found (ltb-true at (length table) a) (leb-true 1 (nth table at) b) (leb-true (nth table at) 8 b₂) (leb-true (words d (kindOf (nth table at))) (length (drop (at + 1) table)) c) (rw (a, b, b₂, c) at e))
-      (λ c. off (rw (a, b, b₂, c) at e))) (λ b₂. off (rw (a, b, b₂) at e))) (λ b. off (rw (a, b) at e))) (λ a. off₂ (rw a at e))
+  -- its end; a word that breaks 5 or 6; or a whole frame
+  pub data At : Step → Type 0 where
+    at-end : length table ≤ at → At step.End
+    at-refused : (rule : ℕ) → at < length table → (rule ≡ 0 → ⊥) → ((k : Circuit) → k .d ≡ d → (f : ℕ) → frameRule k f word rest ≡ refuse rule f 0) → At (step.Refused rule)
+    at-frame : (fr : Frame) (sh : ShapeCode) (w : Walk) → AtFrame sh w → At (step.Next fr sh w)
+
+  found : At (stepAt table d at)
+  unfolding frameRule
+  found = cases (ltb at (length table)) (λ a. let l = ltb-true at (length table) a in
+      cases (leb 1 (nth table at)) (λ b. cases (leb (nth table at) 8) (λ c. cases (leb (words d (kindOf (nth table at))) (length (drop (at + 1) table)))
+      (λ e. rw (a, b, c, e) (at-frame _ _ _ (record { inside = l; low = leb-true _ _ b; high = leb-true _ _ c; whole = leb-true _ _ e; shape-is = refl; walk-is = refl })))
+      (λ e. rw (a, b, c, e) (at-refused 6 l (λ z. omega arith) (λ k s f. rw (s, b, c, e)))))
+      (λ c. rw (a, b, c) (at-refused 5 l (λ z. omega arith) (λ k s f. rw (b, c)))))
+      (λ b. rw (a, b) (at-refused 5 l (λ z. omega arith) (λ k s f. rw b))))
+      (λ a. rw a (at-end (ltb-false at (length table) a)))
+
+  met : {s : Step} → s ≡ stepAt table d at → At s
+  met e = subst At (sym e) found
+
+  pub step-end : step.End ≡ stepAt table d at → length table ≤ at
+  step-end e = of (met e)
     where
-      off : {A : Type 0} {n : ℕ} → step.Next fr sh w ≡ step.Refused n → A
-      off e = let z : _≡_ {A = ℕ} 0 1 = cc in absurd (omega arith)
+      of : At step.End → length table ≤ at
+      of (at-end h) = h
 
-      off₂ : {A : Type 0} → step.Next fr sh w ≡ step.End → A
-      off₂ e = let z : _≡_ {A = ℕ} 0 1 = cc in absurd (omega arith)
+  pub step-refused : (rule : ℕ) → step.Refused rule ≡ stepAt table d at
+      → (at < length table) × (rule ≡ 0 → ⊥) × ((k : Circuit) → k .d ≡ d → (f : ℕ) → frameRule k f word rest ≡ refuse rule f 0)
+  step-refused rule e = of (met e)
+    where
+      of : At (step.Refused rule) → (at < length table) × (rule ≡ 0 → ⊥) × ((k : Circuit) → k .d ≡ d → (f : ℕ) → frameRule k f word rest ≡ refuse rule f 0)
+      of (at-refused r l z h) = (l, z, h)
 
-      frame-eq : {f′ : Frame} {s′ : ShapeCode} {w′ : Walk} → step.Next fr sh w ≡ step.Next f′ s′ w′ → fr ≡ f′
-      frame-eq e = cc
-
-      shape-eq : {f′ : Frame} {s′ : ShapeCode} {w′ : Walk} → step.Next fr sh w ≡ step.Next f′ s′ w′ → sh ≡ s′
-      shape-eq e = cc
-
-      walk-eq : {f′ : Frame} {s′ : ShapeCode} {w′ : Walk} → step.Next fr sh w ≡ step.Next f′ s′ w′ → w ≡ w′
-      walk-eq e = cc
-
-      found : at < length table → 1 ≤ nth table at → nth table at ≤ 8 → words d (kindOf (nth table at)) ≤ length (drop (at + 1) table)
-          → step.Next fr sh w ≡ step.Next (frameCode (kindCode (kindOf (nth table at))) (operandsAt table d at)) (shapeCode d (kindOf (nth table at))) (behind d at (words d (kindOf (nth table at)))) → AtFrame fr sh w
-      found a b b₂ c e = record { inside = a; low = b; high = b₂; whole = c; frame-is = frame-eq e; shape-is = shape-eq e; walk-is = walk-eq e }
+  pub step-next : {fr : Frame} {sh : ShapeCode} {w : Walk} → step.Next fr sh w ≡ stepAt table d at → AtFrame sh w
+  step-next {fr} {sh} {w} e = of (met e)
+    where
+      of : At (step.Next fr sh w) → AtFrame sh w
+      of (at-frame f s v h) = h

@@ -71,9 +71,9 @@ module _ {table notes₀ notes : List ℕ} {d : ℕ} {walk : Walk} {tally : Tall
       refused-at rule 0 h (r (w .k) (w .shares ∙ sym (w .walk-shares)) (tally .frames))
 
   -- a whole frame at the walk's place
-  module _ (fr : Frame) (sh : ShapeCode) (on : Walk) (e : step.Next fr sh on ≡ stepAt table (walk .d) (walk .at)) (ops : List ℕ) (o : ops ≡ operandsAt table (walk .d) (walk .at)) where
-    frame-at : AtFrame table (walk .d) (walk .at) fr sh on
-    frame-at = step-next table (walk .d) (walk .at) fr sh on e
+  module _ {fr : Frame} {sh : ShapeCode} {on : Walk} (e : step.Next fr sh on ≡ stepAt table (walk .d) (walk .at)) (ops : List ℕ) (o : ops ≡ operandsAt table (walk .d) (walk .at)) where
+    frame-at : AtFrame table (walk .d) (walk .at) sh on
+    frame-at = step-next table (walk .d) (walk .at) e
 
     kind : Kind
     kind = kindOf (nth table (walk .at))

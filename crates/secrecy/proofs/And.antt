@@ -14,7 +14,7 @@ use Rattle.circuit.proofs.Base.{no-flip, cases, ltb-other, In, Has, has-left, e
 use Rattle.circuit.proofs.Parts.{index-lt, Before, before-append, before-each, More, Ready, Pair, other, label-lt, above-pair, others-pair, InAND, is-r, is-R, is-B, is-m, is-M, is-u, is-U, is-v, is-V, is-w, is-W, and-parts, and-has, cell1, cell2, cell3, sec1, sec2, sec3, has1, sorted-at}
 use Rattle.secrecy.proofs.Roles.{Role, lone, pair, role}
 use Rattle.secrecy.proofs.Taken.{seen-both}
-use Rattle.secrecy.proofs.Coupled.{Values, undecided, Shift, Agree, Early}
+use Rattle.secrecy.proofs.Coupled.{Values, undecided, Shift, Agree, EarlyStep}
 use Rattle.secrecy.proofs.Same.{Two, Same, settle, carry}
 use Rattle.secrecy.proofs.Flips.{delta, delta-swap, delta-none, delta-half, delta-u, delta-w, delta-agree}
 use Rattle.secrecy.proofs.Sites.{Site, number, gateOf, entry, lift, Known, Good, entriesAt, out, ins, out-ins, touched, ProbedRole, PartFact, OutFact, look, good, early-at}
@@ -178,7 +178,7 @@ module _ (isProbed : ℕ → Bool) (d first : ℕ) (a b : ℕ → ℕ) (start en
   -- every part is made behind those it uses, and flips are decided by the wires a and b
   module _ (la : (i : ℕ) → i < d → a i < first) (lb : (i : ℕ) → i < d → b i < first) where
     abbrev E : ℕ → Part → Type 0
-    E x p = Early x (lift flips (entry (gateOf site p) (inner (start + delay p)) (role p)))
+    E x p = EarlyStep x (lift flips (entry (gateOf site p) (inner (start + delay p)) (role p)))
 
     abbrev Q : List Part → Part → Type 0
     Q = Ready E first (inAND d)
@@ -238,7 +238,7 @@ module _ (isProbed : ℕ → Bool) (d first : ℕ) (a b : ℕ → ℕ) (start en
     low : {p : Part} (x : ℕ) → first + length (inAND d) ≤ x → InAND d p → number site p < x
     low {p} x n o = omega (arith, index-lt (inAND d) p (and-has d o))
 
-    output-early : (x i : ℕ) → first + length (inAND d) ≤ x → i < d → Early x (lift flips (entry (gateOf site (c i)) (named i end) (lone i)))
+    output-early : (x i : ℕ) → first + length (inAND d) ≤ x → i < d → EarlyStep x (lift flips (entry (gateOf site (c i)) (named i end) (lone i)))
     output-early x i n l =
         let L : ℕ → Type 0 = λ y. y < x in
         record {
@@ -251,5 +251,5 @@ module _ (isProbed : ℕ → Bool) (d first : ℕ) (a b : ℕ → ℕ) (start en
           decided = undecided x;
         }
 
-    pub and-early : AllFrom (λ x e. Early x (lift flips e)) first (entriesAt site)
+    pub and-early : AllFrom (λ x e. EarlyStep x (lift flips e)) first (entriesAt site)
     and-early = early-at site flips inner-early output-early

@@ -78,7 +78,7 @@ abbrev pub Low : ℕ → Gate → Type 0
 Low x g = Every (λ y. y < x) (operands g)
 
 -- a step at the wire x: its operands are earlier wires, and its flip is decided by earlier values
-pub record Early (x : ℕ) (s : Step) : Type 0 where
+pub record EarlyStep (x : ℕ) (s : Step) : Type 0 where
   pub low : Low x (s .wire .gate)
   pub decided : (f w f′ w′ : Values) → Agree x f w → Agree x f′ w′ → s .shift f f′ ≡ s .shift w w′
 
@@ -126,7 +126,7 @@ module _ (sh sh′ : List Bool) where
   run-right (s ∷ ss) v v′ g g′ r y h = sym (List·getD-append v′ (r .1 ∷ []) false y h)
       ∙ run-right ss (v ++ (r .0 ∷ [])) (v′ ++ (r .1 ∷ [])) g g′ (r .3) y (simp length-append (omega arith))
 
-  bits-agree : (x : ℕ) (s : Step) (f w f′ w′ : Values) (b b′ : Bool) → Early x s → Agree x f w → Agree x f′ w′
+  bits-agree : (x : ℕ) (s : Step) (f w f′ w′ : Values) (b b′ : Bool) → EarlyStep x s → Agree x f w → Agree x f′ w′
       → Bits sh sh′ (s .wire .gate) (s .shift) f f′ b b′ → Bits sh sh′ (s .wire .gate) (s .shift) w w′ b b′
   bits-agree x s f w f′ w′ b b′ e a a′ h =
       let g = s .wire .gate in
@@ -137,7 +137,7 @@ module _ (sh sh′ : List Bool) where
         flipped = λ k. h .flipped k ∙ ap (λ z. b ⊕ z) (e .decided f w f′ w′ a a′);
       }
 
-  pub settled : (ss : List Step) (v v′ g g′ : List Bool) → length v′ ≡ length v → AllFrom Early (length v) ss
+  pub settled : (ss : List Step) (v v′ g g′ : List Bool) → length v′ ≡ length v → AllFrom EarlyStep (length v) ss
       → Run sh sh′ ss v v′ g g′ → AllFrom (Settled g g′) (length v) ss
   settled [] v v′ g g′ l e r = tt
   settled (s ∷ ss) v v′ g g′ l e r =

@@ -12,7 +12,7 @@ use Rattle.circuit.specs.Circuit.{Circuit, size, empty, made}
 use Rattle.circuit.proofs.Base.{no-flip, AllFrom, all-left, all-right, all-imp, all-map, all-unmap}
 use Rattle.circuit.specs.Composition.{Frame, AllFit, build}
 use Rattle.semantics.specs.Values.{at, value, isRandom, valuesFrom, valuesOf}
-use Rattle.secrecy.proofs.Coupled.{Values, Step, wireOf, Run, Early, Low, Settled, settled}
+use Rattle.secrecy.proofs.Coupled.{Values, Step, wireOf, Run, EarlyStep, Low, Settled, settled}
 use Rattle.secrecy.proofs.Whole.{step, steps, steps-wires, early}
 
 -- an evaluation beside itself, with no bit flipped
@@ -53,8 +53,8 @@ equations d fs fit sh t =
     let ws = build (empty d) fs .wires in
     let g = valuesOf ws sh t in
     let ss = steps (λ x. false) [] (empty d) fs in
-    let low : AllFrom (λ x k. Low x (k .gate)) 0 ws = rw (steps-wires (λ x. false) [] (empty d) fs) (all-map (λ x k. Low x (k .gate)) wireOf 0 ss (all-imp Early (λ x s. Low x (s .wire .gate)) (λ x s e. e .low) 0 ss (early (λ x. false) [] fit))) in
-    let e : AllFrom Early 0 (map calm ws) = all-map Early calm 0 ws (all-imp (λ x k. Low x (k .gate)) (λ x k. Early x (calm k)) (λ x k l. record { low = l; decided = λ f h f′ h′ a a′. refl }) 0 ws low) in
+    let low : AllFrom (λ x k. Low x (k .gate)) 0 ws = rw (steps-wires (λ x. false) [] (empty d) fs) (all-map (λ x k. Low x (k .gate)) wireOf 0 ss (all-imp EarlyStep (λ x s. Low x (s .wire .gate)) (λ x s e. e .low) 0 ss (early (λ x. false) [] fit))) in
+    let e : AllFrom EarlyStep 0 (map calm ws) = all-map EarlyStep calm 0 ws (all-imp (λ x k. Low x (k .gate)) (λ x k. EarlyStep x (calm k)) (λ x k l. record { low = l; decided = λ f h f′ h′ a a′. refl }) 0 ws low) in
     all-imp (λ x k. Settled sh sh g g x (calm k)) (λ x k. Meets (at g) sh x (k .gate)) (λ x k b. b .left) 0 ws
     (all-unmap (Settled sh sh g g) calm 0 ws (settled sh sh (map calm ws) [] [] g g refl e (run-values ws sh t [])))
 

@@ -1,5 +1,5 @@
 -- The flip of a random bit of AND in the second evaluation, and what it does to the gadget's wires: bits only.
-use mathlib.Core.Path.{_≡_, refl, sym, _∙_}
+use mathlib.Core.Path.{_≡_, refl, sym, ap, _∙_}
 use mathlib.Core.Bool.{Bool, true, false, cond, not, _&&_}
 use mathlib.Core.List.{List}
 use mathlib.Core.Logic.{_⊎_, ⊎-elim}
@@ -21,16 +21,17 @@ oneOf-swap true false x y = refl
 oneOf-swap false true x y = refl
 oneOf-swap false false x y = refl
 
+flip : (r : Bool) → (r ⊕ true) ≡ not r
+flip true = refl
+flip false = refl
+
 -- the bits: a wire b + r is restored by the flip b + b′
 restore : (b b′ r : Bool) → (b ⊕ r) ≡ (b′ ⊕ (r ⊕ (b ⊕ b′)))
-restore true true true = refl
-restore true true false = refl
-restore true false true = refl
-restore true false false = refl
+restore true true r = ap not (sym (no-flip r))
+restore true false r = sym (flip r)
 restore false true true = refl
 restore false true false = refl
-restore false false true = refl
-restore false false false = refl
+restore false false r = sym (no-flip r)
 
 gate-u : (a r e : Bool) → (not a && r) ≡ (not a && (r ⊕ (a && e)))
 gate-u true r e = refl

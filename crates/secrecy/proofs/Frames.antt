@@ -16,7 +16,7 @@ use Rattle.circuit.specs.Composition.{Fits, fit-IN, fit-CON, fit-XOR, fit-NOT, 
 use Rattle.semantics.specs.Values.{at}
 use Rattle.secrecy.proofs.Roles.{Role, lone}
 use Rattle.secrecy.proofs.Taken.{taken, taken-sub, chosen, Chosen}
-use Rattle.secrecy.proofs.Coupled.{undecided, Shift, Early}
+use Rattle.secrecy.proofs.Coupled.{undecided, Shift, EarlyStep}
 use Rattle.secrecy.proofs.Same.{Two, Same, settle, carry}
 use Rattle.secrecy.proofs.Sites.{Site, Entry, entry, entryWire, entryRole, lift, Known, Good, hidden, entriesAt, wires-at, ins-eq}
 use Rattle.secrecy.proofs.And.{site, flips, and-good, and-early}
@@ -151,10 +151,10 @@ module _ (isProbed : ℕ → Bool) (behind : List ℕ) (k : Circuit) where
     frame-good (fit-OUT ops t n p) sh i h = tt
 
   -- operands are earlier
-  pub frame-early : {kind : Kind} {ops : List ℕ} → Fits k kind ops → AllFrom (λ x e. Early x (lift (frameFlips ops kind) e)) (size k) (entries ops kind)
+  pub frame-early : {kind : Kind} {ops : List ℕ} → Fits k kind ops → AllFrom (λ x e. EarlyStep x (lift (frameFlips ops kind) e)) (size k) (entries ops kind)
   unfolding entries frameFlips
-  frame-early (fit-IN t e) = all-map (λ x e. Early x (lift still e)) (inEntry (t ∷ [])) (size k) (labels (k .d))
-      (all-of (λ x i. Early x (lift still (inEntry (t ∷ []) i))) (λ i. i < k .d) (size k) (labels (k .d)) (λ x i l o. record { low = tt; decided = undecided x }) (every-of (λ i. i < k .d) (labels (k .d)) (label-lt (k .d))))
+  frame-early (fit-IN t e) = all-map (λ x e. EarlyStep x (lift still e)) (inEntry (t ∷ [])) (size k) (labels (k .d))
+      (all-of (λ x i. EarlyStep x (lift still (inEntry (t ∷ []) i))) (λ i. i < k .d) (size k) (labels (k .d)) (λ x i l o. record { low = tt; decided = undecided x }) (every-of (λ i. i < k .d) (labels (k .d)) (label-lt (k .d))))
   frame-early (fit-CON l b t o e f) = (record { low = tt; decided = undecided (size k) }, tt)
   frame-early (fit-XOR x y l t p q) = (record { low = (named-lt (k .wires) x l t p, (named-lt (k .wires) y l t q, tt)); decided = undecided (size k) }, tt)
   frame-early (fit-NOT x l t p) = (record { low = (named-lt (k .wires) x l t p, tt); decided = undecided (size k) }, tt)

@@ -12,7 +12,7 @@ use Rattle.circuit.specs.Gadgets.{Part, r, s, S, labels, above, others, sorted,
 use Rattle.circuit.proofs.Base.{no-flip, In, in-head, in-tail, Has, every-map, AllFrom}
 use Rattle.circuit.proofs.Parts.{index-lt, Before, before-append, before-each, More, Ready, label-lt, others-pair, InREF, fresh, added, fresh1, fresh-has, ref-parts, ref-has, sorted-at}
 use Rattle.secrecy.proofs.Roles.{Role, lone, role}
-use Rattle.secrecy.proofs.Coupled.{undecided, Shift, Early}
+use Rattle.secrecy.proofs.Coupled.{undecided, Shift, EarlyStep}
 use Rattle.secrecy.proofs.Same.{Two, Same, settle, carry}
 use Rattle.secrecy.proofs.Sites.{Site, number, gateOf, entry, lift, Known, Good, entriesAt, out, ins, out-ins, ProbedRole, PartFact, OutFact, look, good, early-at}
 
@@ -59,7 +59,7 @@ module _ (isProbed : ℕ → Bool) (d first : ℕ) (a : ℕ → ℕ) (start end 
   -- every part is made behind those it uses
   module _ (la : (i : ℕ) → i < d → a i < first) where
     abbrev Q : List Part → Part → Type 0
-    Q = Ready (λ x p. Early x (lift still (entry (gateOf refsite p) (inner (start + delay p)) (role p)))) first (inREF d)
+    Q = Ready (λ x p. EarlyStep x (lift still (entry (gateOf refsite p) (inner (start + delay p)) (role p)))) first (inREF d)
 
     made1 : Before Q [] (fresh1 d)
     made1 = before-each Q [] (labels d) (λ i. concatMap (above d i) (λ j. r i j ∷ [])) (λ i h pre k. before-each Q pre (above d i) (λ j. r i j ∷ []) (λ j h′ more k′.
@@ -84,8 +84,8 @@ module _ (isProbed : ℕ → Bool) (d first : ℕ) (a : ℕ → ℕ) (start end 
     unfolding inREF
     inner-early = before-append Q [] (fresh1 d) (map s (labels d)) made1 (λ more f g. made2 (labels d) more (label-lt d) g)
 
-    output-early : (x i : ℕ) → first + length (inREF d) ≤ x → i < d → Early x (lift still (entry (gateOf refsite (S i)) (named i end) (lone i)))
+    output-early : (x i : ℕ) → first + length (inREF d) ≤ x → i < d → EarlyStep x (lift still (entry (gateOf refsite (S i)) (named i end) (lone i)))
     output-early x i n l = record { low = (omega (arith, index-lt (inREF d) (s i) (ref-has d (added i l))), tt); decided = undecided x }
 
-    pub ref-early : AllFrom (λ x e. Early x (lift still e)) first (entriesAt refsite)
+    pub ref-early : AllFrom (λ x e. EarlyStep x (lift still e)) first (entriesAt refsite)
     ref-early = early-at refsite still inner-early output-early

@@ -13,7 +13,7 @@ use Rattle.circuit.proofs.Base.{In, Sub, Has, Every, every-of, AllFrom, all-app
 use Rattle.circuit.proofs.Parts.{index-at, label-lt, Before, Ready, ordered}
 use Rattle.secrecy.proofs.Roles.{Role, lone, pair, role}
 use Rattle.secrecy.proofs.Taken.{taken, taken-sub, taken-append, Chosen, chosen, seen, seen-all}
-use Rattle.secrecy.proofs.Coupled.{Shift, Step, Early}
+use Rattle.secrecy.proofs.Coupled.{Shift, Step, EarlyStep}
 use Rattle.secrecy.proofs.Same.{Two, Fact, Same}
 
 -- a wire and its role
@@ -175,11 +175,11 @@ module _ (here : Site) where
         all-append G first xs ys (all-map G innerEntry first inside gx) (subst (λ (k : ℕ). AllFrom G k ys) (sym e) (all-map G outerEntry n (labels d) gy))
 
   -- where every part is made behind those it uses, every wire of the gadget is behind those it takes
-  pub early-at : (δ : Role → Shift) → Before (Ready (λ x p. Early x (lift δ (innerEntry p))) first inside) [] inside
-      → ((x i : ℕ) → first + length inside ≤ x → i < d → Early x (lift δ (outerEntry i))) → AllFrom (λ x e. Early x (lift δ e)) first entriesAt
+  pub early-at : (δ : Role → Shift) → Before (Ready (λ x p. EarlyStep x (lift δ (innerEntry p))) first inside) [] inside
+      → ((x i : ℕ) → first + length inside ≤ x → i < d → EarlyStep x (lift δ (outerEntry i))) → AllFrom (λ x e. EarlyStep x (lift δ e)) first entriesAt
   unfolding entriesAt
   early-at δ h k =
-      let E : ℕ → Entry → Type 0 = λ x e. Early x (lift δ e) in
+      let E : ℕ → Entry → Type 0 = λ x e. EarlyStep x (lift δ e) in
       let xs = map innerEntry inside in
       let n = first + length inside in
       all-append E first xs (map outerEntry (labels d))

@@ -21,7 +21,7 @@ use Rattle.secrecy.proofs.Sums.{sumBits, overwrite-bits}
 use Rattle.secrecy.proofs.Whole.{front, steps, steps-wires, roles, front-sub, front-length, early, Sure, Seen, static}
 use Rattle.semantics.proofs.Randoms.{randomsIn, build-randoms}
 use Rattle.secrecy.proofs.Taken.{count-different}
-use Rattle.secrecy.proofs.Coupled.{Step, wireOf, Run, couple, Early, Settled, settled, stops-settled}
+use Rattle.secrecy.proofs.Coupled.{Step, wireOf, Run, couple, EarlyStep, Settled, settled, stops-settled}
 use Rattle.secrecy.proofs.Same.{Two, Same}
 use Rattle.secrecy.proofs.Sites.{hidden}
 
@@ -86,7 +86,7 @@ module _ (d : ℕ) (fs : List Frame) (probes start : List ℕ) where
         all-zip (Settled sh sh′ g g′) (λ x s. readAt x ≡ reads x (s .wire .gate) readAt) (Sure isProbed start (two g g′) indices) (λ x s b q. record { bits = b; reading = q }) 0 ss
         (settled sh sh′ ss [] [] g g′ refl e r)
         (all-unmap (λ x w. readAt x ≡ reads x (w .gate) readAt) wireOf 0 ss
-        (stops-settled ws [] (all-map (λ x w. Every (λ y. y < x) (operands (w .gate))) wireOf 0 ss (all-imp Early (λ x s. Every (λ y. y < x) (operands (s .wire .gate))) (λ x s q. q .low) 0 ss e))))
+        (stops-settled ws [] (all-map (λ x w. Every (λ y. y < x) (operands (w .gate))) wireOf 0 ss (all-imp EarlyStep (λ x s. Every (λ y. y < x) (operands (s .wire .gate))) (λ x s q. q .low) 0 ss e))))
 
     -- every wire that is read has one value in both evaluations
     alike-reads : (g g′ : List Bool) → Run sh sh′ ss [] [] g g′ → (x : ℕ) → In x (stops ws probes ++ besides) → at g x ≡ at g′ x

@@ -13,7 +13,7 @@ use Rattle.circuit.proofs.Base.{Sub, AllFrom, all-append, all-left, all-right, 
 use Rattle.secrecy.proofs.Frames.{placeIn, entries, frameFlips, frame-wires, before, Holds, Shares, frame-good, frame-early}
 use Rattle.secrecy.proofs.Roles.{Role}
 use Rattle.secrecy.proofs.Taken.{taken, taken-sub, taken-append, taken-length, count}
-use Rattle.secrecy.proofs.Coupled.{Shift, Step, wireOf, Early}
+use Rattle.secrecy.proofs.Coupled.{Shift, Step, wireOf, EarlyStep}
 use Rattle.secrecy.proofs.Same.{Two, Fact, Same}
 use Rattle.secrecy.proofs.Sites.{Entry, entryWire, entryRole, lift, Good, hidden}
 
@@ -98,14 +98,14 @@ module _ (isProbed : ℕ → Bool) (start : List ℕ) where
   front-length k fs = rw (front-taken k fs) (taken-length isProbed start (size k) (roles k fs))
 
   -- every step is early
-  pub early : {k : Circuit} {fs : List Frame} → AllFit k fs → AllFrom Early (size k) (steps k fs)
+  pub early : {k : Circuit} {fs : List Frame} → AllFit k fs → AllFrom EarlyStep (size k) (steps k fs)
   early done = tt
   early (next {k = k} {f = f} {fs = fs} t room ts) =
       let behind = front (step k f) fs in
       let es = entriesOf behind k f in
       let δ = flipsOf behind k f in
-      all-append Early (size k) (map (lift δ) es) (steps (step k f) fs) (all-map Early (lift δ) (size k) es (frame-early isProbed behind k t))
-      (subst (λ (n : ℕ). AllFrom Early n (steps (step k f) fs)) (size-step k f behind ∙ ap (λ x. size k + x) (sym (length-map es (lift δ)))) (early ts))
+      all-append EarlyStep (size k) (map (lift δ) es) (steps (step k f) fs) (all-map EarlyStep (lift δ) (size k) es (frame-early isProbed behind k t))
+      (subst (λ (n : ℕ). AllFrom EarlyStep n (steps (step k f) fs)) (size-step k f behind ∙ ap (λ x. size k + x) (sym (length-map es (lift δ)))) (early ts))
 
   module _ (T : Two) (J : List ℕ) where
     -- what is known of the wires, and what is wanted of them

@@ -70,14 +70,14 @@ loop-less-3 : tie.Need-loop-less-3 Inv-loop μ-loop
 loop-less-3 c =
     let o = c .before .before .before .before .before .before .before in
     let w = walking (stepped o) in
-    omega (arith, less-left w _ _ _ (met o) (o .operands .result .now) (o .operands .ensures))
+    omega (arith, less-left w (met o) (o .operands .result .now) (o .operands .ensures))
 
 loop-again-3 : tie.Need-loop-again-3 Inv-loop μ-loop
 loop-again-3 c =
     let a = c .before .before .before .before .before in
     let o = a .before .before in
     let s = stepped o in
-    rw (s .before .loop-test .taken) (goes (turn (walking s) _ _ _ (met o) (o .operands .result .now) (o .operands .ensures) _ (a .add .result) (a .add .ensures) _ (c .before .added .given .1)) (top s .loop .inv .clean (s .before .loop-test .taken)))
+    rw (s .before .loop-test .taken) (goes (turn (walking s) (met o) (o .operands .result .now) (o .operands .ensures) _ (a .add .result) (a .add .ensures) _ (c .before .added .given .1)) (top s .loop .inv .clean (s .before .loop-test .taken)))
 
 loop-again-4 : tie.Need-loop-again-4 Inv-loop μ-loop
 loop-again-4 c =
@@ -85,8 +85,8 @@ loop-again-4 c =
     let o = a .before .before in
     let w = walking (stepped o) in
     let e = c .before .added2 .given .1 in
-    stopped _ (ap length (broken-kept w _ _ _ (met o) (o .operands .result .now) (o .operands .ensures) _ (a .add .result) (a .add .ensures) _ e) ∙ kept w) (refused-rule (a .add .ensures) e)
-    (way-broken w _ _ _ (met o) (o .operands .result .now) (o .operands .ensures) _ (a .add .result) (a .add .ensures) _ e)
+    stopped _ (ap length (broken-kept w (met o) (o .operands .result .now) (o .operands .ensures) _ (a .add .result) (a .add .ensures) _ e) ∙ kept w) (refused-rule (a .add .ensures) e)
+    (way-broken w (met o) (o .operands .result .now) (o .operands .ensures) _ (a .add .result) (a .add .ensures) _ e)
 
 pub check-frames-spec : {M : Type 1} → statement M
 check-frames-spec =
@@ -105,7 +105,7 @@ check-frames-spec =
     loop-again-2
     (λ c. search needs)
     (λ c κs. search needs)
-    (λ c κs. let o = c .before in let w = walking (stepped o) in (bounded w, frame-of w _ _ _ (met o) (o .operands .result .now) (o .operands .ensures)))
+    (λ c κs. let o = c .before in let w = walking (stepped o) in (bounded w, frame-of w (met o) (o .operands .result .now) (o .operands .ensures)))
     (λ c. search needs)
     loop-less-3
     loop-again-3

@@ -13,14 +13,8 @@ use Rattle.text.proofs.read.Reads as read-reads
 -- src/lib.rt:76:32
 -- src/lib.rt:62:1
 -- src/lib.rt:62:1
-returns : tie.Need-returns
-returns c = (text-moved (sym (ap textAnswer (c .before .verdict .given .1)) ∙ c .before .before .before .before .before .read .ensures .0) (accepted-told (c .before .verdict .given .0 .0)), c .before .before .before .before .before .read .ensures .1)
-
 -- src/lib.rt:62:1
 -- src/lib.rt:62:1
-returns-2 : tie.Need-returns-2
-returns-2 c = (text-moved (sym (ap textAnswer (c .before .verdict2 .given .1)) ∙ c .before .before .before .before .before .read .ensures .0) (refused-told (c .before .verdict2 .given .0 .0) (c .before .verdict2 .given .0 .1 .0) (c .before .verdict2 .given .0 .1 .1 .0)), c .before .before .before .before .before .read .ensures .1)
-
 pub masked-read-text-spec : {M : Type 1} → statement M
 masked-read-text-spec =
     tie.close
@@ -29,6 +23,6 @@ masked-read-text-spec =
     (λ c. search needs)
     (λ c. search needs)
     (λ c. search needs)
-    returns
+    (λ c. (text-moved (sym (ap textAnswer (c .before .verdict .given .1)) ∙ c .before .before .before .before .before .read .ensures .0) (accepted-told (c .before .verdict .given .0 .0)), c .before .before .before .before .before .read .ensures .1))
     (λ c. search needs)
-    returns-2)
+    (λ c. (text-moved (sym (ap textAnswer (c .before .verdict2 .given .1)) ∙ c .before .before .before .before .before .read .ensures .0) (refused-told (c .before .verdict2 .given .0 .0) (c .before .verdict2 .given .0 .1 .0) (c .before .verdict2 .given .0 .1 .1 .0)), c .before .before .before .before .before .read .ensures .1)))

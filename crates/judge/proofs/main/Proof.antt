@@ -6,12 +6,6 @@ use Rattle.judge.proofs.Lengths.{line-inside}
 use Rattle.judge.proofs.main.Statement.{statement}
 use Rattle.judge.proofs.main.Tie as tie
 
-array-share-prefix-out : tie.Need-array-share-prefix-out
-array-share-prefix-out c = line-inside _ _ _ _ (c .before .write .ensures)
-
-slice-aggregate-write-all : tie.Need-slice-aggregate-write-all
-slice-aggregate-write-all c = sym (length-take-le _ _ (line-inside _ _ _ _ (c .before .before .write .ensures)))
-
 pub main-spec : {M : Type 1} → statement M
 main-spec =
     tie.close
@@ -25,7 +19,7 @@ main-spec =
     (λ c κs. search needs)
     (λ c. search needs)
     (λ c κs. search needs)
-    array-share-prefix-out
-    slice-aggregate-write-all
+    (λ c. line-inside _ _ _ _ (c .before .write .ensures))
+    (λ c. sym (length-take-le _ _ (line-inside _ _ _ _ (c .before .before .write .ensures))))
     (λ c κs. search needs)
     (λ c. search needs))

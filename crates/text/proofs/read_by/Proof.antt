@@ -123,9 +123,6 @@ closes : (c : tie.At-loop Inv-loop μ-loop) (j : Judgement) → let t = text (fi
     readText t room ≡ stop (take (c .loop .stored) (c .loop .table)) j → c .loop .table ≡ tableAfter (readText t room) (lent (first c))
 closes c j e = table-after (text (first c)) (c .loop .table) (lent (first c)) (length (lent (first c))) (c .loop .stored) j e (stored-in c) (kept c)
 
-head-rule-requires : tie.Need-head-rule-requires Inv-loop μ-loop
-head-rule-requires c κs = (c .before .before .before .pre, rw (c .limit .ensures) (limit-most (length (now (c .before .before .before .args .table)))))
-
 returns : tie.Need-returns Inv-loop μ-loop
 returns c =
     let l = c .before .before in
@@ -133,18 +130,6 @@ returns c =
     let broken = sym (rule-broken r 0 (headWord r) (c .before .if1 .taken)) ∙ first-judged l in
     let e = head-refused (text l) (length (lent l)) r (headWord r) broken in
     (rw (e, c .head-word .ensures), rw e)
-
-value-requires : tie.Need-value-requires Inv-loop μ-loop
-value-requires c κs = (known (c .before), omega (arith, first-fits c))
-
-value-requires-2 : tie.Need-value-requires-2 Inv-loop μ-loop
-value-requires-2 c κs = (known (c .before .before), omega (arith, first-fits (c .before)))
-
-slice-write-table : tie.Need-slice-write-table Inv-loop μ-loop
-slice-write-table c = omega (arith, first-fits (c .before .before))
-
-slice-write-table-2 : tie.Need-slice-write-table-2 Inv-loop μ-loop
-slice-write-table-2 c = simp length-set (omega (arith, first-fits (c .before .before)))
 
 loop-holds : tie.Need-loop-holds Inv-loop μ-loop
 loop-holds c =
@@ -156,9 +141,6 @@ loop-holds c =
     (start (text l) (lent l) room (first-passes (c .before .before)) refl) in
     subst (λ (n : ℕ). Progress (text l) (begun c) n (shareCount c) (begun c) 10 1 2) (sym (sized c))
     (subst (λ (t : List ℕ). Progress (text l) t room (shareCount c) t 10 1 2) (sym (begins c)) p)
-
-end-requires : tie.Need-end-requires Inv-loop μ-loop
-end-requires c κs = (known (first (c .before)), omega arith)
 
 frame-rule-requires : tie.Need-frame-rule-requires Inv-loop μ-loop
 frame-rule-requires c κs =
@@ -172,9 +154,6 @@ frame-rule-requires c κs =
       rw (first l .before .limit .ensures) (limit-most room),
     )
 
-same-length : tie.Need-same-length Inv-loop μ-loop
-same-length c = progress (c .before .before .before .before) .size
-
 returns-2 : tie.Need-returns-2 Inv-loop μ-loop
 returns-2 c =
     let l = c .before .before .before .before in
@@ -182,18 +161,6 @@ returns-2 c =
     let broken = sym (rule-broken r (l .loop .line) 0 (c .if2 .taken)) ∙ judged (c .before) in
     let e = refused _ _ _ _ _ _ _ _ (progress l) (c .before .before .before .loop-test .taken) r 0 broken in
     (rw e, closes l (refuse r (l .loop .line) 0) e)
-
-value-requires-3 : tie.Need-value-requires-3 Inv-loop μ-loop
-value-requires-3 c κs = let f = numbers c in (known (first (line-at c)), omega arith)
-
-slice-write-table-3 : tie.Need-slice-write-table-3 Inv-loop μ-loop
-slice-write-table-3 c = let p = c .before in let f = numbers p in omega (arith, f .room-left, f .some, progress (line-at p) .size)
-
-add-store : tie.Need-add-store Inv-loop μ-loop
-add-store c = let p = c .before in let f = numbers p in let g = first (line-at p) .before .before .before .before .good in record { fits = omega arith }
-
-add-store-2 : tie.Need-add-store-2 Inv-loop μ-loop
-add-store-2 c = record { fits = omega arith }
 
 store-requires : tie.Need-store-requires Inv-loop μ-loop
 store-requires c κs =
@@ -209,9 +176,6 @@ store-requires c κs =
 add-line : tie.Need-add-line Inv-loop μ-loop
 add-line c = let p = c .before .before .before .before .before in let f = numbers p in let i = progress (line-at p) in let g = first (line-at p) .before .before .before .before .good in
     record { fits = omega arith }
-
-loop-less : tie.Need-loop-less Inv-loop μ-loop
-loop-less c = let p = c .before .before .before .before .before in let f = numbers p in omega (arith, f .inside, f .some, measured p)
 
 loop-again : tie.Need-loop-again Inv-loop μ-loop
 loop-again c =
@@ -240,9 +204,6 @@ loop-again c =
     (subst (λ (x : ℕ). after room table x (k .stored + n)) (sym z)
     (subst (λ (x : List ℕ). after room x (k .at + 5 * n) (k .stored + n)) (sym w) next)))
 
-same-length-2 : tie.Need-same-length-2 Inv-loop μ-loop
-same-length-2 c = progress (c .before) .size
-
 returns-3 : tie.Need-returns-3 Inv-loop μ-loop
 returns-3 c =
     let l = c .before in
@@ -256,26 +217,26 @@ read-by-spec =
     Inv-loop
     μ-loop
     (λ c κs. search needs)
-    head-rule-requires
+    (λ c κs. (c .before .before .before .pre, rw (c .limit .ensures) (limit-most (length (now (c .before .before .before .args .table))))))
     (λ c κs. search needs)
     returns
-    value-requires
-    value-requires-2
-    slice-write-table
-    slice-write-table-2
+    (λ c κs. (known (c .before), omega (arith, first-fits c)))
+    (λ c κs. (known (c .before .before), omega (arith, first-fits (c .before))))
+    (λ c. omega (arith, first-fits (c .before .before)))
+    (λ c. simp length-set (omega (arith, first-fits (c .before .before))))
     loop-holds
-    end-requires
+    (λ c κs. (known (first (c .before)), omega arith))
     frame-rule-requires
-    same-length
+    (λ c. progress (c .before .before .before .before) .size)
     returns-2
-    value-requires-3
+    (λ c κs. let f = numbers c in (known (first (line-at c)), omega arith))
     (λ c. search needs)
-    slice-write-table-3
-    add-store
-    add-store-2
+    (λ c. let p = c .before in let f = numbers p in omega (arith, f .room-left, f .some, progress (line-at p) .size))
+    (λ c. let p = c .before in let f = numbers p in let g = first (line-at p) .before .before .before .before .good in record { fits = omega arith })
+    (λ c. record { fits = omega arith })
     store-requires
     add-line
-    loop-less
+    (λ c. let p = c .before .before .before .before .before in let f = numbers p in omega (arith, f .inside, f .some, measured p))
     loop-again
-    same-length-2
+    (λ c. progress (c .before) .size)
     returns-3)

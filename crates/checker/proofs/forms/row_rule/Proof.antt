@@ -32,12 +32,6 @@ turn c =
     l .inv .1 ∙ row-turn _ (a .stage) (a .ahead) (a .word) (l .i) (a .row .now) (c .before .before .loop-test .taken)
     ∙ ap (λ n. orElse n (a .word + l .i) (rowBroken (noted (a .notes .now) (a .wires)) (a .stage) (a .ahead) (a .word + (l .i + 1)) (l .i + 1) (drop (l .i + 1) (a .row .now)))) (sym (c .wire-rule .ensures))
 
-returns : tie.Need-returns Inv-loop μ-loop
-returns c = sym (turn (c .before) ∙ broken-first (spot (c .before .wire-rule .result) _) _ (c .if1 .taken))
-
-loop-again : tie.Need-loop-again Inv-loop μ-loop
-loop-again c = (search needs, turn (c .before) ∙ none-first (spot (c .before .wire-rule .result) _) _ (c .if1 .left))
-
 returns-2 : tie.Need-returns-2 Inv-loop μ-loop
 unfolding rowBroken
 returns-2 c = let l = c .before .loop in let row = c .before .before .before .before .args .row .now in
@@ -55,8 +49,8 @@ row-rule-spec =
     (λ c. omega arith)
     (λ c κs. omega arith)
     (λ c. omega arith)
-    returns
+    (λ c. sym (turn (c .before) ∙ broken-first (spot (c .before .wire-rule .result) _) _ (c .if1 .taken)))
     (λ c. search needs)
     (λ c. search needs)
-    loop-again
+    (λ c. (search needs, turn (c .before) ∙ none-first (spot (c .before .wire-rule .result) _) _ (c .if1 .left)))
     returns-2)

@@ -35,9 +35,6 @@ loop-again c = (
   c .before .loop .inv .4 ∙ marks-turn (c .before .loop .notes) _ (c .before .loop .i) (c .loop-test .taken),
 )
 
-returns : tie.Need-returns Inv-loop μ-loop
-returns c = sym (c .before .loop .inv .4 ∙ marks-end _ _ (c .before .loop .i) (c .loop-test .left))
-
 pub write-inner-spec : {M : Type 1} → statement M
 write-inner-spec =
     tie.close
@@ -54,4 +51,4 @@ write-inner-spec =
     (λ c. search needs)
     loop-again
     (λ c. search needs)
-    returns)
+    (λ c. sym (c .before .loop .inv .4 ∙ marks-end _ _ (c .before .loop .i) (c .loop-test .left))))

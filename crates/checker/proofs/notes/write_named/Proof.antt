@@ -18,9 +18,6 @@ Inv-loop notes₀ from count label stage start i₀ notes i =
 abbrev μ-loop : tie.MeasureT-loop
 μ-loop notes₀ from count label stage start i₀ notes i = count - i
 
-loop-holds : tie.Need-loop-holds Inv-loop μ-loop
-loop-holds c = (search needs, search needs, search needs, store-start (c .args .notes .now) (c .args .from) (c .args .label) (c .args .count) (λ l k. namedWords l (c .args .stage) k))
-
 loop-again : tie.Need-loop-again Inv-loop μ-loop
 loop-again c =
     let l = c .before .loop in
@@ -40,7 +37,7 @@ write-named-spec =
     Inv-loop
     μ-loop
     (λ c. search needs)
-    loop-holds
+    (λ c. (search needs, search needs, search needs, store-start (c .args .notes .now) (c .args .from) (c .args .label) (c .args .count) (λ l k. namedWords l (c .args .stage) k)))
     (λ c. search needs)
     (λ c. search needs)
     (λ c. search needs)

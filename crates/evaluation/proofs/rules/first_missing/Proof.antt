@@ -16,15 +16,6 @@ Inv-loop probes wires i₀ i = (i ≤ length probes) × ((k : Circuit) → size 
 abbrev μ-loop : tie.MeasureT-loop
 μ-loop probes wires i₀ i = length probes - i
 
-returns : tie.Need-returns Inv-loop μ-loop
-returns c = record { is = λ k e. probe-found k (c .before .before .before .before .args .probes .now) (c .before .before .before .loop .i) (c .before .before .before .loop .inv .1 k e) (c .before .before .loop-test .taken) (omega arith) }
-
-loop-again : tie.Need-loop-again Inv-loop μ-loop
-loop-again c = (omega arith, λ k e. probe-turn k (c .before .before .before .before .args .probes .now) (c .before .before .before .loop .i) (c .before .before .before .loop .inv .1 k e) (c .before .before .loop-test .taken) (omega arith))
-
-returns-2 : tie.Need-returns-2 Inv-loop μ-loop
-returns-2 c = record { is = λ k e. probe-end k (c .before .before .args .probes .now) (c .before .loop .i) (c .before .loop .inv .1 k e) (c .loop-test .left) }
-
 pub first-missing-spec : {M : Type 1} → statement M
 first-missing-spec =
     tie.close
@@ -35,8 +26,8 @@ first-missing-spec =
     (λ c. search needs)
     (λ c. search needs)
     (λ c. record { fits = omega (arith, c .shared-slice-known .given (c .before .before .loop .i)) })
-    returns
+    (λ c. record { is = λ k e. probe-found k (c .before .before .before .before .args .probes .now) (c .before .before .before .loop .i) (c .before .before .before .loop .inv .1 k e) (c .before .before .loop-test .taken) (omega arith) })
     (λ c. search needs)
     (λ c. search needs)
-    loop-again
-    returns-2)
+    (λ c. (omega arith, λ k e. probe-turn k (c .before .before .before .before .args .probes .now) (c .before .before .before .loop .i) (c .before .before .before .loop .inv .1 k e) (c .before .before .loop-test .taken) (omega arith)))
+    (λ c. record { is = λ k e. probe-end k (c .before .before .args .probes .now) (c .before .loop .i) (c .before .loop .inv .1 k e) (c .loop-test .left) }))

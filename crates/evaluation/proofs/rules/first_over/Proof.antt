@@ -14,18 +14,6 @@ Inv-loop bytes count i₀ i = (i ≤ length bytes) × Passed bytesRule bytes i
 abbrev μ-loop : tie.MeasureT-loop
 μ-loop bytes count i₀ i = length bytes - i
 
-returns : tie.Need-returns Inv-loop μ-loop
-returns c = overwrite-none (c .before .before .before .args .bytes .now) (λ x l. omega (arith, c .before .largest .ensures .is x (omega arith) (omega arith)))
-
-returns-2 : tie.Need-returns-2 Inv-loop μ-loop
-returns-2 c = record { is = byte-found (c .before .before .before .before .before .before .before .args .bytes .now) (c .before .before .before .loop .i) (c .before .before .before .loop .inv .1) (c .before .before .loop-test .taken) (c .if2 .taken) }
-
-loop-again : tie.Need-loop-again Inv-loop μ-loop
-loop-again c = (omega arith, byte-turn (c .before .before .before .before .before .before .before .args .bytes .now) (c .before .before .before .loop .i) (c .before .before .before .loop .inv .1) (c .before .before .loop-test .taken) (c .if2 .left))
-
-returns-3 : tie.Need-returns-3 Inv-loop μ-loop
-returns-3 c = record { is = byte-end (c .before .before .before .before .before .args .bytes .now) (c .before .loop .i) (c .before .loop .inv .1) (c .loop-test .left) }
-
 pub first-over-spec : {M : Type 1} → statement M
 first-over-spec =
     tie.close
@@ -33,11 +21,11 @@ first-over-spec =
     Inv-loop
     μ-loop
     (λ c κs. omega arith)
-    returns
+    (λ c. overwrite-none (c .before .before .before .args .bytes .now) (λ x l. omega (arith, c .before .largest .ensures .is x (omega arith) (omega arith))))
     (λ c. (omega arith, passed-start bytesRule (c .before .before .before .args .bytes .now)))
     (λ c. search needs)
-    returns-2
+    (λ c. record { is = byte-found (c .before .before .before .before .before .before .before .args .bytes .now) (c .before .before .before .loop .i) (c .before .before .before .loop .inv .1) (c .before .before .loop-test .taken) (c .if2 .taken) })
     (λ c. search needs)
     (λ c. search needs)
-    loop-again
-    returns-3)
+    (λ c. (omega arith, byte-turn (c .before .before .before .before .before .before .before .args .bytes .now) (c .before .before .before .loop .i) (c .before .before .before .loop .inv .1) (c .before .before .loop-test .taken) (c .if2 .left)))
+    (λ c. record { is = byte-end (c .before .before .before .before .before .args .bytes .now) (c .before .loop .i) (c .before .loop .inv .1) (c .loop-test .left) }))

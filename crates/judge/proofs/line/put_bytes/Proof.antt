@@ -16,9 +16,6 @@ Inv-loop bytes out₀ at i₀ out i = (i ≤ length bytes) × (length out ≡ le
 abbrev μ-loop : tie.MeasureT-loop
 μ-loop bytes out₀ at i₀ out i = length bytes - i
 
-loop-holds : tie.Need-loop-holds Inv-loop μ-loop
-loop-holds c = (omega arith, refl, ap (λ (k : ℕ). sets (now (c .args .out)) k (now (c .args .bytes))) (omega arith))
-
 loop-again : tie.Need-loop-again Inv-loop μ-loop
 loop-again c =
     let k = c .before .before .loop in
@@ -39,7 +36,7 @@ put-bytes-spec =
     (tie.spec
     Inv-loop
     μ-loop
-    loop-holds
+    (λ c. (omega arith, refl, ap (λ (k : ℕ). sets (now (c .args .out)) k (now (c .args .bytes))) (omega arith)))
     (λ c. search needs)
     (λ c. search needs)
     (λ c. search needs)

@@ -48,12 +48,6 @@ second k = more (lent (start2 k)) (one (start2 k)) _ _ (two (start2 k)) _ _ (fir
 third : (k : tie.After-put-field3) → Run (lent (start3 k)) (one (start3 k) ++ two (start3 k) ++ three (start3 k)) (k .put-field3 .result) (k .put-field3 .last .1 .1 .0)
 third k = more (lent (start3 k)) (one (start3 k) ++ two (start3 k)) _ _ (three (start3 k)) _ _ (second (k .before .before .before .before)) (k .put-field3 .ensures)
 
-put-field-requires : tie.Need-put-field-requires
-put-field-requires c κs = let k = c .before .before .before .before .before in omega (arith, sizes k, k .pre)
-
-put-field-requires-2 : tie.Need-put-field-requires-2
-put-field-requires-2 c κs = let k = c .before .before .before in let r = first k in omega (arith, sizes (start k), start k .pre, r .place, run-length _ _ _ _ r)
-
 put-field-requires-3 : tie.Need-put-field-requires-3
 put-field-requires-3 c κs =
     let k = c .before .before .before in
@@ -77,8 +71,8 @@ pub put-line-spec : {M : Type 1} → statement M
 put-line-spec =
     tie.close
     (tie.spec
-    put-field-requires
-    put-field-requires-2
+    (λ c κs. let k = c .before .before .before .before .before in omega (arith, sizes k, k .pre))
+    (λ c κs. let k = c .before .before .before in let r = first k in omega (arith, sizes (start k), start k .pre, r .place, run-length _ _ _ _ r))
     put-field-requires-3
     (λ c. search needs)
     put-bytes-requires

@@ -17,12 +17,6 @@ put-line-requires-2 c κs =
     le-trans (short-line refusedName _ frameName _ wordName _ (search needs) (search needs) (search needs) (omega arith))
     (c .before .before .before .before .before .before .before .before .pre)
 
-returns : tie.Need-returns
-returns c = rw (c .before .before .before .before .before .before .before .before .verdict .given .1) (c .before .before .put-line .ensures)
-
-returns-2 : tie.Need-returns-2
-returns-2 c = rw (c .before .before .before .before .before .before .before .before .verdict2 .given .1) (c .before .before .put-line2 .ensures)
-
 pub write-spec : {M : Type 1} → statement M
 write-spec =
     tie.close
@@ -38,6 +32,6 @@ write-spec =
     (λ c. search needs)
     put-line-requires-2
     (λ c. search needs)
-    returns
+    (λ c. rw (c .before .before .before .before .before .before .before .before .verdict .given .1) (c .before .before .put-line .ensures))
     (λ c. search needs)
-    returns-2)
+    (λ c. rw (c .before .before .before .before .before .before .before .before .verdict2 .given .1) (c .before .before .put-line2 .ensures)))

@@ -29,9 +29,6 @@ shared-slice-read-sum c =
     let a = start t .args in
     omega (arith, c .before .mask-at .ensures .0, mask-lt (a .d) (a .first) (a .i) (t .before .loop .j) (start t .pre .1) (below t) (apart t), start t .pre .3)
 
-loop-again : tie.Need-loop-again Inv-loop μ-loop
-loop-again c = let t = c .before .before in masks-turn (t .before .loop .inv) (start t .pre .1) (below t) (apart t) (t .loop-test .taken) _ (c .before .mask-at .ensures .0)
-
 pub add-masks-spec : {M : Type 1} → statement M
 add-masks-spec =
     tie.close
@@ -43,5 +40,5 @@ add-masks-spec =
     shared-slice-read-sum
     (λ c. search needs)
     (λ c. omega arith)
-    loop-again
+    (λ c. let t = c .before .before in masks-turn (t .before .loop .inv) (start t .pre .1) (below t) (apart t) (t .loop-test .taken) _ (c .before .mask-at .ensures .0))
     (λ c. masks-end (c .before .loop .inv) (c .loop-test .left)))

@@ -18,9 +18,6 @@ Inv-loop values₀ first d start i₀ values i = (i ≤ d) × Fills (Held d firs
 abbrev μ-loop : tie.MeasureT-loop
 μ-loop values₀ first d start i₀ values i = d - i
 
-loop-holds : tie.Need-loop-holds Inv-loop μ-loop
-loop-holds c = (omega arith, fills-at refl (omega arith) (fills-none (c .before .before .args .first + pairs (c .before .before .args .d) + c .before .before .args .d) (c .before .before .args .values .now)))
-
 loop-again : tie.Need-loop-again Inv-loop μ-loop
 loop-again c =
     let a = c .before .before .before .before .before .args in
@@ -42,7 +39,7 @@ holds-spec =
     μ-loop
     (λ c κs. (omega arith, omega arith))
     (λ c. search needs)
-    loop-holds
+    (λ c. (omega arith, fills-at refl (omega arith) (fills-none (c .before .before .args .first + pairs (c .before .before .args .d) + c .before .before .args .d) (c .before .before .args .values .now))))
     (λ c. search needs)
     (λ c. omega arith)
     (λ c. search needs)

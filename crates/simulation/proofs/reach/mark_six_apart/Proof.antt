@@ -25,9 +25,6 @@ loop-again c =
     let l = c .before .loop in
     (omega arith, omega arith, sym (ap (markAll (l .marks)) (six-apart-turn (l .x) (c .before .before .args .count) (l .k) (c .loop-test .taken))) ∙ l .inv .2, length-set (l .marks) (l .x) 1 ∙ l .inv .3)
 
-returns : tie.Need-returns Inv-loop μ-loop
-returns c = sym (ap (markAll (c .before .loop .marks)) (six-apart-end (c .before .loop .x) (c .before .before .args .count) (c .before .loop .k) (c .loop-test .left))) ∙ c .before .loop .inv .2
-
 pub mark-six-apart-spec : {M : Type 1} → statement M
 mark-six-apart-spec =
     tie.close
@@ -41,4 +38,4 @@ mark-six-apart-spec =
     (λ c. omega arith)
     loop-again
     (λ c. c .before .loop .inv .3)
-    returns)
+    (λ c. sym (ap (markAll (c .before .loop .marks)) (six-apart-end (c .before .loop .x) (c .before .before .args .count) (c .before .loop .k) (c .loop-test .left))) ∙ c .before .loop .inv .2))

@@ -16,12 +16,6 @@ Inv-loop marks₀ first d ops i₀ marks i = (i ≤ d) × Moves (CrossAllGates d
 abbrev μ-loop : tie.MeasureT-loop
 μ-loop marks₀ first d ops i₀ marks i = i
 
-propagate-row-requires : tie.Need-propagate-row-requires Inv-loop μ-loop
-propagate-row-requires c κs = let p = c .before .before .before .before .before .pre in (p .0, omega arith, omega arith, omega arith, (λ j l u e. omega arith), omega arith, p .2, p .3, p .4)
-
-propagate-row-requires-2 : tie.Need-propagate-row-requires-2 Inv-loop μ-loop
-propagate-row-requires-2 c κs = let p = c .before .before .before .before .before .before .before .before .before .pre in (p .0, omega arith, omega arith, omega arith, (λ j l u e. omega arith), omega arith, p .2, p .3, p .4)
-
 loop-again : tie.Need-loop-again Inv-loop μ-loop
 loop-again c =
     let r = c .before .before .before .before .before .before in
@@ -38,8 +32,8 @@ propagate-rows-spec =
     (λ c. (omega arith, moves-none _ _))
     (λ c. omega arith)
     (λ c. search needs)
-    propagate-row-requires
-    propagate-row-requires-2
+    (λ c κs. let p = c .before .before .before .before .before .pre in (p .0, omega arith, omega arith, omega arith, (λ j l u e. omega arith), omega arith, p .2, p .3, p .4))
+    (λ c κs. let p = c .before .before .before .before .before .before .before .before .before .pre in (p .0, omega arith, omega arith, omega arith, (λ j l u e. omega arith), omega arith, p .2, p .3, p .4))
     (λ c. omega arith)
     loop-again
     (λ c. c .before .loop .inv .1 .size)

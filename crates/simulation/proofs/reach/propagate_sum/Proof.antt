@@ -24,9 +24,6 @@ returns c =
     let low : nth (a .marks .now) (sumAt (a .d) (a .first) (a .i)) < 1 = rw (← c .before .before .sum-at .ensures .0) (c .if1 .taken) in
     rw (lt-ltb _ 1 low)
 
-mark-masks-requires : tie.Need-mark-masks-requires
-mark-masks-requires c κs = let p = c .before .before .before .before .before .pre in (p .0, p .1, omega arith, simp length-set (omega (arith, p .3)), (λ j l u e. omega arith), omega arith)
-
 mark-masks-requires-2 : tie.Need-mark-masks-requires-2
 mark-masks-requires-2 c κs =
     let p = c .before .before .before .before .before .before .before .before .before .pre in
@@ -48,7 +45,7 @@ propagate-sum-spec =
     (λ c. omega (arith, c .before .sum-at .ensures .0))
     returns
     (λ c. omega arith)
-    mark-masks-requires
+    (λ c κs. let p = c .before .before .before .before .before .pre in (p .0, p .1, omega arith, simp length-set (omega (arith, p .3)), (λ j l u e. omega arith), omega arith))
     (λ c. search needs)
     mark-masks-requires-2
     (λ c. omega (arith, twice (c .before .before), c .before .before .before .before .before .before .before .before .before .before .sum-at .ensures .0))

@@ -16,9 +16,6 @@ Inv-loop marks₀ probes i₀ marks i = (i ≤ length probes) × (markAll marks�
 abbrev μ-loop : tie.MeasureT-loop
 μ-loop marks₀ probes i₀ marks i = length probes - i
 
-element-write-marks : tie.Need-element-write-marks Inv-loop μ-loop
-element-write-marks c = c .before .before .before .pre _ (nth-in (c .before .before .before .args .probes .now) (c .before .before .loop .i) (c .before .loop-test .taken))
-
 pub mark-spec : {M : Type 1} → statement M
 mark-spec =
     tie.close
@@ -29,7 +26,7 @@ mark-spec =
     (λ c. search needs)
     (λ c. search needs)
     (λ c. record { fits = omega (arith, c .shared-slice-known .given (c .before .before .loop .i)) })
-    element-write-marks
+    (λ c. c .before .before .before .pre _ (nth-in (c .before .before .before .args .probes .now) (c .before .before .loop .i) (c .before .loop-test .taken)))
     (λ c. search needs)
     (λ c. search needs)
     (λ c. (omega arith, c .before .before .loop .inv .1 ∙ mark-turn _ _ _ (c .before .loop-test .taken)))

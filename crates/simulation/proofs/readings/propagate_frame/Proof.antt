@@ -30,15 +30,6 @@ entry c = c .before .before .before .before .before
 asked-gate : (c : tie.After-known-told) {g : GateCode} → c .before .frame .given .0 .0 ≡ g → Asked (entry c) (frame.Gate g)
 asked-gate c e = asked (entry c) (c .before .frame .given .1 ∙ ap frame.Gate e)
 
-propagate-gate-requires : tie.Need-propagate-gate-requires
-propagate-gate-requires c κs = let q = asked-gate (c .before .before .before .before) (c .before .before .gate .given .1) in (omega (arith, q .0), omega (arith, q .0, q .1 .0), omega (arith, q .0, q .1 .1))
-
-propagate-gate-requires-2 : tie.Need-propagate-gate-requires-2
-propagate-gate-requires-2 c κs = let q = asked-gate (c .before .before .before .before) (c .before .before .gate2 .given .1) in (omega (arith, q .0), omega (arith, q .0, q .1), omega (arith, q .0, q .1))
-
-propagate-refresh-requires : tie.Need-propagate-refresh-requires
-propagate-refresh-requires c κs = let s = c .before .before .before .before .before in let q = asked s (c .before .enum-told6 .given .1) in (s .pre .0, omega (arith, q .0), q .1 .0, q .1 .1)
-
 returns-3 : tie.Need-returns-3
 returns-3 c =
     let g = c .before .before .before .before .before in
@@ -54,15 +45,15 @@ propagate-frame-spec =
     tie.close
     (tie.spec
     (λ c. search needs) (λ c. search needs) (λ c. search needs) (λ c. search needs)
-    propagate-gate-requires
+    (λ c κs. let q = asked-gate (c .before .before .before .before) (c .before .before .gate .given .1) in (omega (arith, q .0), omega (arith, q .0, q .1 .0), omega (arith, q .0, q .1 .1)))
     (λ c. search needs)
-    propagate-gate-requires-2
+    (λ c κs. let q = asked-gate (c .before .before .before .before) (c .before .before .gate2 .given .1) in (omega (arith, q .0), omega (arith, q .0, q .1), omega (arith, q .0, q .1)))
     (λ c. search needs)
     (λ c. search needs)
     (λ c. search needs)
     (λ c κs. let s = c .before .before .before .before .before in let q = asked s (c .before .enum-told5 .given .1) in (s .pre .0, q .0, q .1))
     (λ c. search needs)
-    propagate-refresh-requires
+    (λ c κs. let s = c .before .before .before .before .before in let q = asked s (c .before .enum-told6 .given .1) in (s .pre .0, omega (arith, q .0), q .1 .0, q .1 .1))
     (λ c. rw (c .before .before .before .frame .given .1, c .enum-told .given .1) (λ from. moves-stops _ _ _ (λ g h q l. ap isStop (h q l))))
     (λ c. rw (c .before .before .before .frame .given .1, c .enum-told2 .given .1) (λ from. moves-stop _ _ (λ g h. ap isStop h)))
     (λ c. c .before .before .propagate-gate .kept .0)

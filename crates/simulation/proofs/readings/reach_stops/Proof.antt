@@ -10,9 +10,6 @@ use Rattle.simulation.proofs.readings.reach_stops.Tie as tie
 use Rattle.simulation.specs.Internal.Marks.{markAll}
 use Rattle.simulation.proofs.Showing.{marked-probes}
 
-propagate-frames-requires : tie.Need-propagate-frames-requires
-propagate-frames-requires c κs = let l = c .before .before .before .before .before .list-frames .ensures in (l, omega (arith, l .few), c .before .before .before .before .before .before .before .before .before .pre .1)
-
 returns : tie.Need-returns
 returns c =
     let s = c .before .before .before .before .before .before .before .before .before .before in
@@ -28,5 +25,5 @@ reach-stops-spec =
     (λ c κs. (c .before .before .before .pre .0, omega arith))
     (λ c κs. let p = c .before .before .before .before .before .before .pre in λ x i. omega (arith, p .2 x i, p .1, accepted-size (p .0)))
     (λ c. search needs)
-    propagate-frames-requires
+    (λ c κs. let l = c .before .before .before .before .before .list-frames .ensures in (l, omega (arith, l .few), c .before .before .before .before .before .before .before .before .before .pre .1))
     returns)

@@ -48,21 +48,6 @@ refresh-requires c κs =
     let q = asked s (c .before .enum-told4 .given .1) in
     (s .pre .0, q .1 .0, q .1 .1, omega (arith, q .0), q .2, s .pre .5)
 
-returns : tie.Need-returns
-returns c = rw (c .before .before .before .before .before .before .before .frame .given .1, c .before .before .before .before .enum-told .given .1) (c .before .before .copy .ensures)
-
-returns-2 : tie.Need-returns-2
-returns-2 c = rw (c .before .before .before .before .before .before .before .before .frame .given .1, c .before .before .before .before .before .gate .given .1) (c .before .before .constant .ensures)
-
-returns-3 : tie.Need-returns-3
-returns-3 c = rw (c .before .before .before .before .before .before .before .before .frame .given .1, c .before .before .before .before .before .gate2 .given .1) (c .before .before .sum .ensures)
-
-returns-4 : tie.Need-returns-4
-returns-4 c = rw (c .before .before .before .before .before .before .before .before .frame .given .1, c .before .before .before .before .before .gate3 .given .1) (c .before .before .inverse .ensures)
-
-returns-5 : tie.Need-returns-5
-returns-5 c = rw (c .before .before .before .before .before .before .before .before .frame .given .1, c .before .before .before .before .before .gate4 .given .1) (c .before .before .register .ensures)
-
 pub write-frame-spec : {M : Type 1} → statement M
 write-frame-spec =
     tie.close
@@ -84,15 +69,15 @@ write-frame-spec =
     (λ c. search needs)
     refresh-requires
     (λ c. c .before .before .copy .ensures .size)
-    returns
+    (λ c. rw (c .before .before .before .before .before .before .before .frame .given .1, c .before .before .before .before .enum-told .given .1) (c .before .before .copy .ensures))
     (λ c. c .before .before .constant .ensures .size)
-    returns-2
+    (λ c. rw (c .before .before .before .before .before .before .before .before .frame .given .1, c .before .before .before .before .before .gate .given .1) (c .before .before .constant .ensures))
     (λ c. c .before .before .sum .ensures .size)
-    returns-3
+    (λ c. rw (c .before .before .before .before .before .before .before .before .frame .given .1, c .before .before .before .before .before .gate2 .given .1) (c .before .before .sum .ensures))
     (λ c. c .before .before .inverse .ensures .size)
-    returns-4
+    (λ c. rw (c .before .before .before .before .before .before .before .before .frame .given .1, c .before .before .before .before .before .gate3 .given .1) (c .before .before .inverse .ensures))
     (λ c. c .before .before .register .ensures .size)
-    returns-5
+    (λ c. rw (c .before .before .before .before .before .before .before .before .frame .given .1, c .before .before .before .before .before .gate4 .given .1) (c .before .before .register .ensures))
     (λ c. rw (c .before .before .before .frame .given .1, c .enum-told2 .given .1) (fills-at refl (omega arith) (fills-none _ _)))
     (λ c. c .before .before .and .ensures .size)
     (λ c. rw (c .before .before .before .before .enum-told3 .given .1) (c .before .before .and .ensures))

@@ -15,18 +15,6 @@ small c = (
   rw (c .digit4 .ensures) (code-small _),
 )
 
-add-result : tie.Need-add-result
-add-result c = omega (arith, small c)
-
-add-result-2 : tie.Need-add-result-2
-add-result-2 c = omega (arith, small c)
-
-add-result-3 : tie.Need-add-result-3
-add-result-3 c = omega (arith, small c)
-
-returns : tie.Need-returns
-returns c = rw (c .before .before .before .before .before .before .digit .ensures, c .before .before .before .before .digit2 .ensures, c .before .before .digit3 .ensures, c .digit4 .ensures) (sum-of-codes _ _ _ _)
-
 pub is-word-spec : {M : Type 1} → statement M
 is-word-spec =
     tie.close
@@ -42,7 +30,7 @@ is-word-spec =
     (λ c. search needs)
     (λ c. search needs)
     (λ c κs. search needs)
-    add-result
-    add-result-2
-    add-result-3
-    returns)
+    (λ c. omega (arith, small c))
+    (λ c. omega (arith, small c))
+    (λ c. omega (arith, small c))
+    (λ c. rw (c .before .before .before .before .before .before .digit .ensures, c .before .before .before .before .digit2 .ensures, c .before .before .digit3 .ensures, c .digit4 .ensures) (sum-of-codes _ _ _ _)))

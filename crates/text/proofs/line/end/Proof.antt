@@ -37,31 +37,10 @@ counted c =
     let k = c .before .before .loop in
     rw (c .is-word .ensures) (k .inv .2 ∙ count-turn ((k .i - a .at) / 5 + 1) (now (a .text)) (k .i) (omega arith))
 
-returns : tie.Need-returns Inv-loop μ-loop
-returns c = let a = c .before .before .args in rw (count-end 1 (now (a .text)) (a .at) (omega arith))
-
-sub-last : tie.Need-sub-last Inv-loop μ-loop
-sub-last c = omega arith
-
 loop-holds : tie.Need-loop-holds Inv-loop μ-loop
 loop-holds c = let a = c .before .before .args in
     let e : (a .at - a .at) / 5 + 1 ≡ 1 = omega arith in
     (omega arith, omega arith, rw e)
-
-is-word-requires : tie.Need-is-word-requires Inv-loop μ-loop
-is-word-requires c κs = (c .before .before .before .before .pre .0, omega arith)
-
-returns-2 : tie.Need-returns-2 Inv-loop μ-loop
-returns-2 c = let e : all (c .before .before .before .before .before .before) ≡ 0 = counted (c .before) ∙ rw (not-true (c .before .is-word .result) (c .if2 .taken)) in rw e
-
-add-mark : tie.Need-add-mark Inv-loop μ-loop
-add-mark c = omega arith
-
-shared-slice-read-mark : tie.Need-shared-slice-read-mark Inv-loop μ-loop
-shared-slice-read-mark c = omega arith
-
-add-i : tie.Need-add-i Inv-loop μ-loop
-add-i c = omega arith
 
 returns-3 : tie.Need-returns-3 Inv-loop μ-loop
 returns-3 c =
@@ -73,9 +52,6 @@ returns-4 : tie.Need-returns-4 Inv-loop μ-loop
 returns-4 c =
     let e : all (c .before .before .before .before .before .before .before .before .before) ≡ 0 = counted (c .before .before .before .before) ∙ rw (not-false (c .before .before .before .before .is-word .result) (c .before .before .before .if2 .left), ne-eqb _ _ (c .if4 .left), ne-eqb _ _ (c .before .if3 .taken)) in
     rw e
-
-loop-less : tie.Need-loop-less Inv-loop μ-loop
-loop-less c = omega arith
 
 loop-again : tie.Need-loop-again Inv-loop μ-loop
 loop-again c =
@@ -96,16 +72,16 @@ end-spec =
     (tie.spec
     Inv-loop
     μ-loop
-    returns
-    sub-last
+    (λ c. let a = c .before .before .args in rw (count-end 1 (now (a .text)) (a .at) (omega arith)))
+    (λ c. omega arith)
     loop-holds
-    is-word-requires
-    returns-2
-    add-mark
-    shared-slice-read-mark
-    add-i
+    (λ c κs. (c .before .before .before .before .pre .0, omega arith))
+    (λ c. let e : all (c .before .before .before .before .before .before) ≡ 0 = counted (c .before) ∙ rw (not-true (c .before .is-word .result) (c .if2 .taken)) in rw e)
+    (λ c. omega arith)
+    (λ c. omega arith)
+    (λ c. omega arith)
     returns-3
     returns-4
-    loop-less
+    (λ c. omega arith)
     loop-again
     returns-5)

@@ -18,24 +18,6 @@ Inv-loop codes text at end table₀ from i₀ to₀ table i to = (i + 5 * ((end 
 abbrev μ-loop : tie.MeasureT-loop
 μ-loop codes text at end table₀ from i₀ to₀ table i to = end - i
 
-loop-holds : tie.Need-loop-holds Inv-loop μ-loop
-loop-holds c = (c .before .before .pre .1, refl, refl, refl)
-
-value-requires : tie.Need-value-requires Inv-loop μ-loop
-value-requires c κs = (c .before .before .before .before .pre .0, omega arith)
-
-slice-write-table : tie.Need-slice-write-table Inv-loop μ-loop
-slice-write-table c = omega arith
-
-add-i : tie.Need-add-i Inv-loop μ-loop
-add-i c = omega arith
-
-add-to : tie.Need-add-to Inv-loop μ-loop
-add-to c = omega arith
-
-loop-less : tie.Need-loop-less Inv-loop μ-loop
-loop-less c = omega arith
-
 loop-again : tie.Need-loop-again Inv-loop μ-loop
 loop-again c =
     let a = c .before .before .before .before .before .args in
@@ -62,13 +44,13 @@ store-spec =
     (tie.spec
     Inv-loop
     μ-loop
-    loop-holds
-    value-requires
+    (λ c. (c .before .before .pre .1, refl, refl, refl))
+    (λ c κs. (c .before .before .before .before .pre .0, omega arith))
     (λ c. search needs)
-    slice-write-table
-    add-i
-    add-to
-    loop-less
+    (λ c. omega arith)
+    (λ c. omega arith)
+    (λ c. omega arith)
+    (λ c. omega arith)
     loop-again
     (λ c. search needs)
     returns)

@@ -34,9 +34,6 @@ small c =
     let h : d < 65536 = search needs in
     omega (arith, words-most d (kindOf (c .before .before .before .before .value .result)))
 
-returns : tie.Need-returns
-returns c = let s = c .before .before in let a = s .args in let m = count s in let z : m ≡ 0 = behind-none (a .at) m (sym (s .pre .2) ∙ c .if1 .taken) in λ n. rw z
-
 value-requires : tie.Need-value-requires
 value-requires c κs = let s = c .before .before in let a = s .args in let m = count s in
     (s .pre .0, omega (arith, measured c, line-fits (drop (a .at) (now (a .text))), length-drop (a .at) (now (a .text))))
@@ -48,15 +45,6 @@ returns-2 c = let s = c .before .before .before .before in let a = s .args in le
 returns-3 : tie.Need-returns-3
 returns-3 c = let s = c .before .before .before .before .before in let a = s .args in let m = count s in let h = measured (c .before .before .before) in let k = c .before .before .value in
     λ n. rw (sym (k .ensures), lt-ltb 0 m (omega arith), le-leb 1 (k .result) (omega arith), lt-leb (k .result) 8 (c .if3 .taken))
-
-add-count : tie.Need-add-count
-add-count c = record { fits = omega (arith, small c) }
-
-sub-if4 : tie.Need-sub-if4
-sub-if4 c = omega (arith, measured (c .before .before .before .before .before))
-
-mul-if4 : tie.Need-mul-if4
-mul-if4 c = record { fits = omega (arith, small c) }
 
 returns-4 : tie.Need-returns-4
 returns-4 c = let s = c .before .before .before .before .before .before .before .before in let a = s .args in let m = count s in let h = measured (c .before .before .before .before .before .before) in let k = c .before .before .before .before .before .value in
@@ -73,14 +61,14 @@ pub frame-rule-spec : {M : Type 1} → statement M
 frame-rule-spec =
     tie.close
     (tie.spec
-    returns
+    (λ c. let s = c .before .before in let a = s .args in let m = count s in let z : m ≡ 0 = behind-none (a .at) m (sym (s .pre .2) ∙ c .if1 .taken) in λ n. rw z)
     value-requires
     returns-2
     returns-3
     (λ c κs. search needs)
-    add-count
-    sub-if4
-    mul-if4
+    (λ c. record { fits = omega (arith, small c) })
+    (λ c. omega (arith, measured (c .before .before .before .before .before)))
+    (λ c. record { fits = omega (arith, small c) })
     returns-4
     (λ c κs. search needs)
     returns-5)

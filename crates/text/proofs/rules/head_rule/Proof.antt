@@ -32,9 +32,6 @@ two c = omega (arith, measured (c .before))
 inside : (c : tie.Else3) → 10 ≤ length (now (c .before .before .before .before .before .args .text))
 inside c = omega (arith, line-fits (now (c .before .before .before .before .before .args .text)), two c)
 
-returns : tie.Need-returns
-returns c = rw (c .if1 .taken)
-
 returns-2 : tie.Need-returns-2
 returns-2 c = let s = c .before .before .before .before in let t = now (s .args .text) in let e : c .before .end .result ≡ behindLine 0 (count s) = c .before .end .ensures in
     let z : count s ≡ 0 = behind-none 0 (count s) (sym e ∙ c .if2 .taken) in
@@ -47,15 +44,9 @@ returns-3 c =
     let h = measured (c .before) in
     rw (lt-ltb 0 (length t) (omega arith), lt-ltb 0 (count s) (omega arith), ne-eqb (count s) 2 (λ z. c .if3 .taken (omega arith)))
 
-value-requires : tie.Need-value-requires
-value-requires c κs = (c .before .before .before .before .before .pre .0, omega (arith, inside c))
-
 returns-4 : tie.Need-returns-4
 returns-4 c = let t = now (c .before .before .before .before .before .before .before .args .text) in let k = c .before .value in
     rw (sym (k .ensures), lt-ltb 0 (length t) (omega arith), two (c .before .before), ne-eqb (k .result) 0 (c .if4 .taken))
-
-value-requires-2 : tie.Need-value-requires-2
-value-requires-2 c κs = (c .before .before .before .before .before .before .before .pre .0, omega (arith, inside (c .before .before)))
 
 returns-5 : tie.Need-returns-5
 returns-5 c = let t = now (c .before .before .before .before .before .before .before .before .before .args .text) in let k = c .before .value2 in
@@ -77,13 +68,13 @@ pub head-rule-spec : {M : Type 1} → statement M
 head-rule-spec =
     tie.close
     (tie.spec
-    returns
+    (λ c. rw (c .if1 .taken))
     (λ c κs. search needs)
     returns-2
     returns-3
-    value-requires
+    (λ c κs. (c .before .before .before .before .before .pre .0, omega (arith, inside c)))
     returns-4
-    value-requires-2
+    (λ c κs. (c .before .before .before .before .before .before .before .pre .0, omega (arith, inside (c .before .before))))
     returns-5
     returns-6
     (λ c κs. search needs)
