@@ -18,8 +18,8 @@ use Rattle.checker.specs.declared.forms.Spot.{Spot}
 use Rattle.checker.specs.declared.frame.Tally.{Tally}
 use Rattle.checker.specs.declared.frame.Added.{Added}
 use Rattle.checker.specs.Internal.Notes.{noted, innerWords, namedWords}
-use Rattle.checker.specs.Internal.Adding.{spot, none, orElse, _andThen_, brokenIn, wiresAt, madeIn, limitBroken, notesWith, Judges, addedBy, Bounded, Fitting, FrameOf, latencyIn, Adds}
-use Rattle.checker.proofs.MadeNotes.{wordCount, Counts, counts}
+use Rattle.checker.specs.Internal.Adding.{spot, none, orElse, _andThen_, brokenIn, wiresAt, madeIn, limitBroken, notesWith, Judges, numbersOf, addedBy, Bounded, Fitting, FrameOf, latencyIn, Adds}
+use Rattle.checker.proofs.MadeNotes.{wordCount, numbersIn, Counts, counts}
 
 -- no rule is broken only where the new wires fit
 within : (words : Spot) (m : Made) (wires : ℕ) → ((words andThen limitBroken m wires) .rule) ≡ 0 → wires + (m .inner + m .named) ≤ wireLimit
@@ -40,37 +40,41 @@ nothing-made wires old h = let e : wires + (0 + 0) ≡ wires = omega arith in re
 
 -- the words and the wires of a frame's form
 module _ {sh : ShapeCode} {d : ℕ} {ops : List ℕ} (o : FrameOf sh d ops) {form : Form} (e : sh .form ≡ form) where
-  numbers : (look : ℕ → Found) → Counts d (o .kind) look ops
-  numbers look = counts d (o .kind) look ops
+  facts : (look : ℕ → Found) → Counts d (o .kind) look ops
+  facts look = counts d (o .kind) look ops
 
   pub asked : length ops ≡ wordCount form d
-  asked = o .whole ∙ numbers (λ x. Found.Missing) .words-are ∙ ap (λ f. wordCount f d) (sym (ap (λ s. s .form) (o .shape-is)) ∙ e)
+  asked = o .whole ∙ facts (λ x. Found.Missing) .words-are ∙ ap (λ f. wordCount f d) (sym (ap (λ s. s .form) (o .shape-is)) ∙ e)
 
   made-all : (look : ℕ → Found) → (madeIn form d (sh .wires - d) look ops .inner) + (madeIn form d (sh .wires - d) look ops .named) ≡ sh .wires
   made-all look = ap (λ f. (madeIn f d (sh .wires - d) look ops .inner) + (madeIn f d (sh .wires - d) look ops .named)) (sym e)
       ∙ ap (λ s. (madeIn (s .form) d (s .wires - d) look ops .inner) + (madeIn (s .form) d (s .wires - d) look ops .named)) (o .shape-is)
-      ∙ numbers look .wires-are ∙ sym (ap (λ s. s .wires) (o .shape-is))
+      ∙ facts look .wires-are ∙ sym (ap (λ s. s .wires) (o .shape-is))
+
+  -- what the form adds to the counts is what the shape says
+  numbers-all : numbersIn form d sh ≡ numbersOf sh
+  numbers-all = ap (λ f. numbersIn f d sh) (sym e) ∙ ap (λ s. numbersIn (s .form) d s) (o .shape-is) ∙ facts (λ x. Found.Missing) .numbers-are ∙ sym (ap numbersOf (o .shape-is))
 
   -- judged by words and with wires that are the form's
   module _ {tally : Tally} {old new : List ℕ} {words r : Spot} {m : Made} (j : Judges words m (tally .wires) old new r)
       (broken-is : words ≡ brokenIn d (tally .randoms) (noted old (tally .wires)) ops form) (made-is : m ≡ madeIn form d (sh .wires - d) (noted old (tally .wires)) ops) where
-    pub fits : Bounded tally old → r .rule ≡ 0 → Fitting tally sh
+    pub fits : Bounded tally old → r .rule ≡ 0 → Fitting tally (numbersIn form d sh)
     fits b h =
-        let n = numbers (noted old (tally .wires)) in
+        let n = facts (noted old (tally .wires)) in
         let wires : sh .wires ≡ shapeCode d (o .kind) .wires = ap (λ s. s .wires) (o .shape-is) in
         let randoms : sh .randoms ≡ shapeCode d (o .kind) .randoms = ap (λ s. s .randoms) (o .shape-is) in
         let inputs : sh .inputs ≡ shapeCode d (o .kind) .inputs = ap (λ s. s .inputs) (o .shape-is) in
         let room : tally .wires + (m .inner + m .named) ≤ wireLimit = within words m (tally .wires) (sym (ap (λ s. s .rule) (j .spot-is)) ∙ h) in
         let all : m .inner + m .named ≡ sh .wires = ap (λ x. x .inner + x .named) made-is ∙ made-all (noted old (tally .wires)) in
-        record { wires = omega arith; randoms = omega arith; frames = b .frames; inputs = omega arith }
+        rw numbers-all (record { wires = omega arith; randoms = omega arith; frames = b .frames; inputs = omega arith })
 
-    pub adds : {a : Added} {latency : ℕ} → a ≡ addedBy (r .rule) (r .word) tally sh latency → latency ≡ latencyIn form (tally .latency) (m .stage) → Adds tally sh d ops old new a
-    adds g l =
+    pub adds : {a : Added} {latency : ℕ} → a ≡ addedBy (r .rule) (r .word) tally (numbersIn form d sh) latency → latency ≡ latencyIn form (tally .latency) (m .stage) → Adds tally sh d ops old new a
+    adds {latency = latency} g l =
         let M : Form → Made = λ f. madeIn f d (sh .wires - d) (noted old (tally .wires)) ops in
         let S : Form → Spot = λ f. brokenIn d (tally .randoms) (noted old (tally .wires)) ops f andThen limitBroken (M f) (tally .wires) in
         let m-is : m ≡ M (sh .form) = made-is ∙ ap M (sym e) in
         let r-is : r ≡ S (sh .form) = j .spot-is ∙ ap₂ (λ s x. s andThen limitBroken x (tally .wires)) broken-is made-is ∙ ap S (sym e) in
         record {
-          added-is = g ∙ ap₂ (λ s n. addedBy (s .rule) (s .word) tally sh n) r-is (l ∙ ap₂ (λ f x. latencyIn f (tally .latency) (x .stage)) (sym e) m-is);
+          added-is = g ∙ ap (λ n. addedBy (r .rule) (r .word) tally n latency) numbers-all ∙ ap₂ (λ s n. addedBy (s .rule) (s .word) tally (numbersOf sh) n) r-is (l ∙ ap₂ (λ f x. latencyIn f (tally .latency) (x .stage)) (sym e) m-is);
           notes-are = j .notes-are ∙ ap₂ (λ s x. notesWith (s .rule) x (tally .wires) old) r-is m-is;
         }

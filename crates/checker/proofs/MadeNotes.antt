@@ -18,11 +18,12 @@ use Rattle.circuit.proofs.Sizes.{and-size, ref-size}
 use Rattle.checker.specs.declared.notes.Made.{Made}
 use Rattle.frames.specs.declared.kinds.Form.{Form}
 use Rattle.frames.specs.declared.kinds.Form.the-variants.{ShareCount, Stage, Constant, Sum, Copy, Product, Refresh, Row}
-use Rattle.frames.specs.Walk.{formOf}
+use Rattle.frames.specs.declared.kinds.Shape.{Shape as ShapeCode}
+use Rattle.frames.specs.Walk.{formOf, shapeCode}
 use Rattle.frames.proofs.KindTable.{words-AND, words-REF, words-OUT}
 use Rattle.checker.specs.declared.notes.Found.{Found}
 use Rattle.checker.specs.Internal.Notes.{foundOf, innerWords, namedWords, madeWords}
-use Rattle.checker.specs.Internal.Adding.{madeIn, latencyIn}
+use Rattle.checker.specs.Internal.Adding.{Numbers, numbers, numbersOf, madeIn, latencyIn}
 use Rattle.checker.proofs.Words.{label-found, stage-found}
 
 -- the wires that a kind's form makes, by what a circuit says of those it names
@@ -40,26 +41,38 @@ wordCount Product d = 1 + d + d
 wordCount Refresh d = 1 + d
 wordCount Row d = d
 
+-- what a form adds to the counts, as the code writes it
+abbrev pub numbersIn : Form → (d : ℕ) → ShapeCode → Numbers
+numbersIn ShareCount d sh = numbers 0 0 0
+numbersIn Stage d sh = numbers d 0 1
+numbersIn Constant d sh = numbers 1 0 0
+numbersIn Sum d sh = numbers 1 0 0
+numbersIn (Copy after) d sh = numbers 1 0 0
+numbersIn Product d sh = numbers (sh .wires) (sh .randoms) 0
+numbersIn Refresh d sh = numbers (sh .wires) (sh .randoms) 0
+numbersIn Row d sh = numbers 0 0 0
+
 -- of a kind: only HEAD's form is the number of shares; its words by its form, all wires made, no more random bits than wires,
 -- and one secret bit at most
 pub record Counts (d : ℕ) (kind : Kind) (look : ℕ → Found) (ops : List ℕ) : Type 0 where
   pub form-later : (kind ≡ HEAD → ⊥) → formOf kind ≡ ShareCount → ⊥
   pub words-are : words d kind ≡ wordCount (formOf kind) d
+  pub numbers-are : numbersIn (formOf kind) d (shapeCode d kind) ≡ numbersOf (shapeCode d kind)
   pub wires-are : (madeIn (formOf kind) d (shape d kind .wires - d) look ops .inner) + (madeIn (formOf kind) d (shape d kind .wires - d) look ops .named) ≡ shape d kind .wires
   pub randoms-few : shape d kind .randoms ≤ shape d kind .wires
   pub inputs-few : shape d kind .inputs ≤ 1
 
 pub counts : (d : ℕ) (kind : Kind) (look : ℕ → Found) (ops : List ℕ) → Counts d kind look ops
 unfolding shape
-counts d HEAD look ops = record { form-later = λ h e. h refl; words-are = refl; wires-are = refl; randoms-few = omega arith; inputs-few = omega arith }
-counts d IN look ops = record { form-later = λ h e. let z : _≡_ {A = ℕ} 0 1 = cc in omega arith; words-are = refl; wires-are = omega arith; randoms-few = omega arith; inputs-few = omega arith }
-counts d CON look ops = record { form-later = λ h e. let z : _≡_ {A = ℕ} 0 1 = cc in omega arith; words-are = refl; wires-are = refl; randoms-few = omega arith; inputs-few = omega arith }
-counts d XOR look ops = record { form-later = λ h e. let z : _≡_ {A = ℕ} 0 1 = cc in omega arith; words-are = refl; wires-are = refl; randoms-few = omega arith; inputs-few = omega arith }
-counts d NOT look ops = record { form-later = λ h e. let z : _≡_ {A = ℕ} 0 1 = cc in omega arith; words-are = refl; wires-are = refl; randoms-few = omega arith; inputs-few = omega arith }
-counts d REG look ops = record { form-later = λ h e. let z : _≡_ {A = ℕ} 0 1 = cc in omega arith; words-are = refl; wires-are = refl; randoms-few = omega arith; inputs-few = omega arith }
-counts d AND look ops = record { form-later = λ h e. let z : _≡_ {A = ℕ} 0 1 = cc in omega arith; words-are = words-AND d; wires-are = omega arith; randoms-few = omega arith; inputs-few = omega arith }
-counts d REF look ops = record { form-later = λ h e. let z : _≡_ {A = ℕ} 0 1 = cc in omega arith; words-are = words-REF d; wires-are = omega arith; randoms-few = omega arith; inputs-few = omega arith }
-counts d OUT look ops = record { form-later = λ h e. let z : _≡_ {A = ℕ} 0 1 = cc in omega arith; words-are = words-OUT d; wires-are = refl; randoms-few = omega arith; inputs-few = omega arith }
+counts d HEAD look ops = record { form-later = λ h e. h refl; words-are = refl; numbers-are = refl; wires-are = refl; randoms-few = omega arith; inputs-few = omega arith }
+counts d IN look ops = record { form-later = λ h e. let z : _≡_ {A = ℕ} 0 1 = cc in omega arith; words-are = refl; numbers-are = refl; wires-are = omega arith; randoms-few = omega arith; inputs-few = omega arith }
+counts d CON look ops = record { form-later = λ h e. let z : _≡_ {A = ℕ} 0 1 = cc in omega arith; words-are = refl; numbers-are = refl; wires-are = refl; randoms-few = omega arith; inputs-few = omega arith }
+counts d XOR look ops = record { form-later = λ h e. let z : _≡_ {A = ℕ} 0 1 = cc in omega arith; words-are = refl; numbers-are = refl; wires-are = refl; randoms-few = omega arith; inputs-few = omega arith }
+counts d NOT look ops = record { form-later = λ h e. let z : _≡_ {A = ℕ} 0 1 = cc in omega arith; words-are = refl; numbers-are = refl; wires-are = refl; randoms-few = omega arith; inputs-few = omega arith }
+counts d REG look ops = record { form-later = λ h e. let z : _≡_ {A = ℕ} 0 1 = cc in omega arith; words-are = refl; numbers-are = refl; wires-are = refl; randoms-few = omega arith; inputs-few = omega arith }
+counts d AND look ops = record { form-later = λ h e. let z : _≡_ {A = ℕ} 0 1 = cc in omega arith; words-are = words-AND d; numbers-are = refl; wires-are = omega arith; randoms-few = omega arith; inputs-few = omega arith }
+counts d REF look ops = record { form-later = λ h e. let z : _≡_ {A = ℕ} 0 1 = cc in omega arith; words-are = words-REF d; numbers-are = refl; wires-are = omega arith; randoms-few = omega arith; inputs-few = omega arith }
+counts d OUT look ops = record { form-later = λ h e. let z : _≡_ {A = ℕ} 0 1 = cc in omega arith; words-are = words-OUT d; numbers-are = refl; wires-are = refl; randoms-few = omega arith; inputs-few = omega arith }
 
 -- the words of wires in the notes
 pub notes-append : (xs ys : List Wire) → concatMap (xs ++ ys) (λ w. note (w .place)) ≡ concatMap xs (λ w. note (w .place)) ++ concatMap ys (λ w. note (w .place))

@@ -25,7 +25,7 @@ use Rattle.checker.specs.declared.frame.Tally.{Tally}
 use Rattle.checker.specs.declared.frame.Added.{Added}
 use Rattle.checker.specs.declared.frame.Added.the-variants.{Next, Refused}
 use Rattle.checker.specs.Internal.Notes.{noted, foundOf, Represents, madeWords}
-use Rattle.checker.specs.Internal.Adding.{spot, none, _andThen_, brokenIn, madeIn, limitBroken, notesWith, tallyOf, withFrame, addedBy, latencyIn, madeNew, broken, Adds}
+use Rattle.checker.specs.Internal.Adding.{spot, none, _andThen_, brokenIn, madeIn, limitBroken, notesWith, tallyOf, numbersOf, withFrame, addedBy, latencyIn, madeNew, broken, Adds}
 use Rattle.checker.proofs.Spots.{judged, judgedAt, judged-then}
 use Rattle.checker.proofs.Words.{words-are}
 use Rattle.checker.proofs.MadeNotes.{madeBy, counts, made-stage, made-words, made-latency}
@@ -95,7 +95,7 @@ module _ {k : Circuit} {kind : Kind} {tally : Tally} {sh : ShapeCode} {d : ℕ} 
       ∙ ap₂ _then_ (words-judged f) (limits-judged f)
 
   -- the counts with the frame are those of the circuit with it
-  tally-next : withFrame tally sh (latencyIn (sh .form) (tally .latency) (madeNew tally sh d ops old .stage)) ≡ tallyOf (tally .frames + 1) (extend k ops kind)
+  tally-next : withFrame tally (numbersOf sh) (latencyIn (sh .form) (tally .latency) (madeNew tally sh d ops old .stage)) ≡ tallyOf (tally .frames + 1) (extend k ops kind)
   tally-next = λ i. record { frames = tally .frames + 1; wires = wires i; randoms = randoms i; latency = latency i; inputs = inputs i }
     where
       wires : tally .wires + sh .wires ≡ size (extend k ops kind)
@@ -116,14 +116,14 @@ module _ {k : Circuit} {kind : Kind} {tally : Tally} {sh : ShapeCode} {d : ℕ} 
     pub judgement : judgementIn (tally .frames) r ≡ laterRule k (tally .frames) kind ops
     judgement = ap (judgementIn (tally .frames)) (a .added-is) ∙ by-rule (broken tally sh d ops old .rule) (broken tally sh d ops old .word) (latencyIn (sh .form) (tally .latency) (madeNew tally sh d ops old .stage)) ∙ broken-judged (tally .frames)
       where
-        by-rule : (n w latency : ℕ) → judgementIn (tally .frames) (addedBy n w tally sh latency) ≡ judged n (tally .frames) w
+        by-rule : (n w latency : ℕ) → judgementIn (tally .frames) (addedBy n w tally (numbersOf sh) latency) ≡ judged n (tally .frames) w
         by-rule zero w latency = refl
         by-rule (suc n) w latency = refl
 
     pub next : (t : Tally) → r ≡ Next t → t ≡ tallyOf (tally .frames + 1) (extend k ops kind)
     next t e = by-rule (broken tally sh d ops old .rule) (broken tally sh d ops old .word) (latencyIn (sh .form) (tally .latency) (madeNew tally sh d ops old .stage)) (sym (a .added-is) ∙ e) ∙ tally-next
       where
-        by-rule : (n w latency : ℕ) → addedBy n w tally sh latency ≡ Next t → t ≡ withFrame tally sh latency
+        by-rule : (n w latency : ℕ) → addedBy n w tally (numbersOf sh) latency ≡ Next t → t ≡ withFrame tally (numbersOf sh) latency
         by-rule zero w latency e = cc
         by-rule (suc n) w latency e = let z : _≡_ {A = ℕ} 0 1 = cc in absurd (omega arith)
 
@@ -141,7 +141,7 @@ module _ {k : Circuit} {kind : Kind} {tally : Tally} {sh : ShapeCode} {d : ℕ} 
 pub refused-rule : {tally : Tally} {sh : ShapeCode} {d : ℕ} {ops old new : List ℕ} {r : Added} → Adds tally sh d ops old new r → {s : Spot} → r ≡ Refused s → s .rule ≡ 0 → ⊥
 refused-rule {tally} {sh} {d} {ops} {old} a {s} e = by-rule (broken tally sh d ops old .rule) _ _ (sym (a .added-is) ∙ e)
   where
-    by-rule : (n w latency : ℕ) → addedBy n w tally sh latency ≡ Refused s → s .rule ≡ 0 → ⊥
+    by-rule : (n w latency : ℕ) → addedBy n w tally (numbersOf sh) latency ≡ Refused s → s .rule ≡ 0 → ⊥
     by-rule zero w latency e h = let z : _≡_ {A = ℕ} 0 1 = cc in omega arith
     by-rule (suc n) w latency e h = let q : suc n ≡ s .rule = ap (λ x. x .rule) (same e) in omega arith
       where

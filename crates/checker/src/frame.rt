@@ -1,7 +1,7 @@
 // A frame added to the circuit so far.
 ghost use mathlib.Core.Path.{_≡_};
 ghost use Prim.Native.Nat.{_-_};
-ghost use Rattle.checker.specs.Internal.Adding.{larger as largerOf, addedBy, Bounded, Fitting, FrameOf, Adds};
+ghost use Rattle.checker.specs.Internal.Adding.{larger as largerOf, numbers, addedBy, Bounded, Fitting, FrameOf, Adds};
 use super::forms;
 use super::forms::Spot;
 use frames::kinds::Form;
@@ -36,25 +36,33 @@ fn larger(a: usize, b: usize) -> usize
     if a < b { b } else { a }
 }
 
-// The counts with one frame more, where it breaks no rule.
-fn grown(broken: Spot, tally: Tally, shape: Shape, latency: usize) -> Added
-    requires { ⌜ (broken .rule ≡ 0 → Fitting tally shape) ⌝ }
-    ensures { λ r. ⌜ r ≡ addedBy (broken .rule) (broken .word) tally shape latency ⌝ }
+// The counts with one frame more, where it breaks no rule: so many wires, random bits and INs.
+fn grown(
+    broken: Spot,
+    tally: Tally,
+    wires: usize,
+    randoms: usize,
+    inputs: usize,
+    latency: usize,
+) -> Added
+    requires { ⌜ (broken .rule ≡ 0 → Fitting tally (numbers wires randoms inputs)) ⌝ }
+    ensures { λ r. ⌜ r ≡ addedBy (broken .rule) (broken .word) tally (numbers wires randoms inputs) latency ⌝ }
 {
     if broken.rule == 0 {
         Added::Next(Tally {
             frames: tally.frames + 1,
-            wires: tally.wires + shape.wires,
-            randoms: tally.randoms + shape.randoms,
+            wires: tally.wires + wires,
+            randoms: tally.randoms + randoms,
             latency: latency,
-            inputs: tally.inputs + shape.inputs,
+            inputs: tally.inputs + inputs,
         })
     } else {
         Added::Refused(broken)
     }
 }
 
-// The frame judged by its form, and added. (No HEAD comes here: rule 5 refuses it before.)
+// The frame judged by its form, and added. (No HEAD comes here: rule 5 refuses it before.) What a form adds to the counts is
+// written out in its arm, so that the loop's tail stays short for gates.
 pub(crate) fn add(tally: Tally, shape: Shape, d: u16, ops: &[u16], notes: &mut [u16]) -> Added
     requires { ⌜ Bounded tally (now notes) × FrameOf shape d (now ops) ⌝ }
     ensures { λ r. ⌜ Adds tally shape d (now (ops .entry)) (now (notes .entry)) (now (notes .exit)) r ⌝ }
@@ -64,37 +72,37 @@ pub(crate) fn add(tally: Tally, shape: Shape, d: u16, ops: &[u16], notes: &mut [
     let latency = tally.latency;
     let form = shape.form;
     match form {
-        Form::ShareCount => grown(Spot { rule: 0, word: 0 }, tally, shape, latency),
+        Form::ShareCount => grown(Spot { rule: 0, word: 0 }, tally, 0, 0, 0, latency),
         Form::Stage => {
             let broken = forms::stage(ops[0], n, wires, notes);
-            grown(broken, tally, shape, latency)
+            grown(broken, tally, n, 0, 1, latency)
         }
         Form::Constant => {
             let broken = forms::constant(ops[0], ops[1], ops[2], n, wires, notes);
-            grown(broken, tally, shape, latency)
+            grown(broken, tally, 1, 0, 0, latency)
         }
         Form::Sum => {
             let broken = forms::sum(ops[0], ops[1], wires, notes);
-            grown(broken, tally, shape, latency)
+            grown(broken, tally, 1, 0, 0, latency)
         }
         Form::Copy { after } => {
             let broken = forms::copy(ops[0], after as usize, wires, notes);
-            grown(broken, tally, shape, latency)
+            grown(broken, tally, 1, 0, 0, latency)
         }
         Form::Product => {
             let inner = less(shape.wires, n);
             let broken = forms::product(inner, n, tally.randoms, ops, wires, notes);
-            grown(broken, tally, shape, latency)
+            grown(broken, tally, shape.wires, shape.randoms, 0, latency)
         }
         Form::Refresh => {
             let inner = less(shape.wires, n);
             let broken = forms::refresh(inner, n, tally.randoms, ops, wires, notes);
-            grown(broken, tally, shape, latency)
+            grown(broken, tally, shape.wires, shape.randoms, 0, latency)
         }
         Form::Row => {
             let stage = super::notes::stage_shown(notes, wires, ops[0]);
             let broken = forms::row(ops, stage, wires, notes);
-            grown(broken, tally, shape, larger(latency, stage))
+            grown(broken, tally, 0, 0, 0, larger(latency, stage))
         }
     }
 }

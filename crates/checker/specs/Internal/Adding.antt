@@ -111,22 +111,34 @@ pub record Judges (words : Spot) (m : Made) (wires : ℕ) (old new : List ℕ) (
   pub spot-is : r ≡ (words andThen limitBroken m wires)
   pub notes-are : new ≡ notesWith (r .rule) m wires old
 
--- the circuit so far as the code counts it, and with a frame more
+-- the circuit so far as the code counts it
 abbrev pub tallyOf : (frames : ℕ) → Circuit → Tally
 tallyOf f k = record { frames = f; wires = size k; randoms = k .randoms; latency = k .latency; inputs = k .inputs }
 
-abbrev pub withFrame : Tally → ShapeCode → (latency : ℕ) → Tally
-withFrame tally sh latency = record {
+-- what a frame adds to the counts: wires, random bits, INs
+pub record Numbers : Type 0 where
+  pub wires : ℕ
+  pub randoms : ℕ
+  pub inputs : ℕ
+
+abbrev pub numbers : (wires randoms inputs : ℕ) → Numbers
+numbers w r i = record { wires = w; randoms = r; inputs = i }
+
+abbrev pub numbersOf : ShapeCode → Numbers
+numbersOf sh = numbers (sh .wires) (sh .randoms) (sh .inputs)
+
+abbrev pub withFrame : Tally → Numbers → (latency : ℕ) → Tally
+withFrame tally n latency = record {
   frames = tally .frames + 1;
-  wires = tally .wires + sh .wires;
-  randoms = tally .randoms + sh .randoms;
+  wires = tally .wires + n .wires;
+  randoms = tally .randoms + n .randoms;
   latency = latency;
-  inputs = tally .inputs + sh .inputs;
+  inputs = tally .inputs + n .inputs;
 }
 
-abbrev pub addedBy : (rule word : ℕ) → Tally → ShapeCode → (latency : ℕ) → Added
-addedBy zero word tally sh latency = Next (withFrame tally sh latency)
-addedBy (suc rule) word tally sh latency = Refused (spot (suc rule) word)
+abbrev pub addedBy : (rule word : ℕ) → Tally → Numbers → (latency : ℕ) → Added
+addedBy zero word tally n latency = Next (withFrame tally n latency)
+addedBy (suc rule) word tally n latency = Refused (spot (suc rule) word)
 
 -- counts to which a frame may be added, and counts that the frame leaves within bounds
 pub record Bounded (tally : Tally) (notes : List ℕ) : Type 0 where
@@ -136,11 +148,11 @@ pub record Bounded (tally : Tally) (notes : List ℕ) : Type 0 where
   pub frames : tally .frames ≤ tableLimit
   pub inputs : tally .inputs ≤ tally .frames
 
-pub record Fitting (tally : Tally) (sh : ShapeCode) : Type 0 where
-  pub wires : tally .wires + sh .wires ≤ wireLimit
-  pub randoms : tally .randoms + sh .randoms ≤ wireLimit
+pub record Fitting (tally : Tally) (n : Numbers) : Type 0 where
+  pub wires : tally .wires + n .wires ≤ wireLimit
+  pub randoms : tally .randoms + n .randoms ≤ wireLimit
   pub frames : tally .frames ≤ tableLimit
-  pub inputs : tally .inputs + sh .inputs ≤ tableLimit + 1
+  pub inputs : tally .inputs + n .inputs ≤ tableLimit + 1
 
 -- the shape and the words are those of one kind, not of HEAD, on so many shares
 pub record FrameOf (sh : ShapeCode) (d : ℕ) (ops : List ℕ) : Type 0 where
@@ -174,7 +186,7 @@ module _ (tally : Tally) (sh : ShapeCode) (d : ℕ) (ops old : List ℕ) where
   broken = brokenIn d (tally .randoms) (noted old (tally .wires)) ops (sh .form) andThen limitBroken madeNew (tally .wires)
 
   pub record Adds (new : List ℕ) (r : Added) : Type 0 where
-    pub added-is : r ≡ addedBy (broken .rule) (broken .word) tally sh (latencyIn (sh .form) (tally .latency) (madeNew .stage))
+    pub added-is : r ≡ addedBy (broken .rule) (broken .word) tally (numbersOf sh) (latencyIn (sh .form) (tally .latency) (madeNew .stage))
     pub notes-are : new ≡ notesWith (broken .rule) madeNew (tally .wires) old
 
 -- the number of the first of rules 1 to 4 that is broken, 0 for none
