@@ -28,8 +28,9 @@ fn draws(values: &mut [u8], at: usize, tape: &[u8], used: usize, count: usize)
     let mut q = 0;
     while q < count {
         let bit = tape[used + q];
-        values[at + 2 * q] = bit;
-        values[at + 2 * q + 1] = bit;
+        let r = at + 2 * q;
+        values[r] = bit;
+        values[r + 1] = bit;
         q += 1;
     }
 }
@@ -154,10 +155,10 @@ fn holds(values: &mut [u8], first: usize, d: usize)
     requires { ⌜ Small first d × (first + pairs d + d + d ≤ length (now values)) ⌝ }
     ensures { λ _. ⌜ Fills (Held d first) (first + pairs d + d) (first + pairs d + d + d) (now (values .entry)) (now (values .exit)) ⌝ }
 {
-    let start = first + places::pairs(d);
     let mut i = 0;
     while i < d {
-        values[start + d + i] = values[start + i];
+        let at = places::sum_at(d, first, i);
+        values[at + d] = values[at];
         i += 1;
     }
 }

@@ -108,12 +108,6 @@ pub fn fill(table: &[u16], shares: &[u8], tape: &[u8], values: &mut [u8])
     loop {
         let step = walk.step(table);
         match step {
-            Step::End => {
-                return;
-            }
-            Step::Refused { rule: _ } => {
-                return;
-            }
             Step::Next {
                 frame,
                 shape,
@@ -125,6 +119,12 @@ pub fn fill(table: &[u16], shares: &[u8], tape: &[u8], values: &mut [u8])
                 from += n * shape.inputs;
                 used += shape.randoms;
                 walk = next;
+            }
+            Step::End => {
+                return;
+            }
+            Step::Refused { rule: _ } => {
+                return;
             }
         }
     }

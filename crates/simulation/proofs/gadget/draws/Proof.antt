@@ -43,8 +43,6 @@ draws-spec =
     (λ c. search needs)
     (λ c. omega arith)
     (λ c. search needs)
-    (λ c. search needs)
-    (λ c. search needs)
     (λ c. rw (length-set) (omega arith))
     (λ c. search needs)
     (λ c. omega arith)
