@@ -41,19 +41,10 @@ square-least (suc d) = omega arith
 pub square-most : (d : ℕ) → d < 65536 → d * d < 4294967296
 square-most d h = omega (arith, mul-le-mul {n₁ = d} {m₁ = d} {n₂ = 65535} {m₂ = 65535} (omega arith) (omega arith))
 
--- a word other than 1 to 8 is answered as HEAD
-pub no-kind : (word : ℕ) → (word ≡ 1 → ⊥) → (word ≡ 2 → ⊥) → (word ≡ 3 → ⊥) → (word ≡ 4 → ⊥) → (word ≡ 5 → ⊥) → (word ≡ 6 → ⊥) → (word ≡ 7 → ⊥) → (word ≡ 8 → ⊥) → kindOf word ≡ HEAD
+-- a word past 8 is answered as HEAD
+pub no-kind : (word : ℕ) → 8 < word → kindOf word ≡ HEAD
 unfolding kindOf
-no-kind zero h1 h2 h3 h4 h5 h6 h7 h8 = refl
-no-kind (suc zero) h1 h2 h3 h4 h5 h6 h7 h8 = absurd (h1 refl)
-no-kind (suc (suc zero)) h1 h2 h3 h4 h5 h6 h7 h8 = absurd (h2 refl)
-no-kind (suc (suc (suc zero))) h1 h2 h3 h4 h5 h6 h7 h8 = absurd (h3 refl)
-no-kind (suc (suc (suc (suc zero)))) h1 h2 h3 h4 h5 h6 h7 h8 = absurd (h4 refl)
-no-kind (suc (suc (suc (suc (suc zero))))) h1 h2 h3 h4 h5 h6 h7 h8 = absurd (h5 refl)
-no-kind (suc (suc (suc (suc (suc (suc zero)))))) h1 h2 h3 h4 h5 h6 h7 h8 = absurd (h6 refl)
-no-kind (suc (suc (suc (suc (suc (suc (suc zero))))))) h1 h2 h3 h4 h5 h6 h7 h8 = absurd (h7 refl)
-no-kind (suc (suc (suc (suc (suc (suc (suc (suc zero)))))))) h1 h2 h3 h4 h5 h6 h7 h8 = absurd (h8 refl)
-no-kind (suc (suc (suc (suc (suc (suc (suc (suc (suc n))))))))) h1 h2 h3 h4 h5 h6 h7 h8 = refl
+no-kind word h = let e : word ≡ suc (suc (suc (suc (suc (suc (suc (suc (suc (word - 9))))))))) = omega (arith, h) in rw e refl
 
 -- what the code holds of a kind, number by number
 pub same-line : (kind : KindCode) (form : Form) {w w′ m m′ u u′ b : ℕ} → w ≡ w′ → m ≡ m′ → u ≡ u′ → kindLine kind form w m u b ≡ kindLine kind form w′ m′ u′ b

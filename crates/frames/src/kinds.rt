@@ -67,7 +67,8 @@ fn kind_line(
     }
 }
 
-// The frame that a kind word begins. A word past 8 is no kind and is answered as HEAD.
+// The frame that a kind word begins. A word past 8 is no kind and is answered as HEAD. The kinds stand in three groups, so
+// that a processor foresees each by its own branches: one jump for all of them costs a gate twice its time.
 pub fn decide(word: u16, d: u16) -> Shape
     ensures shaped { λ r. ⌜ r ≡ shapeCode d (kindOf word) ⌝ }
     ensures formed { λ r. ⌜ Means d (r .form) (kindOf word) ⌝ }
@@ -75,12 +76,21 @@ pub fn decide(word: u16, d: u16) -> Shape
     let n = d as usize;
     let ordered = n * n - n;
     let pairs = ordered / 2;
+    if word < 3 {
+        return match word {
+            1 => kind_line(Kind::In, Form::Stage, 1, n, 0, 1),
+            2 => kind_line(Kind::Con, Form::Constant, 3, 1, 0, 0),
+            _ => kind_line(Kind::Head, Form::ShareCount, 1, 0, 0, 0),
+        };
+    }
+    if word < 6 {
+        return match word {
+            3 => kind_line(Kind::Xor, Form::Sum, 2, 1, 0, 0),
+            4 => kind_line(Kind::Not, Form::Copy { after: 0 }, 1, 1, 0, 0),
+            _ => kind_line(Kind::Reg, Form::Copy { after: 1 }, 1, 1, 0, 0),
+        };
+    }
     match word {
-        1 => kind_line(Kind::In, Form::Stage, 1, n, 0, 1),
-        2 => kind_line(Kind::Con, Form::Constant, 3, 1, 0, 0),
-        3 => kind_line(Kind::Xor, Form::Sum, 2, 1, 0, 0),
-        4 => kind_line(Kind::Not, Form::Copy { after: 0 }, 1, 1, 0, 0),
-        5 => kind_line(Kind::Reg, Form::Copy { after: 1 }, 1, 1, 0, 0),
         6 => kind_line(
             Kind::And,
             Form::Product,

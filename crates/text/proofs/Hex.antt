@@ -27,10 +27,6 @@ pub code-small : (b : ℕ) → digitCode b ≤ 63
 unfolding digitCode
 code-small b = cases (isDigit b) (λ e. rw e (omega (arith, digit-small b e))) (λ e. rw e (omega arith))
 
-pub upper-small : (b : ℕ) → upperCode b ≤ 240
-unfolding upperCode
-upper-small b = cases (isDigit b) (λ e. rw e (omega (arith, digit-small b e))) (λ e. rw e (omega arith))
-
 module _ (a b c e : ℕ) where
   -- four digits have codes of 60 at most together, other bytes have more
   pub sum-of-codes : leb (digitCode a + digitCode b + digitCode c + digitCode e) 60 ≡ areDigits a b c e

@@ -96,15 +96,13 @@ check-frames-spec =
     μ-loop
     (λ c. let s = c .before .before .before in omega (arith, headed (s .args .table .now) (length (s .args .notes .now)) (s .pre) .two))
     (λ c. let s = c .before .before .before in goes (start (s .args .table .now) (s .args .notes .now) (s .pre)) refl)
-    (λ c κs. search needs)
-    (λ c. search needs)
+    (λ c κs. search needs) (λ c. search needs)
     (λ c. rw (c .before .before .before .loop-test .taken) (omega arith))
     loop-again
     (λ c. search needs)
     (λ c. rw (c .before .before .before .before .loop-test .taken) (omega arith))
     loop-again-2
-    (λ c. search needs)
-    (λ c κs. search needs)
+    (λ c. search needs) (λ c κs. search needs)
     (λ c κs. let o = c .before in let w = walking (stepped o) in (bounded w, frame-of w (met o) (o .operands .result .now) (o .operands .ensures)))
     (λ c. search needs)
     loop-less-3

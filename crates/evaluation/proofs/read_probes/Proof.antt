@@ -65,16 +65,10 @@ pub read-probes-spec : {M : Type 1} → statement M
 read-probes-spec =
     tie.close
     (tie.spec
-    (λ c κs. search needs)
-    (λ c κs. search needs)
-    (λ c. search needs)
-    (λ c. search needs)
-    (λ c. search needs)
+    (λ c κs. search needs) (λ c κs. search needs) (λ c. search needs) (λ c. search needs) (λ c. search needs)
     returns
     (λ c κs. let p = passes (c .before .before) in record { accepted = p .of .accepted; supplied = p .supplied; roomy = omega (arith, p .roomy) })
     (λ c κs. let p = passes (c .before .before .before .before .before .before) in (p .of .accepted, p .wires-are, p .probed, refl))
     show-requires
-    (λ c. search needs)
-    (λ c. search needs)
-    (λ c. search needs)
+    (λ c. search needs) (λ c. search needs) (λ c. search needs)
     returns-2)

@@ -19,10 +19,7 @@ pub masked-read-text-spec : {M : Type 1} → statement M
 masked-read-text-spec =
     tie.close
     (tie.spec
-    (λ c κs. search needs)
-    (λ c. search needs)
-    (λ c. search needs)
-    (λ c. search needs)
+    (λ c κs. search needs) (λ c. search needs) (λ c. search needs) (λ c. search needs)
     (λ c. (text-moved (sym (ap textAnswer (c .before .verdict .given .1)) ∙ c .before .before .before .before .before .read .ensures .0) (accepted-told (c .before .verdict .given .0 .0)), c .before .before .before .before .before .read .ensures .1))
     (λ c. search needs)
     (λ c. (text-moved (sym (ap textAnswer (c .before .verdict2 .given .1)) ∙ c .before .before .before .before .before .read .ensures .0) (refused-told (c .before .verdict2 .given .0 .0) (c .before .verdict2 .given .0 .1 .0) (c .before .verdict2 .given .0 .1 .1 .0)), c .before .before .before .before .before .read .ensures .1)))

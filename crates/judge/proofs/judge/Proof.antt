@@ -25,14 +25,10 @@ pub judge-spec : {M : Type 1} → statement M
 judge-spec =
     tie.close
     (tie.spec
-    (λ c κs. search needs)
-    (λ c. search needs)
+    (λ c κs. search needs) (λ c. search needs)
     (λ c. omega (arith, found c .inside))
     (λ c. sym (length-take-le _ _ (omega (arith, found (c .before) .inside))))
-    (λ c κs. search needs)
-    (λ c. search needs)
-    (λ c. search needs)
-    (λ c. search needs)
+    (λ c κs. search needs) (λ c. search needs) (λ c. search needs) (λ c. search needs)
     (λ c. c .before .before .check .ensures .0 ∙ found (c .before .before .before .before .before) .asked _)
     (λ c. search needs)
     (λ c. stopped _ _ _ _ _ _ (rw (c .before .read3 .given .1) at (c .before .before .before .before .before .read .ensures .0))))

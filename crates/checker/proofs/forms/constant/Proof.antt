@@ -13,6 +13,5 @@ constant-spec =
     (λ c. rw (le-ltb _ _ (c .if1 .taken)) (record { spot-is = refl; notes-are = refl }))
     (λ c. rw (lt-ltb _ _ (c .before .if1 .left), lt-leb _ _ (c .if2 .taken)) (record { spot-is = refl; notes-are = refl }))
     (λ c. rw (lt-ltb _ _ (c .before .before .if1 .left), le-leb _ _ (c .before .if2 .left), lt-leb _ _ (c .if3 .taken)) (record { spot-is = refl; notes-are = refl }))
-    (λ c κs. search needs)
-    (λ c. search needs)
+    (λ c κs. search needs) (λ c. search needs)
     (λ c. rw (lt-ltb _ _ (c .before .before .before .before .before .before .if1 .left), le-leb _ _ (c .before .before .before .before .before .if2 .left), le-leb _ _ (c .before .before .before .before .if3 .left)) (c .before .before .put-one .ensures)))

@@ -12,14 +12,8 @@ pub copy-spec : {M : Type 1} → statement M
 copy-spec =
     tie.close
     (tie.spec
-    (λ c κs. search needs)
-    (λ c. search needs)
-    (λ c. search needs)
-    (λ c. search needs)
-    (λ c. search needs)
-    (λ c. search needs)
-    (λ c κs. search needs)
-    (λ c. search needs)
+    (λ c κs. search needs) (λ c. search needs) (λ c. search needs) (λ c. search needs) (λ c. search needs)
+    (λ c. search needs) (λ c κs. search needs) (λ c. search needs)
     (λ c. rw (← c .before .before .look-up .ensures, c .enum-told .given .1) (record { spot-is = refl; notes-are = refl }))
     (λ c. search needs)
     (λ c. rw (← c .before .before .look-up .ensures, c .enum-told2 .given .1) (record { spot-is = refl; notes-are = refl }))

@@ -38,33 +38,21 @@ pub product-spec : {M : Type 1} → statement M
 product-spec =
     tie.close
     (tie.spec
-    (λ c. search needs)
-    (λ c κs. search needs)
-    (λ c. search needs)
+    (λ c. search needs) (λ c κs. search needs) (λ c. search needs)
     (λ c. omega (arith, c .shared-slice-known3 .given 0))
     (λ c. search needs)
     (λ c. rw (ne-eqb _ _ (c .if1 .taken)) (record { spot-is = refl; notes-are = refl }))
-    (λ c. search needs)
-    (λ c. search needs)
-    (λ c. search needs)
-    (λ c. search needs)
-    (λ c κs. search needs)
+    (λ c. search needs) (λ c. search needs) (λ c. search needs) (λ c. search needs) (λ c κs. search needs)
     (λ c. search needs)
     (λ c. let r = c .before .before in rw (eq-eqb _ _ (r .before .before .before .if1 .left), ← shown r .stage-shown .ensures .0, ← a-row r) (refused-first (r .row-rule .result) _ (c .if2 .taken)))
-    (λ c. search needs)
-    (λ c. search needs)
-    (λ c. search needs)
-    (λ c. search needs)
-    (λ c. search needs)
-    (λ c κs. search needs)
-    (λ c. search needs)
+    (λ c. search needs) (λ c. search needs) (λ c. search needs) (λ c. search needs) (λ c. search needs)
+    (λ c κs. search needs) (λ c. search needs)
     (λ c.
     let s = c .before .before in
     let r = before-b s in
     rw (eq-eqb _ _ (r .before .before .before .if1 .left), ← shown r .stage-shown .ensures .0, ← a-row r, ← b-row s)
     (passed-first (r .row-rule .result) (s .row-rule2 .result) (s .before .before .before .if2 .left) (refused (s .row-rule2 .result) (c .if3 .taken))))
-    (λ c κs. search needs)
-    (λ c. search needs)
+    (λ c κs. search needs) (λ c. search needs)
     (λ c.
     let b = c .before .before .before .before in
     let s = b .before .before in

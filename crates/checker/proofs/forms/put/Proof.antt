@@ -27,6 +27,5 @@ put-spec =
     (λ c. record { spot-is = rw (lt-leb _ _ (c .if1 .taken)); notes-are = refl })
     (λ c. record { spot-is = over (c .before .before) (omega arith); notes-are = refl })
     (λ c. record { spot-is = over (c .before .before .before .before .before) (omega arith); notes-are = refl })
-    (λ c κs. search needs)
-    (λ c. search needs)
+    (λ c κs. search needs) (λ c. search needs)
     (λ c. record { spot-is = within (c .before .before .before .before .before .before .before .before .before) (omega arith); notes-are = c .before .before .write .ensures }))

@@ -27,18 +27,11 @@ pub refresh-spec : {M : Type 1} → statement M
 refresh-spec =
     tie.close
     (tie.spec
-    (λ c. search needs)
-    (λ c κs. search needs)
-    (λ c. search needs)
+    (λ c. search needs) (λ c κs. search needs) (λ c. search needs)
     (λ c. omega (arith, c .shared-slice-known3 .given 0))
     (λ c. search needs)
     (λ c. rw (ne-eqb _ _ (c .if1 .taken)) (record { spot-is = refl; notes-are = refl }))
-    (λ c. search needs)
-    (λ c. search needs)
-    (λ c. search needs)
-    (λ c κs. search needs)
-    (λ c. search needs)
+    (λ c. search needs) (λ c. search needs) (λ c. search needs) (λ c κs. search needs) (λ c. search needs)
     (λ c. let r = c .before .before in rw (eq-eqb _ _ (r .before .before .before .if1 .left), ← shown r .stage-shown .ensures .0, ← a-row r) (refused (r .row-rule .result) (c .if2 .taken)))
-    (λ c κs. search needs)
-    (λ c. search needs)
+    (λ c κs. search needs) (λ c. search needs)
     (λ c. let b = c .before .before .before .before in let r = b .before .before in rw (eq-eqb _ _ (r .before .before .before .if1 .left), ← shown r .stage-shown .ensures .0, ← a-row r) (passed (r .row-rule .result) (b .if2 .left) (c .before .before .put-gadget .ensures))))

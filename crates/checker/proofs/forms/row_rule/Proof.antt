@@ -44,13 +44,8 @@ row-rule-spec =
     Inv-loop
     μ-loop
     loop-holds
-    (λ c. search needs)
-    (λ c. search needs)
-    (λ c. omega arith)
-    (λ c κs. omega arith)
-    (λ c. omega arith)
+    (λ c. search needs) (λ c. search needs) (λ c. omega arith) (λ c κs. omega arith) (λ c. omega arith)
     (λ c. sym (turn (c .before) ∙ broken-first (spot (c .before .wire-rule .result) _) _ (c .if1 .taken)))
-    (λ c. search needs)
-    (λ c. search needs)
+    (λ c. search needs) (λ c. search needs)
     (λ c. (search needs, turn (c .before) ∙ none-first (spot (c .before .wire-rule .result) _) _ (c .if1 .left)))
     returns-2)

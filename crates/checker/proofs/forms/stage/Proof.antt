@@ -11,6 +11,5 @@ stage-spec =
     tie.close
     (tie.spec
     (λ c. rw (lt-leb _ _ (c .if1 .taken)) (record { spot-is = refl; notes-are = refl }))
-    (λ c κs. search needs)
-    (λ c. search needs)
+    (λ c κs. search needs) (λ c. search needs)
     (λ c. rw (le-leb _ _ (c .before .before .before .before .if1 .left)) (c .before .before .put .ensures)))

@@ -28,17 +28,11 @@ pub sum-spec : {M : Type 1} → statement M
 sum-spec =
     tie.close
     (tie.spec
-    (λ c κs. search needs)
-    (λ c. search needs)
-    (λ c. search needs)
-    (λ c. search needs)
-    (λ c. search needs)
+    (λ c κs. search needs) (λ c. search needs) (λ c. search needs) (λ c. search needs) (λ c. search needs)
     wire-rule-requires
     (λ c. search needs)
     (λ c. let f = c .before .before .before .before in rw (named f, like-self (f .found .given .0 .0) (f .found .given .0 .1 .0), ← c .before .wire-rule .ensures) (refused-first (spot (c .before .wire-rule .result) 2) none (c .if1 .taken)))
-    (λ c. search needs)
-    (λ c κs. search needs)
-    (λ c. search needs)
+    (λ c. search needs) (λ c κs. search needs) (λ c. search needs)
     (λ c. rw (← c .before .before .look-up .ensures, c .enum-told .given .1) (record { spot-is = refl; notes-are = refl }))
     (λ c. search needs)
     (λ c. rw (← c .before .before .look-up .ensures, c .enum-told2 .given .1) (record { spot-is = refl; notes-are = refl }))

@@ -23,11 +23,9 @@ first-missing-spec =
     Inv-loop
     μ-loop
     (λ c. (search needs, λ k e. passed-start (probesRule k) (c .args .probes .now)))
-    (λ c. search needs)
-    (λ c. search needs)
+    (λ c. search needs) (λ c. search needs)
     (λ c. record { fits = omega (arith, c .shared-slice-known .given (c .before .before .loop .i)) })
     (λ c. record { is = λ k e. probe-found k (c .before .before .before .before .args .probes .now) (c .before .before .before .loop .i) (c .before .before .before .loop .inv .1 k e) (c .before .before .loop-test .taken) (omega arith) })
-    (λ c. search needs)
-    (λ c. search needs)
+    (λ c. search needs) (λ c. search needs)
     (λ c. (omega arith, λ k e. probe-turn k (c .before .before .before .before .args .probes .now) (c .before .before .before .loop .i) (c .before .before .before .loop .inv .1 k e) (c .before .before .loop-test .taken) (omega arith)))
     (λ c. record { is = λ k e. probe-end k (c .before .before .args .probes .now) (c .before .loop .i) (c .before .loop .inv .1 k e) (c .loop-test .left) }))

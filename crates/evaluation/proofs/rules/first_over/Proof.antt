@@ -25,7 +25,6 @@ first-over-spec =
     (λ c. (omega arith, passed-start bytesRule (c .before .before .before .args .bytes .now)))
     (λ c. search needs)
     (λ c. record { is = byte-found (c .before .before .before .before .before .before .before .args .bytes .now) (c .before .before .before .loop .i) (c .before .before .before .loop .inv .1) (c .before .before .loop-test .taken) (c .if2 .taken) })
-    (λ c. search needs)
-    (λ c. search needs)
+    (λ c. search needs) (λ c. search needs)
     (λ c. (omega arith, byte-turn (c .before .before .before .before .before .before .before .args .bytes .now) (c .before .before .before .loop .i) (c .before .before .before .loop .inv .1) (c .before .before .loop-test .taken) (c .if2 .left)))
     (λ c. record { is = byte-end (c .before .before .before .before .before .args .bytes .now) (c .before .loop .i) (c .before .loop .inv .1) (c .loop-test .left) }))

@@ -34,8 +34,7 @@ front-put t c = let k = c .before .before .before .before .before .before .args 
 
 pub +put-number-spec : {M : Type 1} → statement M
 +put-number-spec = close μ-put-number λ t. put-number-lts.spec (put-number-below t, put-number.Post) (put-number-at t) put-number.Post
-    (λ c. search needs)
-    (λ c. search needs)
+    (λ c. search needs) (λ c. search needs)
     (λ c. omega (arith, ap length (one-digit _ (c .if1 .taken))))
     (λ c. search needs)
     (λ c. let k = c .before .before .args in length-set (now (k .out)) (k .at) (48 + k .n))
@@ -44,8 +43,7 @@ pub +put-number-spec : {M : Type 1} → statement M
     let k = c .before .before .before in
     let h = c .before .if1 .left in
     (omega (arith, tenth-less (k .args .n) h, k .pre .0), omega (arith, length-last (k .args .n) h, k .pre .1)))
-    (λ c. search needs)
-    (λ c. search needs)
+    (λ c. search needs) (λ c. search needs)
     (λ c. let f = front-put t c in omega arith)
     (λ c. record { fits = omega (arith, front-put t c .place) })
     (λ c. let k = c .before .before .before .before .before .before .args in ap length (front-put t c .complete) ∙ length-sets (now (k .out)) (k .at) (decimal (k .n)))

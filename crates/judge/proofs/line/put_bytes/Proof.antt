@@ -37,12 +37,7 @@ put-bytes-spec =
     Inv-loop
     μ-loop
     (λ c. (omega arith, refl, ap (λ (k : ℕ). sets (now (c .args .out)) k (now (c .args .bytes))) (omega arith)))
-    (λ c. search needs)
-    (λ c. search needs)
-    (λ c. search needs)
-    (λ c. search needs)
-    (λ c. search needs)
+    (λ c. search needs) (λ c. search needs) (λ c. search needs) (λ c. search needs) (λ c. search needs)
     loop-again
-    (λ c. search needs)
-    (λ c. search needs)
+    (λ c. search needs) (λ c. search needs)
     returns)

@@ -26,10 +26,6 @@ largest-spec =
     Inv-loop
     μ-loop
     (λ c. (omega arith, λ x l u. absurd (omega arith)))
-    (λ c. search needs)
-    (λ c. omega arith)
-    (λ c κs. search needs)
-    (λ c. search needs)
-    (λ c. omega arith)
+    (λ c. search needs) (λ c. omega arith) (λ c κs. search needs) (λ c. search needs) (λ c. omega arith)
     loop-again
     (λ c. record { is = λ x l u. c .before .loop .inv .1 x l (omega arith) }))

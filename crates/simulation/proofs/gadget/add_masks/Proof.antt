@@ -38,7 +38,6 @@ add-masks-spec =
     (λ c. masks-start (c .before .pre .5))
     (λ c κs. (start c .pre .0, start c .pre .1, below c))
     shared-slice-read-sum
-    (λ c. search needs)
-    (λ c. omega arith)
+    (λ c. search needs) (λ c. omega arith)
     (λ c. let t = c .before .before in masks-turn (t .before .loop .inv) (start t .pre .1) (below t) (apart t) (t .loop-test .taken) _ (c .before .mask-at .ensures .0))
     (λ c. masks-end (c .before .loop .inv) (c .loop-test .left)))

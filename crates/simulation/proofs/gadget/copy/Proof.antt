@@ -33,12 +33,7 @@ copy-spec =
     Inv-loop
     μ-loop
     (λ c. (omega arith, fills-at refl (omega arith) (fills-none (c .args .at) (c .args .values .now))))
-    (λ c. search needs)
-    (λ c. omega arith)
-    (λ c. search needs)
-    (λ c. omega arith)
-    (λ c. search needs)
-    (λ c. omega arith)
+    (λ c. search needs) (λ c. omega arith) (λ c. search needs) (λ c. omega arith) (λ c. search needs) (λ c. omega arith)
     loop-again
     (λ c. c .before .loop .inv .1 .size)
     (λ c. fills-at refl (omega arith) (c .before .loop .inv .1)))

@@ -10,8 +10,7 @@ pub cross-spec : {M : Type 1} → statement M
 cross-spec =
     tie.close
     (tie.spec
-    (λ c. omega arith)
-    (λ c. search needs)
+    (λ c. omega arith) (λ c. search needs)
     (λ c. rw (length-set) (omega arith))
     (λ c. search needs)
     (λ c. rw (length-set, length-set) (omega arith))

@@ -51,8 +51,7 @@ cross-all-spec =
     (λ c κs. let t = c .before .before .before .before .before .before .before .before .before in (start t .pre .0, t .loop-test .taken, omega arith, omega (arith, t .before .loop .inv .size, start t .pre .3), (λ j l u e. omega arith), omega arith))
     (λ c κs. let t = c .before .before .before .before .before .before .before .before .before .before .before .before in (start t .pre .0, t .loop-test .taken))
     (λ c. let t = c .before .before .before .before .before .before .before .before .before .before .before .before .before in omega (arith, c .out-at .ensures .0, t .before .loop .inv .size, start t .pre .3))
-    (λ c. search needs)
-    (λ c. omega arith)
+    (λ c. search needs) (λ c. omega arith)
     loop-again
     (λ c. c .before .loop .inv .size)
     (λ c. outputs-end (c .loop-test .left) (c .before .loop .inv)))

@@ -49,8 +49,7 @@ cross-row-spec =
     (λ c. omega (arith, site (c .before .before .before .before), c .before .product-at .ensures .0, room (c .before .before .before .before)))
     (λ c κs. let t = c .before .before .before .before .before in (start t .pre .0, start t .pre .1, below t))
     (λ c κs. let t = c .before .before .before .before .before .before in rw (c .cross-at .ensures .0) (omega (arith, site t .room, room t)))
-    (λ c. search needs)
-    (λ c. omega arith)
+    (λ c. search needs) (λ c. omega arith)
     loop-again
     (λ c. c .before .loop .inv .fills .size)
     (λ c. row-end (c .before .loop .inv) (c .loop-test .left)))

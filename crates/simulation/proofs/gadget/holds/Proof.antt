@@ -34,8 +34,7 @@ holds-spec =
     (λ c. omega (arith, c .before .sum-at .ensures .0, c .before .before .before .loop .inv .1 .size))
     (λ c. search needs)
     (λ c. omega (arith, c .before .sum-at .ensures .0, c .before .before .before .loop .inv .1 .size))
-    (λ c. search needs)
-    (λ c. omega arith)
+    (λ c. search needs) (λ c. omega arith)
     loop-again
     (λ c. c .before .loop .inv .1 .size)
     (λ c. fills-at refl (omega arith) (c .before .loop .inv .1)))

@@ -41,8 +41,7 @@ share-products-spec =
     Inv-loop
     μ-loop
     (λ c. (omega arith, fills-none _ _))
-    (λ c κs. omega arith)
-    (λ c κs. omega arith)
+    (λ c κs. omega arith) (λ c κs. omega arith)
     (λ c. omega (arith, early (c .before .before .before), c .before .word-b .ensures, c .before .before .before .before .loop .inv .1 .size))
     (λ c. omega (arith, early (c .before .before .before .before), c .before .before .before .word-a .ensures, c .before .before .before .before .before .loop .inv .1 .size))
     (λ c κs. (start (c .before .before .before .before) .pre .0, omega arith))
@@ -51,8 +50,7 @@ share-products-spec =
     (λ c. rw (length-set) (omega (arith, room (c .before .before .before .before .before), c .product-at .ensures .0)))
     (λ c. search needs)
     (λ c. rw (length-set, length-set) (omega (arith, room (c .before .before .before .before .before), c .product-at .ensures .0)))
-    (λ c. search needs)
-    (λ c. omega arith)
+    (λ c. search needs) (λ c. omega arith)
     loop-again
     (λ c. c .before .loop .inv .1 .size)
     (λ c. fills-at refl (omega arith) (c .before .loop .inv .1)))

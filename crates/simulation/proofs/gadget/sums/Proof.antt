@@ -44,8 +44,7 @@ sums-spec =
     (λ c κs. let t = c .before .before .before .before .before in (entry t .pre .0, t .loop-test .taken, omega arith, omega arith, (λ j l u e. omega arith), omega arith))
     (λ c κs. (entry (c .before .before .before .before .before .before) .pre .0, omega arith))
     (λ c. let t = c .before .before .before .before .before .before .before in omega (arith, c .sum-at .ensures .0, t .before .loop .inv .1 .size, entry t .pre .3))
-    (λ c. search needs)
-    (λ c. omega arith)
+    (λ c. search needs) (λ c. omega arith)
     loop-again
     (λ c. c .before .loop .inv .1 .size)
     (λ c. fills-at refl (omega arith) (c .before .loop .inv .1)))

@@ -56,8 +56,7 @@ mark-masks-spec =
     (λ c. (omega arith, c .before .pre .5, refl, refl))
     (λ c κs. (start c .pre .0, start c .pre .1, below c))
     slice-write-marks
-    (λ c. search needs)
-    (λ c. omega arith)
+    (λ c. search needs) (λ c. omega arith)
     loop-again
     (λ c. c .before .loop .inv .2)
     returns)

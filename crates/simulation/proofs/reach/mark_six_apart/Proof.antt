@@ -32,10 +32,7 @@ mark-six-apart-spec =
     Inv-loop
     μ-loop
     loop-holds
-    (λ c. omega arith)
-    (λ c. search needs)
-    (λ c. search needs)
-    (λ c. omega arith)
+    (λ c. omega arith) (λ c. search needs) (λ c. search needs) (λ c. omega arith)
     loop-again
     (λ c. c .before .loop .inv .3)
     (λ c. sym (ap (markAll (c .before .loop .marks)) (six-apart-end (c .before .loop .x) (c .before .before .args .count) (c .before .loop .k) (c .loop-test .left))) ∙ c .before .loop .inv .2))

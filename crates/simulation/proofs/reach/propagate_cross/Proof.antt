@@ -17,8 +17,7 @@ pub propagate-cross-spec : {M : Type 1} → statement M
 propagate-cross-spec =
     tie.close
     (tie.spec
-    (λ c. search needs)
-    (λ c. search needs)
+    (λ c. search needs) (λ c. search needs)
     (λ c κs. (omega arith, omega arith, omega arith))
     (λ c. search needs)
     (λ c κs. (omega arith, omega arith, omega arith))

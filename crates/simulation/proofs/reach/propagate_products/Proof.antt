@@ -51,8 +51,7 @@ propagate-products-spec =
     Inv-loop
     μ-loop
     (λ c. (omega arith, moves-none _ _))
-    (λ c. omega arith)
-    (λ c κs. omega arith)
+    (λ c. omega arith) (λ c κs. omega arith)
     (λ c κs. (start (c .before) .pre .0, omega (arith, below (c .before))))
     (λ c. search needs)
     propagate-requires

@@ -42,8 +42,7 @@ propagate-refresh-spec =
     Inv-loop
     μ-loop
     (λ c. let a = c .before .before .args in (omega arith, held-moved (a .d) (a .first) (wordA (a .ops .now)) (a .marks .now)))
-    (λ c. omega arith)
-    (λ c κs. omega arith)
+    (λ c. omega arith) (λ c κs. omega arith)
     propagate-sum-requires
     (λ c. omega arith)
     loop-again

@@ -30,8 +30,7 @@ propagate-rows-spec =
     Inv-loop
     μ-loop
     (λ c. (omega arith, moves-none _ _))
-    (λ c. omega arith)
-    (λ c. search needs)
+    (λ c. omega arith) (λ c. search needs)
     (λ c κs. let p = c .before .before .before .before .before .pre in (p .0, omega arith, omega arith, omega arith, (λ j l u e. omega arith), omega arith, p .2, p .3, p .4))
     (λ c κs. let p = c .before .before .before .before .before .before .before .before .before .pre in (p .0, omega arith, omega arith, omega arith, (λ j l u e. omega arith), omega arith, p .2, p .3, p .4))
     (λ c. omega arith)

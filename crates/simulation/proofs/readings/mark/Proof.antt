@@ -23,11 +23,9 @@ mark-spec =
     Inv-loop
     μ-loop
     (λ c. (omega arith, refl))
-    (λ c. search needs)
-    (λ c. search needs)
+    (λ c. search needs) (λ c. search needs)
     (λ c. record { fits = omega (arith, c .shared-slice-known .given (c .before .before .loop .i)) })
     (λ c. c .before .before .before .pre _ (nth-in (c .before .before .before .args .probes .now) (c .before .before .loop .i) (c .before .loop-test .taken)))
-    (λ c. search needs)
-    (λ c. search needs)
+    (λ c. search needs) (λ c. search needs)
     (λ c. (omega arith, c .before .before .loop .inv .1 ∙ mark-turn _ _ _ (c .before .loop-test .taken)))
     (λ c. sym (c .before .loop .inv .1 ∙ mark-end _ _ _ (c .loop-test .left))))

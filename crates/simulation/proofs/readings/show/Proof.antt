@@ -39,17 +39,13 @@ show-spec =
     Inv-loop2
     μ-loop2
     (λ c. (omega arith, shown-start _ _ _))
-    (λ c. omega arith)
-    (λ c. omega arith)
-    (λ c κs. search needs)
+    (λ c. omega arith) (λ c. omega arith) (λ c κs. search needs)
     (λ c. omega (arith, c .before .before .before .before .loop .inv .1 .sized))
-    (λ c. search needs)
-    (λ c. omega arith)
+    (λ c. search needs) (λ c. omega arith)
     (λ c. (omega arith, shown-next _ _ (c .before .before .before .before .loop .inv .1) (omega arith) (c .shown .ensures)))
     (λ c. (omega arith, omega arith, λ old s. s))
     (λ c. omega (arith, shown (c .before) .sized))
-    (λ c. search needs)
-    (λ c. omega arith)
+    (λ c. search needs) (λ c. omega arith)
     loop2-again
     (λ c. shown (c .before) .sized)
     (λ c. shown-end _ _ (shown (c .before)) (c .loop2-test .left) (c .before .before .before .before .before .before .pre .2)))

@@ -76,9 +76,7 @@ fill-spec =
     (λ c. omega (arith, headed (c .before .before .before .before .before .pre .accepted)))
     (λ c. record { fits = omega (arith, second-word (c .before .before .before .before .before .pre .accepted)) })
     (λ c. let p = c .before .before .before .before .before .pre in (refl, filled-start (p .accepted) (p .supplied) _))
-    (λ c κs. search needs)
-    (λ c. search needs)
-    (λ c κs. search needs)
+    (λ c κs. search needs) (λ c. search needs) (λ c κs. search needs)
     write-frame-requires
     (λ c. record { fits = omega (arith, counts (c .before .before .before .before .before .before .before) .wires) })
     (λ c. let t = c .before .before .before .before .before .before .before .before in record { fits = omega (arith, counts t .shares, start (head t) .good .1 .0 .0) })

@@ -52,8 +52,7 @@ pub write-frame-spec : {M : Type 1} → statement M
 write-frame-spec =
     tie.close
     (tie.spec
-    (λ c. search needs)
-    (λ c. search needs)
+    (λ c. search needs) (λ c. search needs)
     copy-requires
     (λ c. search needs)
     (λ c κs. asked-gate (c .before .before .before .before) (c .before .before .gate .given .1) .0)
@@ -63,8 +62,7 @@ write-frame-spec =
     (λ c κs. let q = asked-gate (c .before .before .before .before) (c .before .before .gate3 .given .1) in (q .0, q .1))
     (λ c. search needs)
     (λ c κs. let q = asked-gate (c .before .before .before .before) (c .before .before .gate4 .given .1) in (q .0, q .1))
-    (λ c. search needs)
-    (λ c. search needs)
+    (λ c. search needs) (λ c. search needs)
     and-requires
     (λ c. search needs)
     refresh-requires

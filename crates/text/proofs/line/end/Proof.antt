@@ -77,9 +77,7 @@ end-spec =
     loop-holds
     (λ c κs. (c .before .before .before .before .pre .0, omega arith))
     (λ c. let e : all (c .before .before .before .before .before .before) ≡ 0 = counted (c .before) ∙ rw (not-true (c .before .is-word .result) (c .if2 .taken)) in rw e)
-    (λ c. omega arith)
-    (λ c. omega arith)
-    (λ c. omega arith)
+    (λ c. omega arith) (λ c. omega arith) (λ c. omega arith)
     returns-3
     returns-4
     (λ c. omega arith)

@@ -46,11 +46,7 @@ store-spec =
     μ-loop
     (λ c. (c .before .before .pre .1, refl, refl, refl))
     (λ c κs. (c .before .before .before .before .pre .0, omega arith))
-    (λ c. search needs)
-    (λ c. omega arith)
-    (λ c. omega arith)
-    (λ c. omega arith)
-    (λ c. omega arith)
+    (λ c. search needs) (λ c. omega arith) (λ c. omega arith) (λ c. omega arith) (λ c. omega arith)
     loop-again
     (λ c. search needs)
     returns)

@@ -66,19 +66,11 @@ step-spec =
     tie.close
     (tie.spec
     (λ c. rw (le-ltb _ _ (c .if1 .taken)))
-    (λ c. search needs)
-    (λ c. search needs)
+    (λ c. search needs) (λ c. search needs)
     (λ c. rw (lt-ltb _ _ (c .before .before .if1 .left), lt-leb _ _ (c .if2 .taken)))
     (λ c. rw (lt-ltb _ _ (c .before .before .before .if1 .left), le-leb _ _ (c .before .if2 .left), lt-leb _ _ (c .if3 .taken)))
-    (λ c. search needs)
-    (λ c. search needs)
-    (λ c. search needs)
-    (λ c. search needs)
-    (λ c. search needs)
-    (λ c κs. search needs)
-    (λ c κs. search needs)
-    (λ c. search needs)
-    (λ c. search needs)
+    (λ c. search needs) (λ c. search needs) (λ c. search needs) (λ c. search needs) (λ c. search needs)
+    (λ c κs. search needs) (λ c κs. search needs) (λ c. search needs) (λ c. search needs)
     add-end
     returns-4
     returns-5)
