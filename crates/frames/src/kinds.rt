@@ -68,7 +68,7 @@ fn kind_line(
 }
 
 // The frame that a kind word begins. A word past 8 is no kind and is answered as HEAD. The kinds stand in three groups, so
-// that a processor foresees each by its own branches: one jump for all of them costs a gate twice its time.
+// that a processor foresees each by its own branches: one jump for all of them cost some tables of gates twice the time.
 pub fn decide(word: u16, d: u16) -> Shape
     ensures shaped { λ r. ⌜ r ≡ shapeCode d (kindOf word) ⌝ }
     ensures formed { λ r. ⌜ Means d (r .form) (kindOf word) ⌝ }
