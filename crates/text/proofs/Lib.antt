@@ -3,7 +3,9 @@ pub mod Table
 pub mod Hex
 pub mod Scanning
 pub mod Splitting
+pub mod Blocks
 pub mod Reading
 pub mod Progress
+pub mod Advance
 pub mod Accepted
 pub mod Spared

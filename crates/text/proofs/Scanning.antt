@@ -1,6 +1,6 @@
 -- The loops over a line: counting its words, and storing them.
-use mathlib.Core.Path.{_≡_, refl, ap}
-use mathlib.Core.Bool.{cond, _&&_}
+use mathlib.Core.Path.{_≡_, refl, sym, ap, _∙_}
+use mathlib.Core.Bool.{true, cond, _&&_}
 use mathlib.Core.List.{List, [], _∷_}
 use Prim.Native.Nat.{ℕ, zero, suc, _+_, _*_, _-_, _≤_, _<_}
 use native.Mathlib.Omega.{arith}
@@ -14,9 +14,9 @@ use Rattle.circuit.specs.Limits.{tableLimit}
 use Rattle.circuit.specs.Circuit.{empty}
 use Rattle.circuit.specs.Kinds.{Kind, HEAD, IN, CON, XOR, NOT, REG, AND, REF, OUT, shareCount, share, before, row, shape, kindOf, words}
 use Rattle.circuit.specs.Rules.{Judgement, pass, refuse, need, _then_, wordRule}
-use Rattle.text.specs.Lines.{lineFeed, space, areDigits}
+use Rattle.text.specs.Lines.{lineFeed, areDigits}
 use Rattle.text.specs.Reader.{roomRule}
-use Rattle.text.specs.Internal.Scan.{valueIn, countFrom, behindLine, wordsAt, limitOf, ruled, headWord, headByCount, frameByCount}
+use Rattle.text.specs.Internal.Scan.{isMark, isWord, countFrom, behindLine, limitOf, ruled, headWord, headByCount, frameByCount}
 use Rattle.text.proofs.Hex.{five}
 
 short-count : (n : ℕ) (bytes : List ℕ) → length bytes < 5 → countFrom n bytes ≡ 0
@@ -33,13 +33,29 @@ pub count-end : (n : ℕ) (l : List ℕ) (i : ℕ) → length l < i + 5 → coun
 count-end n l i h = short-count n (drop i l) (simp length-drop (omega arith))
 
 -- a turn of the count: a word, and the byte behind it
-module _ (n : ℕ) (l : List ℕ) (i : ℕ) (h : i + 5 ≤ length l) where
-  pub count-turn : countFrom n (drop i l)
-      ≡ cond (areDigits (getD l i 0) (getD l (i + 1) 0) (getD l (i + 2) 0) (getD l (i + 3) 0))
-      (cond (eqb (getD l (i + 4) 0) lineFeed) n (cond (eqb (getD l (i + 4) 0) space) (countFrom (n + 1) (drop (i + 5) l)) 0))
-      0
-  unfolding countFrom
-  count-turn = let u : n + 1 ≡ suc n = omega arith in rw (u, five l i h)
+pub count-turn : (n : ℕ) (l : List ℕ) (i : ℕ) → i + 5 ≤ length l
+    → countFrom n (drop i l) ≡ cond (isWord (drop i l)) (cond (eqb (getD l (i + 4) 0) lineFeed) n (countFrom (n + 1) (drop (i + 5) l))) 0
+unfolding countFrom isWord
+count-turn n l i h = let u : n + 1 ≡ suc n = omega arith in rw (u, five l i h)
+
+-- the words of a line of the form
+pub counted-word : (n : ℕ) (bytes : List ℕ) → 0 < countFrom n bytes → isWord bytes ≡ true
+unfolding countFrom isWord
+counted-word n [] h = absurd (omega arith)
+counted-word n (a ∷ []) h = absurd (omega arith)
+counted-word n (a ∷ b ∷ []) h = absurd (omega arith)
+counted-word n (a ∷ b ∷ c ∷ []) h = absurd (omega arith)
+counted-word n (a ∷ b ∷ c ∷ e ∷ []) h = absurd (omega arith)
+counted-word n (a ∷ b ∷ c ∷ e ∷ s ∷ rest) h = cases (areDigits a b c e && isMark s) (λ p. p) (λ p. absurd (let z = rw p at h in omega arith))
+
+-- the second word of a line of two
+pub second-word : (bytes : List ℕ) → 5 ≤ length bytes → countFrom 1 bytes ≡ 2 → isWord (drop 5 bytes) ≡ true
+second-word bytes h e =
+    let w = counted-word 1 bytes (omega arith) in
+    let k : 2 ≡ cond (eqb (getD bytes 4 0) lineFeed) 1 (countFrom 2 (drop 5 bytes)) = sym e ∙ count-turn 1 bytes 0 h ∙ rw w in
+    cases (eqb (getD bytes 4 0) lineFeed)
+    (λ f. let z : _≡_ {A = ℕ} 2 1 = rw f at k in absurd (omega arith))
+    (λ f. let z : 2 ≡ countFrom 2 (drop 5 bytes) = rw f at k in counted-word 2 (drop 5 bytes) (omega arith))
 
 -- the place behind a line tells its count
 pub behind-some : (at count : ℕ) → 0 < count → behindLine at count ≡ at + 5 * count
@@ -53,16 +69,6 @@ behind-none at (suc n) h = absurd (omega arith)
 pub behind-known : (at count : ℕ) → (behindLine at count ≡ 0 → ⊥) → (behindLine at count ≡ at + 5 * count) × (0 < count)
 behind-known at zero h = absurd (h refl)
 behind-known at (suc n) h = (refl, omega arith)
-
--- a turn of the store
-pub store-turn : (t bytes : List ℕ) (to left i : ℕ) → 0 < left
-    → sets t to (wordsAt left (drop i bytes)) ≡ sets (set t to (valueIn (drop i bytes))) (to + 1) (wordsAt (left - 1) (drop (i + 5) bytes))
-unfolding wordsAt
-store-turn t bytes to zero i h = absurd (omega arith)
-store-turn t bytes to (suc left) i h =
-    let e : suc to ≡ to + 1 = omega arith in
-    let f : suc left - 1 ≡ left = omega arith in
-    rw (f, drop-drop 5 i bytes, e)
 
 -- a kind's number of words
 pub words-most : (d : ℕ) (kind : Kind) → words d kind ≤ 3 + d + d
@@ -87,6 +93,9 @@ same-room room n count = cases (leb room tableLimit) (λ e. rw e)
 pub limit-most : (room : ℕ) → limitOf room ≤ tableLimit
 limit-most room = cases (leb room tableLimit) (λ e. rw e (omega (arith, leb-true))) (λ e. rw e (omega arith))
 
+pub limit-room : (room : ℕ) → limitOf room ≤ room
+limit-room room = cases (leb room tableLimit) (λ e. rw e (omega arith)) (λ e. rw e (omega (arith, leb-false room tableLimit e)))
+
 pub limit-least : (room stored : ℕ) → stored ≤ room → stored ≤ tableLimit → stored ≤ limitOf room
 limit-least room stored h k = cases (leb room tableLimit) (λ e. rw e h) (λ e. rw e k)
 
@@ -101,12 +110,3 @@ same-frame room d n stored kind count =
     ap (λ (j : Judgement). (need (ltb 0 count) 20 n 0
     then need (leb 1 kind && leb kind 8) 5 n 0 then need (eqb count (suc (words d (kindOf kind)))) 6 n 0)
     then j) (same-room room n (stored + count))
-
--- the rule on room names word 0
-pub room-word : (r room m : ℕ) → ruled r 0 0 ≡ roomRule room 0 m → headWord r ≡ 0
-room-word r room m h = cases (eqb r 4)
-    (λ e. let k : refuse 4 0 0 ≡ roomRule room 0 m = rw (eqb-true r 4 e) at h in
-    cases (leb m room && leb m 8192)
-    (λ f. let g : refuse 4 0 0 ≡ pass = rw f at k in let z : _≡_ {A = ℕ} 0 1 = cc in absurd (omega arith))
-    (λ f. let g : refuse 4 0 0 ≡ refuse 21 0 0 = rw f at k in let z : _≡_ {A = ℕ} 4 21 = cc in absurd (omega arith)))
-    (λ e. rw e)

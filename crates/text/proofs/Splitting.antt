@@ -10,7 +10,6 @@ use borrow.Author.Tests.{eqb-true, ne-eqb}
 use Rattle.circuit.proofs.Base.{cases, and-left, and-right}
 use Rattle.text.specs.Lines.{lineFeed, space, isDigit, areDigits, word, Line, line, grow, linesOf, areWords, wordsOn}
 use Rattle.text.specs.Internal.Scan.{valueIn, countFrom, wordsAt}
-use Rattle.text.proofs.Hex.{word-value}
 
 pub firstLine : List ℕ → Line
 firstLine [] = line [] false
@@ -98,7 +97,7 @@ last-word : (n a b c e : ℕ) (rest : List ℕ) → areDigits a b c e ≡ true �
 unfolding firstLine afterLine areWords wordsOn wordsAt valueIn
 last-word n a b c e rest h =
     let f = word-first a b c e (lineFeed ∷ rest) h in
-    formed 0 (omega arith) (rw (f, h)) (rw (f, word-value a b c e h)) (word-after a b c e (lineFeed ∷ rest) h) (omega arith)
+    formed 0 (omega arith) (rw (f, h)) (rw f) (word-after a b c e (lineFeed ∷ rest) h) (omega arith)
 
 -- a word in front of a line
 more-words : (n a b c e : ℕ) (rest : List ℕ) (k : ℕ) → areDigits a b c e ≡ true → Counted (suc n) rest k → Counted n (a ∷ b ∷ c ∷ e ∷ space ∷ rest) k
@@ -108,7 +107,7 @@ more-words n a b c e rest k h (unformed z g) =
 more-words n a b c e rest k h (formed m z g w t l) =
     let f = word-first a b c e (space ∷ rest) h in
     let u : 5 * suc (suc m) ≡ suc (suc (suc (suc (suc (5 * suc m))))) = omega arith in
-    formed (suc m) (omega arith) (rw (f, h) g) (rw (f, word-value a b c e h) (ap (λ (ws : List ℕ). word a b c e ∷ ws) w))
+    formed (suc m) (omega arith) (rw (f, h) g) (rw f (ap (λ (ws : List ℕ). word a b c e ∷ ws) w))
     (word-after a b c e (space ∷ rest) h ∙ rw u t) (omega arith)
 
 -- a word with another byte behind it
@@ -130,3 +129,10 @@ counted n (a ∷ b ∷ c ∷ e ∷ s ∷ rest) = cases (areDigits a b c e)
     (λ q. rw (h, p, q) (rw (eqb-true s space q) (more-words n a b c e rest (countFrom (suc n) rest) h (counted (suc n) rest))))
     (λ q. rw (h, p, q) (unformed refl (bad-mark a b c e s rest h p q)))))
     (λ h. rw h (unformed refl (bad-word a b c e (s ∷ rest) h)))
+
+-- a line of the form has its first word
+pub count-least : (n : ℕ) (bs : List ℕ) → countFrom n bs < n → countFrom n bs ≡ 0
+count-least n bs h = least (countFrom n bs) (counted n bs) h where
+  least : (k : ℕ) → Counted n bs k → k < n → k ≡ 0
+  least k (unformed z g) l = z
+  least k (formed m z g w t f) l = absurd (omega arith)

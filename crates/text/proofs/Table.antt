@@ -8,7 +8,7 @@ use lib.Dec.{ltb, eqb}
 use lib.ListN.{length, getD}
 use borrow.Author.Tests.{eqb-true, lt-ltb, le-ltb}
 use Rattle.circuit.proofs.Base.{and-left, and-right}
-use Rattle.text.specs.Internal.Scan.{digitCode, upperCode, codeTable}
+use Rattle.text.specs.Internal.Scan.{digitCode, markCode, codeTable}
 
 -- whether a test passes at each entry and its place, counted from i
 abbrev pub every : (ℕ → ℕ → Bool) → ℕ → List ℕ → Bool
@@ -26,21 +26,21 @@ concatMap-entry f xs t k h = subst (λ (m : ℕ). f m (getD xs k 0) ≡ true) (o
 
 -- the codes of a byte
 codeAt : ℕ → ℕ
-codeAt k = cond (ltb k 256) (digitCode k) (upperCode (k - 256))
+codeAt k = cond (ltb k 256) (digitCode k) (markCode (k - 256))
 
 right : ℕ → ℕ → Bool
 right k x = eqb x (codeAt k)
 
 code-entry : (k : ℕ) → k < 512 → getD codeTable k 0 ≡ codeAt k
-unfolding right codeAt codeTable digitCode upperCode
+unfolding right codeAt codeTable digitCode markCode
 code-entry k h = eqb-true (getD codeTable k 0) (codeAt k) (concatMap-entry right codeTable refl k h)
 
 pub digit-entry : (b : ℕ) → b < 256 → getD codeTable b 0 ≡ digitCode b
 unfolding codeAt
 digit-entry b h = code-entry b (omega arith) ∙ rw (lt-ltb b 256 h)
 
-pub upper-entry : (b : ℕ) → b < 256 → getD codeTable (256 + b) 0 ≡ upperCode b
+pub mark-entry : (b : ℕ) → b < 256 → getD codeTable (256 + b) 0 ≡ markCode b
 unfolding codeAt
-upper-entry b h =
+mark-entry b h =
     let e : 256 + b - 256 ≡ b = omega arith in
     code-entry (256 + b) (omega arith) ∙ rw (le-ltb (256 + b) 256 (omega arith), e)

@@ -1,89 +1,81 @@
 // Words of four hexadecimal digits.
 ghost use mathlib.Core.Path.{_≡_};
+ghost use mathlib.Core.Bool.{true};
 ghost use Prim.Native.Nat.{_+_, _≤_};
 ghost use lib.ListN.{length, getD, drop};
-ghost use Rattle.text.specs.Lines.{areDigits};
-ghost use Rattle.text.specs.Internal.Scan.{digitCode, upperCode, codeTable, valueIn};
+ghost use Rattle.text.specs.Internal.Scan.{digitCode, markCode, codeTable, pairCode, isWord, valueIn};
 
-// By a byte, the value of a digit 0-9A-F, and 63 for another byte, which is more than four digits have together; then, by a
-// byte again, sixteen times the value of a digit, and 0 for another byte.
-const CODES: [u8; 512] = *b"\
-    \x3f\x3f\x3f\x3f\x3f\x3f\x3f\x3f\x3f\x3f\x3f\x3f\x3f\x3f\x3f\x3f\
-    \x3f\x3f\x3f\x3f\x3f\x3f\x3f\x3f\x3f\x3f\x3f\x3f\x3f\x3f\x3f\x3f\
-    \x3f\x3f\x3f\x3f\x3f\x3f\x3f\x3f\x3f\x3f\x3f\x3f\x3f\x3f\x3f\x3f\
-    \x00\x01\x02\x03\x04\x05\x06\x07\x08\x09\x3f\x3f\x3f\x3f\x3f\x3f\
-    \x3f\x0a\x0b\x0c\x0d\x0e\x0f\x3f\x3f\x3f\x3f\x3f\x3f\x3f\x3f\x3f\
-    \x3f\x3f\x3f\x3f\x3f\x3f\x3f\x3f\x3f\x3f\x3f\x3f\x3f\x3f\x3f\x3f\
-    \x3f\x3f\x3f\x3f\x3f\x3f\x3f\x3f\x3f\x3f\x3f\x3f\x3f\x3f\x3f\x3f\
-    \x3f\x3f\x3f\x3f\x3f\x3f\x3f\x3f\x3f\x3f\x3f\x3f\x3f\x3f\x3f\x3f\
-    \x3f\x3f\x3f\x3f\x3f\x3f\x3f\x3f\x3f\x3f\x3f\x3f\x3f\x3f\x3f\x3f\
-    \x3f\x3f\x3f\x3f\x3f\x3f\x3f\x3f\x3f\x3f\x3f\x3f\x3f\x3f\x3f\x3f\
-    \x3f\x3f\x3f\x3f\x3f\x3f\x3f\x3f\x3f\x3f\x3f\x3f\x3f\x3f\x3f\x3f\
-    \x3f\x3f\x3f\x3f\x3f\x3f\x3f\x3f\x3f\x3f\x3f\x3f\x3f\x3f\x3f\x3f\
-    \x3f\x3f\x3f\x3f\x3f\x3f\x3f\x3f\x3f\x3f\x3f\x3f\x3f\x3f\x3f\x3f\
-    \x3f\x3f\x3f\x3f\x3f\x3f\x3f\x3f\x3f\x3f\x3f\x3f\x3f\x3f\x3f\x3f\
-    \x3f\x3f\x3f\x3f\x3f\x3f\x3f\x3f\x3f\x3f\x3f\x3f\x3f\x3f\x3f\x3f\
-    \x3f\x3f\x3f\x3f\x3f\x3f\x3f\x3f\x3f\x3f\x3f\x3f\x3f\x3f\x3f\x3f\
-    \x00\x00\x00\x00\x00\x00\x00\x00\x00\x00\x00\x00\x00\x00\x00\x00\
-    \x00\x00\x00\x00\x00\x00\x00\x00\x00\x00\x00\x00\x00\x00\x00\x00\
-    \x00\x00\x00\x00\x00\x00\x00\x00\x00\x00\x00\x00\x00\x00\x00\x00\
-    \x00\x10\x20\x30\x40\x50\x60\x70\x80\x90\x00\x00\x00\x00\x00\x00\
-    \x00\xa0\xb0\xc0\xd0\xe0\xf0\x00\x00\x00\x00\x00\x00\x00\x00\x00\
-    \x00\x00\x00\x00\x00\x00\x00\x00\x00\x00\x00\x00\x00\x00\x00\x00\
-    \x00\x00\x00\x00\x00\x00\x00\x00\x00\x00\x00\x00\x00\x00\x00\x00\
-    \x00\x00\x00\x00\x00\x00\x00\x00\x00\x00\x00\x00\x00\x00\x00\x00\
-    \x00\x00\x00\x00\x00\x00\x00\x00\x00\x00\x00\x00\x00\x00\x00\x00\
-    \x00\x00\x00\x00\x00\x00\x00\x00\x00\x00\x00\x00\x00\x00\x00\x00\
-    \x00\x00\x00\x00\x00\x00\x00\x00\x00\x00\x00\x00\x00\x00\x00\x00\
-    \x00\x00\x00\x00\x00\x00\x00\x00\x00\x00\x00\x00\x00\x00\x00\x00\
-    \x00\x00\x00\x00\x00\x00\x00\x00\x00\x00\x00\x00\x00\x00\x00\x00\
-    \x00\x00\x00\x00\x00\x00\x00\x00\x00\x00\x00\x00\x00\x00\x00\x00\
-    \x00\x00\x00\x00\x00\x00\x00\x00\x00\x00\x00\x00\x00\x00\x00\x00\
-    \x00\x00\x00\x00\x00\x00\x00\x00\x00\x00\x00\x00\x00\x00\x00\x00";
+// What a byte counts that is not of the form.
+const NO_CODE: u16 = 4096;
 
-// The codes of the bytes. A caller holds them in an array of its own: the constant is written out anew at each use.
-pub(crate) fn codes() -> [u8; 512]
+// By a byte, the value of a digit 0-9A-F (0 is the byte 48, A is 65); then, by a byte again, 0 for a space and 1 for a line feed.
+// A caller holds the table in an array of its own, so that it is written once.
+pub(crate) fn codes() -> [u16; 512]
     ensures { λ r. ⌜ r ≡ codeTable ⌝ }
 {
-    CODES
+    let mut codes = [NO_CODE; 512];
+    codes[48] = 0;
+    codes[49] = 1;
+    codes[50] = 2;
+    codes[51] = 3;
+    codes[52] = 4;
+    codes[53] = 5;
+    codes[54] = 6;
+    codes[55] = 7;
+    codes[56] = 8;
+    codes[57] = 9;
+    codes[65] = 10;
+    codes[66] = 11;
+    codes[67] = 12;
+    codes[68] = 13;
+    codes[69] = 14;
+    codes[70] = 15;
+    codes[256 + 32] = 0;
+    codes[256 + 10] = 1;
+    codes
 }
 
-fn digit(codes: &[u8; 512], b: u8) -> u8
+fn digit(codes: &[u16; 512], b: u8) -> usize
     requires { ⌜ now codes ≡ codeTable ⌝ }
     ensures { λ r. ⌜ r ≡ digitCode b ⌝ }
 {
     let n = b as usize;
-    codes[n]
+    codes[n] as usize
 }
 
-fn upper(codes: &[u8; 512], b: u8) -> u8
+// 0 for a space, 1 for a line feed, more for another byte.
+pub(crate) fn mark(codes: &[u16; 512], b: u8) -> usize
     requires { ⌜ now codes ≡ codeTable ⌝ }
-    ensures { λ r. ⌜ r ≡ upperCode b ⌝ }
+    ensures { λ r. ⌜ r ≡ markCode b ⌝ }
 {
     let n = b as usize;
-    codes[256 + n]
+    codes[256 + n] as usize
 }
 
-// Whether four digits stand at a place of the text.
-pub(crate) fn is_word(codes: &[u8; 512], text: &[u8], at: usize) -> bool
-    requires { ⌜ (now codes ≡ codeTable) × (at + 4 ≤ length (now text)) ⌝ }
-    ensures { λ r. ⌜ r ≡ areDigits (getD (now (text .entry)) at 0) (getD (now (text .entry)) (at + 1) 0) (getD (now (text .entry)) (at + 2) 0) (getD (now (text .entry)) (at + 3) 0) ⌝ }
+// The value of two digits; more than two digits have where one is none.
+fn pair(codes: &[u16; 512], a: u8, b: u8) -> usize
+    requires { ⌜ now codes ≡ codeTable ⌝ }
+    ensures { λ r. ⌜ (r ≡ pairCode a b) × (r ≤ 69632) ⌝ }
 {
-    let a = digit(codes, text[at]);
-    let b = digit(codes, text[at + 1]);
-    let c = digit(codes, text[at + 2]);
-    let e = digit(codes, text[at + 3]);
-    a + b + c + e <= 60
+    digit(codes, a) * 16 + digit(codes, b)
 }
 
-// The value of the word at a place of the text; of bytes that are no word, some number.
-pub(crate) fn value(codes: &[u8; 512], text: &[u8], at: usize) -> u16
-    requires { ⌜ (now codes ≡ codeTable) × (at + 4 ≤ length (now text)) ⌝ }
+// Whether a word stands at a place of the text: four digits, and a space or a line feed behind them.
+pub(crate) fn is_word(codes: &[u16; 512], text: &[u8], at: usize) -> bool
+    requires { ⌜ (now codes ≡ codeTable) × (at + 5 ≤ length (now text)) ⌝ }
+    ensures { λ r. ⌜ r ≡ isWord (drop at (now (text .entry))) ⌝ }
+{
+    let high = pair(codes, text[at], text[at + 1]);
+    let low = pair(codes, text[at + 2], text[at + 3]);
+    high + low + mark(codes, text[at + 4]) <= 511
+}
+
+// The value of the word at a place of the text.
+pub(crate) fn value(codes: &[u16; 512], text: &[u8], at: usize) -> u16
+    requires { ⌜ (now codes ≡ codeTable) × (isWord (drop at (now text)) ≡ true) ⌝ }
     ensures { λ r. ⌜ r ≡ valueIn (drop at (now (text .entry))) ⌝ }
 {
-    let a = upper(codes, text[at]) as u16;
-    let b = digit(codes, text[at + 1]) as u16;
-    let c = upper(codes, text[at + 2]) as u16;
-    let e = digit(codes, text[at + 3]) as u16;
-    (a + b) % 256 * 256 + (c + e) % 256
+    let high = pair(codes, text[at], text[at + 1]);
+    let low = pair(codes, text[at + 2], text[at + 3]);
+    (high * 256 + low) as u16
 }

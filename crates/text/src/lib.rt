@@ -1,13 +1,18 @@
 // Reads lines of hexadecimal words into a lent table, one frame a line.
 ghost use mathlib.Core.Path.{_≡_};
-ghost use lib.ListN.{length};
+ghost use mathlib.Core.List.{List};
+ghost use Prim.Native.Nat.{ℕ};
+ghost use lib.ListN.{length, drop};
 ghost use Rattle.text.specs.Reader.{readText};
 ghost use Rattle.text.specs.Answer.{textAnswer, textAnswerOf, tableAfter};
 ghost use Rattle.text.specs.Internal.Scan.{codeTable};
+ghost use Rattle.text.specs.Internal.Blocks.{blockWords, Begun};
 
 mod digits;
 mod line;
 mod rules;
+
+use line::BLOCK;
 
 // The reader's answer: accepted with the number of words written, or refused with the number of the first rule broken,
 // the line and the word.
@@ -22,7 +27,7 @@ pub enum TextVerdict {
     },
 }
 
-// The text read line by line. A line's words are stored once it breaks no rule.
+// The text read block by block. The words of the lines that break no rule are stored, up to the first line that breaks one.
 pub fn read(text: &[u8], table: &mut [u16]) -> TextVerdict
     ensures answered { λ r. ⌜ textAnswer r ≡ textAnswerOf (now (text .entry)) (length (now (table .entry))) ⌝ }
     ensures stored { λ _. ⌜ now (table .exit) ≡ tableAfter (readText (now (text .entry)) (length (now (table .entry)))) (now (table .entry)) ⌝ }
@@ -32,7 +37,7 @@ pub fn read(text: &[u8], table: &mut [u16]) -> TextVerdict
 }
 
 // The same, by the codes of the bytes.
-fn read_by(codes: &[u8; 512], text: &[u8], table: &mut [u16]) -> TextVerdict
+fn read_by(codes: &[u16; 512], text: &[u8], table: &mut [u16]) -> TextVerdict
     requires { ⌜ now codes ≡ codeTable ⌝ }
     ensures answered { λ r. ⌜ textAnswer r ≡ textAnswerOf (now (text .entry)) (length (now (table .entry))) ⌝ }
     ensures stored { λ _. ⌜ now (table .exit) ≡ tableAfter (readText (now (text .entry)) (length (now (table .entry)))) (now (table .entry)) ⌝ }
@@ -47,25 +52,47 @@ fn read_by(codes: &[u8; 512], text: &[u8], table: &mut [u16]) -> TextVerdict
         };
     }
     let d = digits::value(codes, text, 5);
-    table[0] = digits::value(codes, text, 0);
+    table[0] = 0;
     table[1] = d;
+    let mut block = [0u16; BLOCK];
+    let mut ends = [0u16; BLOCK];
+    read_frames(codes, text, d, room, table, &mut block, &mut ends)
+}
+
+// The lines behind the first, whose two words stand in the table; whatever stood there in the table as it was lent. At most `room`
+// words are stored.
+fn read_frames(
+    codes: &[u16; 512],
+    text: &[u8],
+    d: u16,
+    room: usize,
+    table: &mut [u16],
+    block: &mut [u16],
+    ends: &mut [u16],
+) -> TextVerdict
+    requires { ⌜ (now codes ≡ codeTable) × Begun (now text) (now table) d room × (length (now block) ≡ blockWords) × (length (now ends) ≡ blockWords) ⌝ }
+    ensures answered { λ r. ⌜ textAnswer r ≡ textAnswerOf (now (text .entry)) (length (now (table .entry))) ⌝ }
+    ensures stored { λ _. ⌜ ((lent : List ℕ) → drop 2 lent ≡ drop 2 (now (table .entry)) → now (table .exit) ≡ tableAfter (readText (now (text .entry)) (length (now (table .entry)))) lent) ⌝ }
+{
+    let lengths = rules::lengths(d);
     let mut at: usize = 10;
     let mut line: usize = 1;
     let mut stored: usize = 2;
     while at < text.len() {
-        let end = line::end(codes, text, at);
-        let broken = rules::frame_rule(codes, text, at, end, d, stored, room);
-        if broken != 0 {
+        let lines = line::split(codes, text, at, block, ends);
+        let taken = rules::taken(&lengths, block, ends, lines, room - stored);
+        if taken == 0 {
             return TextVerdict::Refused {
-                rule: broken,
+                rule: rules::frame_rule(codes, text, at, &lengths, stored, room),
                 line: line,
                 word: 0,
             };
         }
-        table[stored] = digits::value(codes, text, at);
-        stored = line::store(codes, text, at + 5, end, table, stored + 1);
-        at = end;
-        line += 1;
+        let count = ends[taken - 1] as usize;
+        line::store(block, count, table, stored);
+        at += 5 * count;
+        line += taken;
+        stored += count;
     }
     TextVerdict::Accepted { words: stored }
 }

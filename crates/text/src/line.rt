@@ -1,14 +1,17 @@
-// A line of the text: where it ends, and its words stored.
+// The lines of the text, one by one and a block at a time.
 ghost use mathlib.Core.Path.{_≡_};
-ghost use Prim.Native.Nat.{_+_, _*_, _-_, _/_, _≤_};
+ghost use Prim.Native.Nat.{_+_, _*_, _≤_, _<_};
 ghost use lib.ListN.{length, drop};
-ghost use lib.Seq.{sets};
-ghost use Rattle.text.specs.Internal.Scan.{codeTable, countFrom, behindLine, wordsAt};
+ghost use lib.Seq.{paste};
+ghost use Rattle.text.specs.Internal.Scan.{codeTable, countFrom, behindLine};
+ghost use Rattle.text.specs.Internal.Blocks.{blockWords, Split};
 use super::digits;
 
-// The place behind the line at a place; 0 where the line is not of the form. Each word is four digits and a byte behind them,
-// the line feed behind the last.
-pub(crate) fn end(codes: &[u8; 512], text: &[u8], at: usize) -> usize
+// How many words are looked at together. A line that keeps the rules has far fewer.
+pub(crate) const BLOCK: usize = 256;
+
+// The place behind the line at a place; 0 where the line is not of the form.
+pub(crate) fn end(codes: &[u16; 512], text: &[u8], at: usize) -> usize
     requires { ⌜ (now codes ≡ codeTable) × (at ≤ length (now text)) ⌝ }
     ensures { λ r. ⌜ r ≡ behindLine at (countFrom 1 (drop at (now (text .entry)))) ⌝ }
 {
@@ -23,35 +26,57 @@ pub(crate) fn end(codes: &[u8; 512], text: &[u8], at: usize) -> usize
         }
         let mark = text[i + 4];
         i += 5;
-        if mark != 32 {
-            if mark == 10 {
-                return i;
-            }
-            return 0;
+        if mark == 10 {
+            return i;
         }
     }
     0
 }
 
-// Stores the words from a place of the text to another, five bytes each, from the table's word `from` on. The table's word
-// behind them.
-pub(crate) fn store(
-    codes: &[u8; 512],
+// How many words, five bytes each, a block has at most behind which so many bytes are left.
+fn most_words(left: usize) -> usize
+    ensures { λ r. ⌜ (r ≤ blockWords) × (5 * r ≤ left) × (r < blockWords → left < 5 * r + 5) ⌝ }
+{
+    let whole = left / 5;
+    if whole < BLOCK { whole } else { BLOCK }
+}
+
+// The whole lines from a place on that a block holds, and how many: their words, and behind which word each line ends.
+pub(crate) fn split(
+    codes: &[u16; 512],
     text: &[u8],
     at: usize,
-    end: usize,
-    table: &mut [u16],
-    from: usize,
+    block: &mut [u16],
+    ends: &mut [u16],
 ) -> usize
-    requires { ⌜ (now codes ≡ codeTable) × (at + 5 * ((end - at) / 5) ≡ end) × (end ≤ length (now text)) × (from + (end - at) / 5 ≤ length (now table)) ⌝ }
-    ensures { λ r. ⌜ (r ≡ from + (end - at) / 5) × (now (table .exit) ≡ sets (now (table .entry)) from (wordsAt ((end - at) / 5) (drop at (now (text .entry))))) ⌝ }
+    requires { ⌜ (now codes ≡ codeTable) × (at ≤ length (now text)) × (length (now block) ≡ blockWords) × (length (now ends) ≡ blockWords) ⌝ }
+    ensures { λ r. ⌜ Split (now (text .entry)) at (now (block .exit)) (now (ends .exit)) r ⌝ }
 {
-    let mut i = at;
-    let mut to = from;
-    while i < end {
-        table[to] = digits::value(codes, text, i);
-        i += 5;
-        to += 1;
+    let most = most_words(text.len() - at);
+    let mut lines = 0;
+    let mut k = 0;
+    while k < most {
+        let i = at + 5 * k;
+        if !digits::is_word(codes, text, i) {
+            return lines;
+        }
+        let ended = digits::mark(codes, text[i + 4]);
+        block[k] = digits::value(codes, text, i);
+        k += 1;
+        ends[lines] = k as u16;
+        lines += ended;
     }
-    to
+    lines
+}
+
+// The block's first words stored, from a word of the table on.
+pub(crate) fn store(block: &[u16], count: usize, table: &mut [u16], from: usize)
+    requires { ⌜ (count ≤ length (now block)) × (from + count ≤ length (now table)) ⌝ }
+    ensures { λ _. ⌜ now (table .exit) ≡ paste (now (table .entry)) from (now (block .entry)) count ⌝ }
+{
+    let mut i = 0;
+    while i < count {
+        table[from + i] = block[i];
+        i += 1;
+    }
 }

@@ -1,10 +1,10 @@
 // The rules of a line, by where it ends and its first words. A rule's number, 0 where none is broken.
 ghost use mathlib.Core.Path.{_≡_};
-ghost use Prim.Native.Nat.{ℕ, _+_, _*_, _≤_};
+ghost use Prim.Native.Nat.{ℕ, _+_, _≤_, _<_};
 ghost use lib.ListN.{length, drop};
 ghost use Rattle.circuit.specs.Limits.{tableLimit};
-ghost use Rattle.text.specs.Reader.{roomRule};
-ghost use Rattle.text.specs.Internal.Scan.{codeTable, limitOf, ruled, headWord, countFrom, behindLine, valueIn, headByCount, frameByCount};
+ghost use Rattle.text.specs.Internal.Scan.{codeTable, limitOf, ruled, headWord, countFrom, valueIn, headByCount, frameByCount};
+ghost use Rattle.text.specs.Internal.Blocks.{blockWords, Lengths, lineNumber, Lines, Taken};
 use super::digits;
 use super::line;
 use frames::kinds;
@@ -20,16 +20,8 @@ pub(crate) fn limit(room: usize) -> usize
     }
 }
 
-// 21: a line's words fit the table behind those stored, and do not pass 8,192.
-fn room_rule(room: usize, stored: usize, count: usize) -> usize
-    requires { ⌜ (stored ≤ room) × (room ≤ tableLimit) ⌝ }
-    ensures { λ r. ⌜ ((n : ℕ) → ruled r n 0 ≡ roomRule room n (stored + count)) ⌝ }
-{
-    if room - stored < count { 21 } else { 0 }
-}
-
 // The first line: 3 where there is none; 20; 3, two words and kind 0; 4, its d; 21.
-pub(crate) fn head_rule(codes: &[u8; 512], text: &[u8], room: usize) -> usize
+pub(crate) fn head_rule(codes: &[u16; 512], text: &[u8], room: usize) -> usize
     requires { ⌜ (now codes ≡ codeTable) × (room ≤ tableLimit) ⌝ }
     ensures { λ r. ⌜ ruled r 0 (headWord r) ≡ headByCount room (length (now (text .entry))) (countFrom 1 (now (text .entry))) (valueIn (now (text .entry))) (valueIn (drop 5 (now (text .entry)))) ⌝ }
 {
@@ -53,7 +45,7 @@ pub(crate) fn head_rule(codes: &[u8; 512], text: &[u8], room: usize) -> usize
     if 8 < d {
         return 4;
     }
-    room_rule(room, 0, 2)
+    if room < 2 { 21 } else { 0 }
 }
 
 // The word at which the first line breaks a rule.
@@ -63,33 +55,80 @@ pub(crate) fn head_word(rule: usize) -> usize
     if rule == 4 { 1 } else { 0 }
 }
 
-// A later line, behind `stored` words: 20; 5, its kind; 6, the kind's number of words; 21.
-pub(crate) fn frame_rule(
-    codes: &[u8; 512],
-    text: &[u8],
-    at: usize,
-    end: usize,
-    d: u16,
-    stored: usize,
-    room: usize,
-) -> usize
-    requires { ⌜ (now codes ≡ codeTable) × (at ≤ length (now text)) × (end ≡ behindLine at (countFrom 1 (drop at (now text)))) × (stored ≤ room) × (room ≤ tableLimit) ⌝ }
-    ensures { λ r. ⌜ ((n : ℕ) → ruled r n 0 ≡ frameByCount room d n stored (valueIn (drop at (now (text .entry)))) (countFrom 1 (drop at (now (text .entry))))) ⌝ }
+// By a kind, how many words its line has.
+pub(crate) fn lengths(d: u16) -> [usize; 9]
+    ensures { λ r. ⌜ Lengths d r ⌝ }
 {
-    if end == 0 {
-        return 20;
+    let mut lengths = [0usize; 9];
+    let mut kind = 0;
+    while kind < 9 {
+        lengths[kind] = 1 + kinds::decide(kind as u16, d).words;
+        kind += 1;
     }
-    let kind = digits::value(codes, text, at);
+    lengths
+}
+
+// A line of so many words that begins with a kind, with so much room: 5, its kind; 6, the kind's number of words; 21.
+fn line_rule(lengths: &[usize; 9], kind: u16, count: usize, room: usize) -> usize
+    ensures { λ r. ⌜ r ≡ lineNumber (now (lengths .entry)) kind count room ⌝ }
+{
     if kind < 1 {
         return 5;
     }
     if 8 < kind {
         return 5;
     }
-    let shape = kinds::decide(kind, d);
-    let count = shape.words + 1;
-    if end - at != 5 * count {
+    let k = kind as usize;
+    if lengths[k] != count {
         return 6;
     }
-    room_rule(room, stored, count)
+    if count <= room { 0 } else { 21 }
+}
+
+// How many lines of a block come before the first that breaks one of these rules.
+pub(crate) fn taken(
+    lengths: &[usize; 9],
+    block: &[u16],
+    ends: &[u16],
+    lines: usize,
+    room: usize,
+) -> usize
+    requires { ⌜ Lines (now ends) lines × (length (now block) ≡ blockWords) × (length (now ends) ≡ blockWords) ⌝ }
+    ensures { λ r. ⌜ Taken (now (lengths .entry)) (now (block .entry)) (now (ends .entry)) lines room r ⌝ }
+{
+    let mut start = 0;
+    let mut i = 0;
+    while i < lines {
+        let end = ends[i] as usize;
+        if line_rule(lengths, block[start], end - start, room - start) != 0 {
+            return i;
+        }
+        start = end;
+        i += 1;
+    }
+    lines
+}
+
+// The line at a place, behind `stored` words: 20; then its kind, its number of words and the room.
+pub(crate) fn frame_rule(
+    codes: &[u16; 512],
+    text: &[u8],
+    at: usize,
+    lengths: &[usize; 9],
+    stored: usize,
+    room: usize,
+) -> usize
+    requires { ⌜ (now codes ≡ codeTable) × (at ≤ length (now text)) × (stored ≤ room) × (room ≤ tableLimit) ⌝ }
+    ensures { λ r. ⌜ ((d n : ℕ) → Lengths d (now (lengths .entry)) → ruled r n 0 ≡ frameByCount room d n stored (valueIn (drop at (now (text .entry)))) (countFrom 1 (drop at (now (text .entry))))) ⌝ }
+{
+    let end = line::end(codes, text, at);
+    if end == 0 {
+        return 20;
+    }
+    line_rule(
+        lengths,
+        digits::value(codes, text, at),
+        (end - at) / 5,
+        room - stored,
+    )
 }

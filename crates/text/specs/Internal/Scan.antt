@@ -1,38 +1,59 @@
 -- For the contracts of the private functions: a line by its count of words. The promise of `read` names none of this.
-use mathlib.Core.Bool.{cond, _&&_}
+use mathlib.Core.Bool.{Bool, false, cond, _&&_, _||_}
 use mathlib.Core.List.{List, [], _∷_}
-use Prim.Native.Nat.{ℕ, zero, suc, _+_, _*_, _%_}
+use Prim.Native.Nat.{ℕ, zero, suc, _+_, _*_}
 use lib.Dec.{leb, ltb, eqb}
 use lib.ListN.{drop}
 use Rattle.circuit.specs.Limits.{tableLimit}
 use Rattle.circuit.specs.Circuit.{empty}
 use Rattle.circuit.specs.Rules.{Judgement, pass, refuse, need, _then_, wordRule}
 use Rattle.circuit.specs.Kinds.{shareCount, kindOf, words}
-use Rattle.text.specs.Lines.{lineFeed, space, isDigit, digit, areDigits}
+use Rattle.text.specs.Lines.{lineFeed, space, isDigit, digit, areDigits, word}
 use Rattle.text.specs.Reader.{roomRule}
-
--- the value of a digit; 63 for another byte
-unfoldable pub digitCode : ℕ → ℕ
-digitCode b = cond (isDigit b) (digit b) 63
-
--- sixteen times the value of a digit; 0 for another byte
-unfoldable pub upperCode : ℕ → ℕ
-upperCode b = cond (isDigit b) (digit b * 16) 0
 
 -- so many numbers of one value, in front of others
 abbrev pub row : (count value : ℕ) → List ℕ → List ℕ
 row zero x xs = xs
 row (suc n) x xs = x ∷ row n x xs
 
--- by a byte: the first code, and behind all of them the second
+-- whether a byte may stand behind a word
+abbrev pub isMark : ℕ → Bool
+isMark b = eqb b lineFeed || eqb b space
+
+-- 1 for a line feed, 0 for another byte
+abbrev pub feedOf : ℕ → ℕ
+feedOf b = cond (eqb b lineFeed) 1 0
+
+-- what a byte counts that is not of the form: more than the bytes of a word have together
+abbrev pub noCode : ℕ
+noCode = 4096
+
+-- the value of a digit
+unfoldable pub digitCode : ℕ → ℕ
+digitCode b = cond (isDigit b) (digit b) noCode
+
+-- 0 for a space, 1 for a line feed
+unfoldable pub markCode : ℕ → ℕ
+markCode b = cond (isMark b) (feedOf b) noCode
+
+-- by a byte: its code as a digit, and behind all of them its code as a mark
 unfoldable pub codeTable : List ℕ
 codeTable =
-    row 48 63 (0 ∷ 1 ∷ 2 ∷ 3 ∷ 4 ∷ 5 ∷ 6 ∷ 7 ∷ 8 ∷ 9 ∷ row 7 63 (10 ∷ 11 ∷ 12 ∷ 13 ∷ 14 ∷ 15 ∷ row 185 63
-    (row 48 0 (0 ∷ 16 ∷ 32 ∷ 48 ∷ 64 ∷ 80 ∷ 96 ∷ 112 ∷ 128 ∷ 144 ∷ row 7 0 (160 ∷ 176 ∷ 192 ∷ 208 ∷ 224 ∷ 240 ∷ row 185 0 [])))))
+    row 48 noCode (0 ∷ 1 ∷ 2 ∷ 3 ∷ 4 ∷ 5 ∷ 6 ∷ 7 ∷ 8 ∷ 9 ∷ row 7 noCode (10 ∷ 11 ∷ 12 ∷ 13 ∷ 14 ∷ 15 ∷ row 185 noCode
+    (row 10 noCode (1 ∷ row 21 noCode (0 ∷ row 223 noCode [])))))
 
--- the value of a word, by its bytes; of bytes that are not digits, some number
-unfoldable pub valueOf : (a b c e : ℕ) → ℕ
-valueOf a b c e = (upperCode a + digitCode b) % 256 * 256 + (upperCode c + digitCode e) % 256
+-- the code of two digits in a row
+abbrev pub pairCode : (a b : ℕ) → ℕ
+pairCode a b = digitCode a * 16 + digitCode b
+
+-- whether bytes begin with a word: four digits and a mark
+unfoldable pub isWord : List ℕ → Bool
+isWord [] = false
+isWord (a ∷ []) = false
+isWord (a ∷ b ∷ []) = false
+isWord (a ∷ b ∷ c ∷ []) = false
+isWord (a ∷ b ∷ c ∷ e ∷ []) = false
+isWord (a ∷ b ∷ c ∷ e ∷ s ∷ rest) = areDigits a b c e && isMark s
 
 -- the value of the word that bytes begin with
 unfoldable pub valueIn : List ℕ → ℕ
@@ -40,7 +61,7 @@ valueIn [] = 0
 valueIn (a ∷ []) = 0
 valueIn (a ∷ b ∷ []) = 0
 valueIn (a ∷ b ∷ c ∷ []) = 0
-valueIn (a ∷ b ∷ c ∷ e ∷ rest) = valueOf a b c e
+valueIn (a ∷ b ∷ c ∷ e ∷ rest) = word a b c e
 
 -- how many words the first line of some bytes has, its first being the n-th; 0 where the line is not of the form
 unfoldable pub countFrom : ℕ → List ℕ → ℕ
@@ -50,9 +71,7 @@ countFrom n (a ∷ b ∷ []) = 0
 countFrom n (a ∷ b ∷ c ∷ []) = 0
 countFrom n (a ∷ b ∷ c ∷ e ∷ []) = 0
 countFrom n (a ∷ b ∷ c ∷ e ∷ s ∷ rest) =
-    cond (areDigits a b c e)
-    (cond (eqb s lineFeed) n (cond (eqb s space) (countFrom (suc n) rest) 0))
-    0
+    cond (areDigits a b c e && isMark s) (cond (eqb s lineFeed) n (countFrom (suc n) rest)) 0
 
 -- the place behind a line of so many words; 0 for a line that is not of the form
 abbrev pub behindLine : (at count : ℕ) → ℕ

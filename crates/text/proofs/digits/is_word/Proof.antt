@@ -1,28 +1,34 @@
--- `text::digits::is_word` meets its contract: the codes of four digits are small together.
+-- The codes of a word are small together, those of other bytes are not.
+use mathlib.Core.Path.{_≡_, sym, _∙_}
 use Prim.Native.Nat.{_≤_}
 use native.Mathlib.Omega.{arith}
 use borrow.Author.Needs.{needs}
-use Rattle.text.proofs.Hex.{code-small, sum-of-codes}
+use denote.Ref.{now}
+use Rattle.text.proofs.Hex.{mark-most, sum-of, word-test}
 use Rattle.text.proofs.digits.is_word.Statement.{statement}
 use Rattle.text.proofs.digits.is_word.Tie as tie
 
--- each code is at most 63
-small : (c : tie.After-digit4) → (c .before .before .before .before .before .before .digit .result ≤ 63) × (c .before .before .before .before .digit2 .result ≤ 63) × (c .before .before .digit3 .result ≤ 63) × (c .digit4 .result ≤ 63)
-small c = (
-  rw (c .before .before .before .before .before .before .digit .ensures) (code-small _),
-  rw (c .before .before .before .before .digit2 .ensures) (code-small _),
-  rw (c .before .before .digit3 .ensures) (code-small _),
-  rw (c .digit4 .ensures) (code-small _),
-)
+small : (c : tie.After-mark) → c .mark .result ≤ 4096
+small c = rw (c .mark .ensures) (mark-most _)
+
+abbrev low : tie.After-mark → tie.After-pair2
+low c = c .before .before
+
+abbrev high : tie.After-mark → tie.After-pair
+high c = low c .before .before .before
+
+returns : tie.Need-returns
+returns c =
+    let a = high c .before .before .before .before .args in
+    sum-of _ _ _ _ _ (high c .pair .ensures .0) (low c .pair2 .ensures .0) (c .mark .ensures)
+    ∙ sym (word-test (now (a .text)) (a .at) (omega arith))
 
 pub is-word-spec : {M : Type 1} → statement M
 is-word-spec =
     tie.close
     (tie.spec
-    (λ c. search needs) (λ c κs. search needs) (λ c. search needs) (λ c. search needs) (λ c κs. search needs)
-    (λ c. search needs) (λ c. search needs) (λ c κs. search needs) (λ c. search needs) (λ c. search needs)
-    (λ c κs. search needs)
-    (λ c. omega (arith, small c))
-    (λ c. omega (arith, small c))
-    (λ c. omega (arith, small c))
-    (λ c. rw (c .before .before .before .before .before .before .digit .ensures, c .before .before .before .before .digit2 .ensures, c .before .before .digit3 .ensures, c .digit4 .ensures) (sum-of-codes _ _ _ _)))
+    (λ c. search needs) (λ c. search needs) (λ c. search needs) (λ c κs. search needs) (λ c. search needs)
+    (λ c. search needs) (λ c. search needs) (λ c. search needs) (λ c κs. search needs) (λ c. search needs)
+    (λ c. search needs) (λ c. search needs) (λ c κs. search needs)
+    (λ c. record { fits = omega (arith, small c) })
+    returns)

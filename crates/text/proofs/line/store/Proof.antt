@@ -1,42 +1,40 @@
--- `text::line::store` meets its contract. The loop's invariant: what is stored in all is what is still to be stored from here on.
-use mathlib.Core.Path.{_≡_, refl, sym, ap, _∙_}
-use Prim.Native.Nat.{ℕ, _+_, _*_, _-_, _/_}
+-- The loop's invariant: so many of the block's words are in their places.
+use mathlib.Core.Path.{_≡_, ap, _∙_}
+use mathlib.Core.List.{List}
+use Prim.Native.Nat.{ℕ, _+_, _-_, _≤_}
 use native.Mathlib.Omega.{arith}
-use lib.ListN.{set, length, drop, length-set}
-use lib.Seq.{sets}
+use native.Mathlib.Numerals.{add-one}
+use lib.ListN.{length, getD, set}
+use lib.Seq.{paste, paste-zero, paste-suc, length-paste}
 use borrow.Author.Needs.{needs}
 use denote.Ref.{now}
-use Rattle.text.specs.Internal.Scan.{wordsAt}
-use Rattle.text.proofs.line.store.Tie as tie
-use Rattle.text.proofs.Scanning.{store-turn}
 use Rattle.text.proofs.line.store.Statement.{statement}
+use Rattle.text.proofs.line.store.Tie as tie
 
 abbrev Inv-loop : tie.InvT-loop
-Inv-loop codes text at end table₀ from i₀ to₀ table i to = (i + 5 * ((end - i) / 5) ≡ end) × (to + (end - i) / 5 ≡ from + (end - at) / 5) × (length table ≡ length table₀)
-    × (sets table₀ from (wordsAt ((end - at) / 5) (drop at text)) ≡ sets table to (wordsAt ((end - i) / 5) (drop i text)))
+Inv-loop block count table₀ from i₀ table i = (i ≤ count) × (table ≡ paste table₀ from block i)
 
 abbrev μ-loop : tie.MeasureT-loop
-μ-loop codes text at end table₀ from i₀ to₀ table i to = end - i
+μ-loop block count table₀ from i₀ table i = count - i
+
+-- the table keeps its length
+kept : (c : tie.At-loop Inv-loop μ-loop) → length (c .loop .table) ≡ length (now (c .before .args .table))
+kept c = let a = c .before .args in
+    ap length (c .loop .inv .1) ∙ length-paste (now (a .table)) (a .from) (now (a .block)) (c .loop .i) (omega arith) (omega arith)
 
 loop-again : tie.Need-loop-again Inv-loop μ-loop
 loop-again c =
-    let a = c .before .before .before .before .before .args in
-    let k = c .before .before .loop in
-    let t = now (a .text) in
-    let v = c .value .result in
-    let left = (a .end - k .i) / 5 in
-    let m : left - 1 ≡ (a .end - (k .i + 5)) / 5 = omega arith in (
+    let l = c .before .before in
+    let a = l .before .args in (
       omega arith,
-      omega arith,
-      omega (arith, length-set (k .table) (k .to) v),
-      k .inv .3 ∙ store-turn (k .table) t (k .to) left (k .i) (omega arith)
-          ∙ ap (λ (x : ℕ). sets (set (k .table) (k .to) x) (k .to + 1) (wordsAt (left - 1) (drop (k .i + 5) t))) (sym (c .value .ensures))
-          ∙ ap (λ (x : ℕ). sets (set (k .table) (k .to) v) (k .to + 1) (wordsAt x (drop (k .i + 5) t))) m,
+      ap (λ (t : List ℕ). set t (a .from + l .loop .i) (getD (now (a .block)) (l .loop .i) 0)) (l .loop .inv .1)
+          ∙ rw add-one (paste-suc (now (a .table)) (a .from) (now (a .block)) (l .loop .i) 0 (omega arith) (omega arith)),
     )
 
 returns : tie.Need-returns Inv-loop μ-loop
-unfolding wordsAt
-returns c = let k = c .before .loop in let e : (c .before .before .before .before .args .end - k .i) / 5 ≡ 0 = omega arith in (omega arith, sym (k .inv .3 ∙ rw e))
+returns c = let l = c .before in let a = l .before .args in
+    let e : l .loop .i ≡ a .count = omega arith in
+    l .loop .inv .1 ∙ ap (paste (now (a .table)) (a .from) (now (a .block))) e
 
 pub store-spec : {M : Type 1} → statement M
 store-spec =
@@ -44,9 +42,14 @@ store-spec =
     (tie.spec
     Inv-loop
     μ-loop
-    (λ c. (c .before .before .pre .1, refl, refl, refl))
-    (λ c κs. (c .before .before .before .before .pre .0, omega arith))
-    (λ c. search needs) (λ c. omega arith) (λ c. omega arith) (λ c. omega arith) (λ c. omega arith)
-    loop-again
+    (λ c. (omega arith, paste-zero (now (c .args .table)) (c .args .from) (now (c .args .block))))
     (λ c. search needs)
+    (λ c. omega arith)
+    (λ c. record { fits = omega (arith, kept (c .before .before)) })
+    (λ c. record { fits = omega (arith, kept (c .before .before)) })
+    (λ c. omega (arith, kept (c .before .before)))
+    (λ c. omega arith)
+    (λ c. omega arith)
+    loop-again
+    (λ c. kept (c .before))
     returns)

@@ -6,10 +6,9 @@ use lib.ListN.{length}
 use borrow.Author.Tests.{ne-eqb, lt-ltb, le-leb, lt-leb}
 use borrow.Author.Needs.{needs}
 use denote.Ref.{now}
-use Rattle.text.specs.Reader.{roomRule}
-use Rattle.text.specs.Internal.Scan.{countFrom, behindLine, ruled}
+use Rattle.text.specs.Internal.Scan.{countFrom, behindLine}
 use Rattle.text.proofs.rules.head_rule.Tie as tie
-use Rattle.text.proofs.Scanning.{behind-none, behind-known, room-word}
+use Rattle.text.proofs.Scanning.{counted-word, second-word, behind-none, behind-known}
 use Rattle.text.proofs.Reading.{line-fits}
 use Rattle.text.proofs.rules.head_rule.Statement.{statement}
 
@@ -57,12 +56,12 @@ returns-6 c = let t = now (c .before .before .before .before .before .before .be
     rw (sym (c .before .before .before .before .value .ensures), sym (k .ensures), lt-ltb 0 (length t) (omega arith), two (c .before .before .before .before .before), c .before .before .before .if4 .left, le-leb 2 (k .result) (omega arith), lt-leb (k .result) 8 (c .if6 .taken))
 
 returns-7 : tie.Need-returns-7
-returns-7 c =
-    let a = c .before .before .before .before .before .before .before .before .before .before .before .args in
-    let r = c .room-rule .result in
-    let k = c .before .before .before .value2 in
-    let e : ruled r 0 0 ≡ roomRule (a .room) 0 2 = c .room-rule .ensures 0 in
-    rw (sym (c .before .before .before .before .before .value .ensures), sym (k .ensures), lt-ltb 0 (length (now (a .text))) (omega arith), two (c .before .before .before .before .before .before), c .before .before .before .before .if4 .left, le-leb 2 (k .result) (omega arith), le-leb (k .result) 8 (omega arith), room-word r (a .room) 2 e) e
+returns-7 c = let t = now (c .before .before .before .before .before .before .before .before .before .before .before .args .text) in let k = c .before .before .before .value2 in
+    rw (sym (c .before .before .before .before .before .value .ensures), sym (k .ensures), lt-ltb 0 (length t) (omega arith), two (c .before .before .before .before .before .before), c .before .before .before .before .if4 .left, le-leb 2 (k .result) (omega arith), le-leb (k .result) 8 (omega arith), lt-leb 2 (c .before .before .before .before .before .before .before .before .before .before .before .args .room) (c .if7 .taken))
+
+returns-8 : tie.Need-returns-8
+returns-8 c = let t = now (c .before .before .before .before .before .before .before .before .before .before .before .args .text) in let k = c .before .before .before .value2 in
+    rw (sym (c .before .before .before .before .before .value .ensures), sym (k .ensures), lt-ltb 0 (length t) (omega arith), two (c .before .before .before .before .before .before), c .before .before .before .before .if4 .left, le-leb 2 (k .result) (omega arith), le-leb (k .result) 8 (omega arith), le-leb 2 (c .before .before .before .before .before .before .before .before .before .before .before .args .room) (omega arith))
 
 pub head-rule-spec : {M : Type 1} → statement M
 head-rule-spec =
@@ -72,10 +71,10 @@ head-rule-spec =
     (λ c κs. search needs)
     returns-2
     returns-3
-    (λ c κs. (c .before .before .before .before .before .pre .0, omega (arith, inside c)))
+    (λ c κs. (c .before .before .before .before .before .pre .0, counted-word 1 (now (c .before .before .before .before .before .args .text)) (omega (arith, two c))))
     returns-4
-    (λ c κs. (c .before .before .before .before .before .before .before .pre .0, omega (arith, inside (c .before .before))))
+    (λ c κs. (c .before .before .before .before .before .before .before .pre .0, second-word (now (c .before .before .before .before .before .before .before .args .text)) (omega (arith, inside (c .before .before))) (two (c .before .before))))
     returns-5
     returns-6
-    (λ c κs. search needs)
-    returns-7)
+    returns-7
+    returns-8)
