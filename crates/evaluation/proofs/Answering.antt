@@ -20,10 +20,11 @@ use Rattle.semantics.specs.Calls.{written, bytesRule, probesRule, sheetsRule, c
 use Rattle.checker.specs.declared.Verdict.{Verdict}
 use Rattle.checker.specs.declared.Verdict.the-variants as verdict
 use Rattle.checker.specs.Answers.{answerOf}
+use Rattle.gadgets.specs.Internal.Accepting.{AcceptedTable, circuitIn}
+use Rattle.gadgets.proofs.Framing.{inputs-few}
+use Rattle.gadgets.proofs.Walking.{least-notes, same-circuit}
 use Rattle.simulation.specs.Internal.Filling.{Bits}
-use Rattle.simulation.specs.Internal.Accepting.{AcceptedTable, circuitIn, Supplied}
-use Rattle.simulation.proofs.Framing.{inputs-few}
-use Rattle.simulation.proofs.Walking.{least-notes, same-circuit}
+use Rattle.simulation.specs.Internal.Evaluating.{Supplied}
 use Rattle.evaluation.specs.Internal.Refusing.{refusal}
 use Rattle.evaluation.specs.Internal.Calling.{Shortest, Judged}
 

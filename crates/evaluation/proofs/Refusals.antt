@@ -11,7 +11,7 @@ use Rattle.circuit.specs.Circuit.{Circuit, size}
 use Rattle.circuit.specs.Rules.{Judgement, pass, refuse}
 use Rattle.semantics.specs.Calls.{bytesRule, probesRule}
 use Rattle.evaluation.specs.Internal.Refusing.{refusal, OverFirst}
-use Rattle.simulation.proofs.Marking.{drop-turn}
+use Rattle.reach.proofs.Marking.{drop-turn}
 
 -- a rule of lists that goes on behind a place
 abbrev pub Passed : (ℕ → List ℕ → Judgement) → List ℕ → ℕ → Type 0

@@ -12,7 +12,7 @@ ghost use Rattle.secrecy.specs.Gadgets.{Computes};
 ghost use Rattle.evaluation.specs.Internal.Calling.{Judged};
 use checker::Verdict;
 use circuit::WIRES;
-use simulation::readings;
+use reach::readings;
 use simulation::values;
 
 mod rules;

@@ -1,7 +1,7 @@
 // Rules 18 and 19, each by the first place where it is broken.
 ghost use lib.ListN.{length};
 ghost use Rattle.evaluation.specs.Internal.Refusing.{OverFirst, MissingFirst};
-use simulation::bytes::largest;
+use reach::bytes::largest;
 
 // The first byte over 1; the length where there is none.
 pub(crate) fn first_over(bytes: &[u8]) -> usize

@@ -1,5 +1,6 @@
 -- What is proved of the definitions.
 pub mod StarredCases
+pub mod Values
 pub mod Randoms
 pub mod Earlier
 pub mod Stages

@@ -1,17 +1,15 @@
 -- Sums modulo 2, bit by bit: what is added so far, and what is left.
 use mathlib.Core.Path.{_≡_, refl, sym, ap, ap₂, _∙_}
 use mathlib.Core.Bool.{Bool, false}
-use mathlib.Core.List.{[], _∷_}
-use Prim.Native.Nat.{ℕ, suc, _+_, _-_, _≤_, _<_}
-use native.Mathlib.Omega.{arith}
+use Prim.Native.Nat.{ℕ, _+_, _-_, _≤_, _<_}
 use lib.Bits.{bitXor}
 use Rattle.circuit.specs.Lists.{_⊕_, range}
 use Rattle.circuit.specs.Gadgets.{others}
 use Rattle.circuit.proofs.Base.{no-flip, xor-assoc}
 use Rattle.semantics.specs.Values.{byte, xorSum}
 use Rattle.secrecy.proofs.Totals.{xorSum-append}
-use Rattle.simulation.proofs.Ranges.{others-split}
-use Rattle.simulation.proofs.Bits.{byte-xor}
+use Rattle.gadgets.proofs.Ranges.{range-turn, range-end, others-split}
+use Rattle.gadgets.proofs.Bits.{byte-xor}
 
 -- a byte is a part of a sum, and the rest is still to be added
 pub record Adds (whole : Bool) (sum : ℕ) (rest : Bool) : Type 0 where
@@ -31,16 +29,6 @@ adds-turn e b more a r h = record {
 
 pub adds-end : {whole : Bool} {sum : ℕ} {rest : Bool} → Adds whole sum rest → rest ≡ false → sum ≡ byte whole
 adds-end a r = a .is ∙ ap byte (sym (a .adds ∙ ap (λ t. a .bit ⊕ t) r ∙ no-flip (a .bit)))
-
--- the numbers from j on
-pub range-turn : (d j : ℕ) → j < d → range j (d - j) ≡ j ∷ range (j + 1) (d - (j + 1))
-range-turn d j h =
-    let e : d - j ≡ suc (d - (j + 1)) = omega arith in
-    let s : suc j ≡ j + 1 = omega arith in
-    ap (range j) e ∙ ap (λ n. j ∷ range n (d - (j + 1))) s
-
-pub range-end : (d j : ℕ) → d ≤ j → range j (d - j) ≡ []
-range-end d j h = let e : d - j ≡ 0 = omega arith in ap (range j) e
 
 module _ (f : ℕ → Bool) (d : ℕ) where
   pub xorSum-turn : (j : ℕ) → j < d → xorSum (range j (d - j)) f ≡ (f j ⊕ xorSum (range (j + 1) (d - (j + 1))) f)

@@ -8,9 +8,9 @@ use lib.Bits.{bitAnd, bitXor}
 use lib.ListN.{length, set}
 use Rattle.circuit.specs.Lists.{_⊕_}
 use Rattle.semantics.specs.Values.{byte}
+use Rattle.gadgets.proofs.Bits.{byte-and, byte-xor, byte-not}
 use Rattle.simulation.specs.Internal.Filling.{Values, Fills}
 use Rattle.simulation.specs.Internal.Gadgets.{CrossedBy, Crosses}
-use Rattle.simulation.proofs.Bits.{byte-and, byte-xor, byte-not}
 use Rattle.simulation.proofs.Filled.{fills-none, fills-at, fills-set}
 
 module _ (at : ℕ) (a b r : ℕ) (old : List ℕ) (room : at + 6 ≤ length old) where

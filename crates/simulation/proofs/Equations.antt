@@ -22,12 +22,13 @@ use Rattle.secrecy.proofs.Totals.{xorSum-ext, xorSum-append, xorSum-map, xorSum
 use Rattle.frames.specs.declared.walk.Gate.the-variants as gate
 use Rattle.frames.specs.declared.walk.Frame.{Frame as FrameCode}
 use Rattle.frames.specs.declared.walk.Frame.the-variants as frame
-use Rattle.simulation.specs.Internal.Places.{wordA, wordB, pairSite, pairAt, productAt, crossAt, outAt, maskAt, sumAt, heldAt}
-use Rattle.simulation.specs.Internal.Gates.{gateAt, OrderedFrom, AndGates, RefGates, FrameGates}
-use Rattle.simulation.specs.Internal.Filling.{Values, Copied, Drawn, ShareProducts, RowCrossed, crossingAt, Multiplied, AndValues, Masked, Held, RefValues, FrameValues, frameWires}
-use Rattle.simulation.proofs.Bits.{bits-at}
-use Rattle.simulation.proofs.Sites.{pair-lt}
-use Rattle.simulation.proofs.Rows.{product-early, cross-room}
+use Rattle.gadgets.specs.Internal.Places.{wordA, wordB, pairSite, pairAt, productAt, crossAt, outAt, maskAt, sumAt, heldAt}
+use Rattle.gadgets.specs.Internal.Gates.{gateAt, OrderedFrom, AndGates, RefGates, FrameGates}
+use Rattle.gadgets.specs.Internal.Frames.{frameWires}
+use Rattle.gadgets.proofs.Bits.{bits-at}
+use Rattle.gadgets.proofs.Sites.{pair-lt}
+use Rattle.gadgets.proofs.Slots.{product-early, cross-room}
+use Rattle.simulation.specs.Internal.Filling.{Values, Copied, Drawn, ShareProducts, RowCrossed, crossingAt, Multiplied, AndValues, Masked, Held, RefValues, FrameValues}
 use Rattle.simulation.proofs.Solving.{solved, rank-random, rank-other}
 
 tape-at : (tape : List ℕ) (n : ℕ) → at (drop n (bits tape)) 0 ≡ isSet (nth tape n)

@@ -1,7 +1,7 @@
 -- The values of an accepted table's wires, frame by frame: those of the frames before the walk's place are filled in.
 use mathlib.Core.Path.{_≡_, refl, sym, ap, ap₂, subst, _∙_}
 use mathlib.Core.Bool.{Bool, false}
-use mathlib.Core.List.{List, [], _∷_, _++_, append-nil, append-assoc}
+use mathlib.Core.List.{List, [], append-nil, append-assoc}
 use Prim.Native.Nat.{ℕ, suc, _+_, _-_, _*_, _≤_, _<_}
 use native.Mathlib.Nat.{mul-le-mul}
 use native.Mathlib.Omega.{arith}
@@ -17,25 +17,22 @@ use Rattle.circuit.specs.Composition.{Frame, build}
 use Rattle.circuit.proofs.Base.{cases}
 use Rattle.circuit.proofs.Building.{build-shares, build-more}
 use Rattle.circuit.proofs.Exact.{accepted-size}
-use Rattle.semantics.specs.Values.{bits, byte, bytes, at, valuesFrom, valuesOf, value}
+use Rattle.semantics.specs.Values.{bits, byte, bytes, at, valuesOf}
+use Rattle.semantics.proofs.Values.{values-length}
 use Rattle.semantics.proofs.Earlier.{accepted-early}
 use Rattle.semantics.proofs.Randoms.{randomsIn, build-randoms}
 use Rattle.frames.specs.declared.walk.Frame.{Frame as FrameCode}
 use Rattle.frames.specs.declared.walk.Walk.{Walk}
 use Rattle.frames.specs.declared.kinds.Shape.{Shape as ShapeCode}
 use Rattle.frames.specs.Walk.{operandsAt}
-use Rattle.simulation.specs.Internal.Gates.{OrderedFrom}
-use Rattle.simulation.specs.Internal.Filling.{Values, Known, Fills, FrameValues, frameWires}
-use Rattle.simulation.specs.Internal.Accepting.{AcceptedTable, circuitIn, Supplied}
-use Rattle.simulation.specs.Internal.Reading.{Between}
+use Rattle.gadgets.specs.Internal.Gates.{OrderedFrom}
+use Rattle.gadgets.specs.Internal.Frames.{frameWires}
+use Rattle.gadgets.specs.Internal.Accepting.{AcceptedTable, circuitIn, Between}
+use Rattle.gadgets.proofs.Walking.{whole, whole-few, whole-ordered, so-far, between-start, all-built, wires-in, wires-grow, inputs-grow, randoms-grow, Met}
+use Rattle.simulation.specs.Internal.Filling.{Values, Known, Fills, FrameValues}
+use Rattle.simulation.specs.Internal.Evaluating.{Supplied}
 use Rattle.simulation.proofs.Filled.{known-all}
-use Rattle.simulation.proofs.Walking.{whole, whole-few, whole-ordered, so-far, between-start, all-built, wires-in, wires-grow, inputs-grow, randoms-grow, Met}
 use Rattle.simulation.proofs.Equations.{frame-values}
-
--- as many values as wires
-pub values-length : (sh t before : List Bool) (ws : List Wire) → length (valuesFrom sh t before ws) ≡ length before + length ws
-values-length sh t before [] = omega arith
-values-length sh t before (w ∷ ws) = values-length sh _ (before ++ (value (w .gate) (at before) sh t ∷ [])) ws ∙ omega (arith, length-append before (value (w .gate) (at before) sh t ∷ []))
 
 -- a buffer that holds all values, the rest as it was
 all-known : (vs : List Bool) (old new : List ℕ) → length vs ≤ length old → Known (at vs) 0 (length vs) new → ((x : ℕ) → length vs ≤ x → nth new x ≡ nth old x) → length new ≡ length old → new ≡ overwrite (bytes vs) old

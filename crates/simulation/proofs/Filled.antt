@@ -3,13 +3,12 @@ use mathlib.Core.Path.{_≡_, refl, sym, ap, subst₂, _∙_}
 use mathlib.Core.List.{List}
 use Prim.Native.Nat.{ℕ, _+_, _≤_, _<_}
 use native.Mathlib.Omega.{arith}
-use lib.Dec.{eqb, ltb}
+use lib.Dec.{ltb}
 use lib.ListN.{length, set, length-set}
-use lib.Seq.{getD-set-same, getD-set-other}
-use borrow.Author.Tests.{eqb-true, eqb-false, ltb-true, ltb-false}
-use Rattle.circuit.specs.Lists.{nth}
+use borrow.Author.Tests.{ltb-true, ltb-false}
 use Rattle.circuit.proofs.Base.{cases}
 use Rattle.semantics.specs.Values.{byte}
+use Rattle.gadgets.proofs.Stored.{nth-set}
 use Rattle.simulation.specs.Internal.Filling.{Values, Known, Fills}
 
 -- the values up to the end of what is filled in
@@ -43,12 +42,6 @@ fills-for h f = record { filled = λ v e k. f .filled v (h v e) k; below = f .be
 
 pub fills-at : {E : Values → Type 0} {from from′ to to′ : ℕ} {old new : List ℕ} → from ≡ from′ → to ≡ to′ → Fills E from to old new → Fills E from′ to′ old new
 fills-at {E} {from} {from′} {to} {to′} {old} {new} p q f = subst₂ (λ a b. Fills E a b old new) p q f
-
--- a byte at a place
-pub nth-set : {A : Type 0} (sheet : List ℕ) (p e x : ℕ) → p < length sheet → (x ≡ p → nth (set sheet p e) x ≡ e → A) → ((x ≡ p → ⊥) → nth (set sheet p e) x ≡ nth sheet x → A) → A
-nth-set sheet p e x room f g = cases (eqb x p)
-    (λ h. let q = eqb-true x p h in f q (ap (nth (set sheet p e)) q ∙ getD-set-same sheet p e 0 room))
-    (λ h. g (eqb-false x p h) (getD-set-other sheet p x e 0 (eqb-false x p h)))
 
 -- one wire more
 pub fills-set : {E : Values → Type 0} {from p : ℕ} {old mid : List ℕ} (e : ℕ) → Fills E from p old mid → from ≤ p → p < length old

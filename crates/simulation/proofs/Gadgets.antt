@@ -11,11 +11,11 @@ use Rattle.circuit.specs.Kinds.{pairs}
 use Rattle.circuit.proofs.Base.{xor-assoc}
 use Rattle.circuit.proofs.Sizes.{pairs-twice}
 use Rattle.semantics.specs.Values.{byte, xorSum}
-use Rattle.simulation.specs.Internal.Places.{crossStart, productAt, outAt, maskAt, sumAt}
+use Rattle.gadgets.specs.Internal.Places.{crossStart, productAt, outAt, maskAt, sumAt}
+use Rattle.gadgets.proofs.Slots.{mask-lt}
 use Rattle.simulation.specs.Internal.Filling.{Values, Known, Fills, Copied, Drawn, ShareProducts, Multiplied, AndValues, Masked, Held, RefValues}
 use Rattle.simulation.specs.Internal.Gadgets.{Sums}
 use Rattle.simulation.proofs.Adding.{Adds, adds-start, adds-turn, adds-end, xorSum-turn, xorSum-end, xorSum-others}
-use Rattle.simulation.proofs.Sites.{pair-lt}
 use Rattle.simulation.proofs.Filled.{known-all, fills-next, fills-for, fills-at, fills-set}
 
 pub and-filled : (d first : ℕ) (a b : ℕ → ℕ) (tape : List ℕ) (used : ℕ) {old one two three : List ℕ} (count : ℕ) → count ≡ pairs d
@@ -29,9 +29,6 @@ and-filled d first a b tape used count e draws products outs =
     (fills-at (omega arith) (omega arith) outs)
 
 -- REF's random bits of the share i and each below j are added to a bit
-pub mask-lt : (d first i j : ℕ) → i < d → j < d → (j ≡ i → ⊥) → maskAt d first i j < first + pairs d
-mask-lt d first i j l k ne = omega (arith, pair-lt d i j l k ne)
-
 pub record MasksOn (d first i bit from to : ℕ) (values : List ℕ) (sum j : ℕ) : Type 0 where
   pub low : from ≤ j
   pub high : j ≤ to

@@ -10,12 +10,13 @@ use borrow.Author.Tests.{ltb-true, ltb-false}
 use Rattle.circuit.specs.Lists.{_⊕_, nth, range}
 use Rattle.circuit.proofs.Base.{cases, xor-assoc}
 use Rattle.semantics.specs.Values.{byte, xorSum}
-use Rattle.simulation.specs.Internal.Places.{slotOf, crossStart, productAt, crossAt, outAt}
+use Rattle.gadgets.specs.Internal.Places.{slotOf, crossStart, productAt, crossAt, outAt}
+use Rattle.gadgets.proofs.Stored.{nth-set}
+use Rattle.gadgets.proofs.Slots.{slot-low, product-early, row-room, RowEnds, row-ends}
 use Rattle.simulation.specs.Internal.Filling.{Values, Known, Fills, crossingAt, Multiplied}
 use Rattle.simulation.specs.Internal.Gadgets.{RowCrossedBy, CrossesRow}
 use Rattle.simulation.proofs.Adding.{xorSum-others}
-use Rattle.simulation.proofs.Filled.{known-all, nth-set}
-use Rattle.simulation.proofs.Rows.{slot-low, product-early, row-room, RowEnds, row-ends}
+use Rattle.simulation.proofs.Filled.{known-all}
 
 -- the rows of the shares below i, and their outputs
 pub record OutputsOn (d first : ℕ) (a : ℕ → ℕ) (old values : List ℕ) (i : ℕ) : Type 0 where

@@ -8,9 +8,9 @@ use lib.Bits.{bitAnd}
 use lib.ListN.{length, set}
 use Rattle.circuit.specs.Lists.{nth}
 use Rattle.semantics.specs.Values.{byte}
-use Rattle.simulation.specs.Internal.Places.{productAt}
+use Rattle.gadgets.specs.Internal.Places.{productAt}
+use Rattle.gadgets.proofs.Bits.{byte-and}
 use Rattle.simulation.specs.Internal.Filling.{Values, Known, Fills, ShareProducts}
-use Rattle.simulation.proofs.Bits.{byte-and}
 use Rattle.simulation.proofs.Filled.{known-all, fills-at, fills-set}
 
 module _ {d first : ℕ} {a b : ℕ → ℕ} {old mid : List ℕ} {i : ℕ} (l : i < d) (room : productAt d first i + 3 ≤ length old) (early : a i < first) (late : b i < first)

@@ -13,7 +13,7 @@ use Rattle.circuit.proofs.Base.{Every, every-imp}
 use Rattle.semantics.specs.Values.{at, xorSum, value, isRandom, valuesFrom, valuesOf}
 use Rattle.semantics.specs.Probes.{operands}
 use Rattle.semantics.proofs.Randoms.{randomsIn, randoms-append}
-use Rattle.simulation.specs.Internal.Gates.{nothing, gateAt, OrderedFrom}
+use Rattle.gadgets.specs.Internal.Gates.{nothing, gateAt, OrderedFrom}
 
 -- a gate's value depends on the values of the wires it takes alone
 xorSum-same : (f g : ℕ → Bool) (xs : List ℕ) → Every (λ y. f y ≡ g y) xs → xorSum xs f ≡ xorSum xs g

@@ -3,10 +3,11 @@ ghost use mathlib.Core.Path.{_≡_};
 ghost use Prim.Native.Nat.{ℕ, _+_, _-_, _*_, _≤_, _<_};
 ghost use lib.ListN.{length};
 ghost use Rattle.circuit.specs.Kinds.{pairs};
-ghost use Rattle.simulation.specs.Internal.Places.{wordA, wordB, productAt, crossStart, outAt};
+ghost use Rattle.gadgets.specs.Internal.Places.{wordA, wordB, productAt, crossStart, outAt};
+ghost use Rattle.gadgets.specs.Internal.Frames.{Small, RowBefore, Roomy};
 ghost use Rattle.simulation.specs.Internal.Filling.{Fills, Bits, Copied, Drawn, ShareProducts, Multiplied, AndValues, Masked, Held, RefValues};
-ghost use Rattle.simulation.specs.Internal.Gadgets.{Crosses, CrossesRow, Sums, Small, RowBefore, Roomy};
-use super::places;
+ghost use Rattle.simulation.specs.Internal.Gadgets.{Crosses, CrossesRow, Sums};
+use gadgets::places;
 
 // So many bits, from a place of another buffer on.
 pub(crate) fn copy(values: &mut [u8], at: usize, bits: &[u8], from: usize, count: usize)

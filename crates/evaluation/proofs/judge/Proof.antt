@@ -15,7 +15,7 @@ use Rattle.circuit.specs.Answer.{answer}
 use Rattle.semantics.specs.Calls.{bytesRule, probesRule, circuitOf, callRule}
 use Rattle.checker.specs.declared.Verdict.{Verdict}
 use Rattle.checker.specs.Answers.{answerOf, inputsAre}
-use Rattle.simulation.proofs.Walking.{headed}
+use Rattle.gadgets.proofs.Walking.{headed}
 use Rattle.evaluation.specs.Internal.Calling.{Shortest, Judged}
 use Rattle.evaluation.specs.Internal.Refusing.{refusal}
 use Rattle.evaluation.proofs.judge.Statement.{statement}

@@ -2,7 +2,7 @@
 use mathlib.Core.Path.{_≡_}
 use mathlib.Core.Bool.{Bool, not, _&&_}
 use mathlib.Core.List.{List}
-use Prim.Native.Nat.{ℕ, _+_, _-_, _*_, _≤_, _<_}
+use Prim.Native.Nat.{ℕ, _+_, _*_, _≤_, _<_}
 use lib.ListN.{length}
 use Rattle.circuit.specs.Lists.{_⊕_, nth}
 use Rattle.circuit.specs.Gadgets.{others}
@@ -13,7 +13,7 @@ use Rattle.frames.specs.declared.walk.Gate.{Gate as GateCode}
 use Rattle.frames.specs.declared.walk.Gate.the-variants as gate
 use Rattle.frames.specs.declared.walk.Frame.{Frame as FrameCode}
 use Rattle.frames.specs.declared.walk.Frame.the-variants as frame
-use Rattle.simulation.specs.Internal.Places.{wordA, wordB, pairAt, productAt, crossAt, outAt, maskAt, sumAt, heldAt}
+use Rattle.gadgets.specs.Internal.Places.{wordA, wordB, pairAt, productAt, crossAt, outAt, maskAt, sumAt, heldAt}
 
 -- the value of each wire
 abbrev pub Values : Type 0
@@ -104,17 +104,3 @@ abbrev pub FrameValues : FrameCode → (d first from used : ℕ) (ops shares tap
 FrameValues (frame.Gate g) d first from used ops shares tape v = GateValues g d first from shares v
 FrameValues frame.And d first from used ops shares tape v = AndValues d first (wordA ops) (wordB d ops) tape used v
 FrameValues frame.Ref d first from used ops shares tape v = RefValues d first (wordA ops) tape used v
-
--- how many wires a frame makes
-abbrev pub gateWires : GateCode → ℕ → ℕ
-gateWires (gate.In t) d = d
-gateWires (gate.Con l b t) d = 1
-gateWires (gate.Xor x y) d = 1
-gateWires (gate.Not x) d = 1
-gateWires (gate.Reg x) d = 1
-gateWires gate.Out d = 0
-
-abbrev pub frameWires : FrameCode → ℕ → ℕ
-frameWires (frame.Gate g) d = gateWires g d
-frameWires frame.And d = 7 * (d * (d - 1)) + 4 * d
-frameWires frame.Ref d = pairs d + 2 * d

@@ -5,7 +5,8 @@ use native.Mathlib.Omega.{arith}
 use borrow.Author.Needs.{needs}
 use Rattle.simulation.proofs.gadget.add_masks.Statement.{statement}
 use Rattle.simulation.proofs.gadget.add_masks.Tie as tie
-use Rattle.simulation.proofs.Gadgets.{mask-lt, MasksOn, masks-start, masks-turn, masks-end}
+use Rattle.gadgets.proofs.Slots.{mask-lt}
+use Rattle.simulation.proofs.Gadgets.{MasksOn, masks-start, masks-turn, masks-end}
 
 abbrev Inv-loop : tie.InvT-loop
 Inv-loop values first d i bit from to sum₀ j₀ sum j = MasksOn d first i bit from to values sum j

@@ -3,7 +3,7 @@ use native.Mathlib.Omega.{arith}
 use borrow.Author.Needs.{needs}
 use Rattle.simulation.proofs.gadget.and.Statement.{statement}
 use Rattle.simulation.proofs.gadget.and.Tie as tie
-use Rattle.simulation.specs.Internal.Places.{wordA, wordB}
+use Rattle.gadgets.specs.Internal.Places.{wordA, wordB}
 use Rattle.simulation.proofs.Gadgets.{and-filled}
 
 returns : tie.Need-returns

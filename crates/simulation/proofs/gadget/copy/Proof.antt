@@ -7,7 +7,7 @@ use Rattle.circuit.specs.Lists.{nth}
 use Rattle.semantics.specs.Values.{byte}
 use Rattle.simulation.proofs.gadget.copy.Statement.{statement}
 use Rattle.simulation.proofs.gadget.copy.Tie as tie
-use Rattle.simulation.proofs.Bits.{set-byte}
+use Rattle.gadgets.proofs.Bits.{set-byte}
 use Rattle.simulation.proofs.Filled.{fills-none, fills-at, fills-set}
 use Rattle.simulation.specs.Internal.Filling.{Fills, Copied}
 

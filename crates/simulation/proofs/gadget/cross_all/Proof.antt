@@ -5,8 +5,8 @@ use native.Mathlib.Omega.{arith}
 use borrow.Author.Needs.{needs}
 use Rattle.simulation.proofs.gadget.cross_all.Statement.{statement}
 use Rattle.simulation.proofs.gadget.cross_all.Tie as tie
-use Rattle.simulation.specs.Internal.Places.{wordA}
-use Rattle.simulation.proofs.Rows.{ShareOf, share-of}
+use Rattle.gadgets.specs.Internal.Places.{wordA}
+use Rattle.gadgets.proofs.Slots.{ShareOf, share-of}
 use Rattle.simulation.proofs.Outputs.{OutputsOn, outputs-start, outputs-turn, outputs-end}
 
 abbrev Inv-loop : tie.InvT-loop

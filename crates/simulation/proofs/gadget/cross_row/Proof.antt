@@ -4,10 +4,11 @@ use Prim.Native.Nat.{_+_, _-_, _*_, _≤_, _<_}
 use native.Mathlib.Omega.{arith}
 use lib.ListN.{length}
 use borrow.Author.Needs.{needs}
-use Rattle.simulation.specs.Internal.Places.{outAt}
+use Rattle.gadgets.specs.Internal.Places.{outAt}
 use Rattle.simulation.proofs.gadget.cross_row.Statement.{statement}
 use Rattle.simulation.proofs.gadget.cross_row.Tie as tie
-use Rattle.simulation.proofs.Rows.{RowOn, row-start, row-turn, row-end, Sites, sites}
+use Rattle.simulation.proofs.Rows.{RowOn, row-start, row-turn, row-end}
+use Rattle.gadgets.proofs.Slots.{Sites, sites}
 
 abbrev Inv-loop : tie.InvT-loop
 Inv-loop values₀ first d i a bit from to sum₀ j₀ values sum j = RowOn d first i a bit from to values₀ values sum j

@@ -9,7 +9,7 @@ use Rattle.circuit.specs.Circuit.{isSet}
 use Rattle.semantics.specs.Values.{byte}
 use Rattle.simulation.proofs.gadget.draws.Statement.{statement}
 use Rattle.simulation.proofs.gadget.draws.Tie as tie
-use Rattle.simulation.proofs.Bits.{set-byte}
+use Rattle.gadgets.proofs.Bits.{set-byte}
 use Rattle.simulation.proofs.Filled.{fills-none, fills-at, fills-set}
 use Rattle.simulation.specs.Internal.Filling.{Fills, Drawn}
 

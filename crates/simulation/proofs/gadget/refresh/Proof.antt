@@ -3,7 +3,7 @@ use native.Mathlib.Omega.{arith}
 use borrow.Author.Needs.{needs}
 use Rattle.simulation.proofs.gadget.refresh.Statement.{statement}
 use Rattle.simulation.proofs.gadget.refresh.Tie as tie
-use Rattle.simulation.specs.Internal.Places.{wordA}
+use Rattle.gadgets.specs.Internal.Places.{wordA}
 use Rattle.simulation.proofs.Gadgets.{ref-filled}
 
 returns : tie.Need-returns

@@ -8,7 +8,7 @@ use Rattle.circuit.specs.Lists.{nth}
 use Rattle.simulation.proofs.gadget.share_products.Statement.{statement}
 use Rattle.simulation.proofs.gadget.share_products.Tie as tie
 use Rattle.simulation.specs.Internal.Filling.{Fills, ShareProducts}
-use Rattle.simulation.specs.Internal.Places.{wordA, wordB, productAt}
+use Rattle.gadgets.specs.Internal.Places.{wordA, wordB, productAt}
 use Rattle.simulation.proofs.Products.{products-turn}
 use Rattle.simulation.proofs.Filled.{fills-none, fills-at}
 

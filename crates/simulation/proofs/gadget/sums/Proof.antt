@@ -6,7 +6,7 @@ use borrow.Author.Needs.{needs}
 use Rattle.circuit.specs.Kinds.{pairs}
 use Rattle.simulation.proofs.gadget.sums.Statement.{statement}
 use Rattle.simulation.proofs.gadget.sums.Tie as tie
-use Rattle.simulation.specs.Internal.Places.{wordA}
+use Rattle.gadgets.specs.Internal.Places.{wordA}
 use Rattle.simulation.specs.Internal.Filling.{Fills, Masked}
 use Rattle.simulation.proofs.Gadgets.{masked-turn}
 use Rattle.simulation.proofs.Filled.{fills-none, fills-at}

@@ -11,7 +11,7 @@ use Rattle.frames.specs.declared.walk.Step.{Step}
 use Rattle.frames.specs.Walk.{operandsAt, stepAt}
 use Rattle.simulation.proofs.values.fill.Statement.{statement}
 use Rattle.simulation.proofs.values.fill.Tie as tie
-use Rattle.simulation.proofs.Walking.{headed, second-word, Met, Answers, step-answers}
+use Rattle.gadgets.proofs.Walking.{headed, second-word, Met, Answers, step-answers}
 use Rattle.simulation.proofs.Evaluating.{FilledTo, filled-start, inputs-in, draws-in, frame-filled, all-filled}
 
 abbrev Inv-loop : tie.InvT-loop

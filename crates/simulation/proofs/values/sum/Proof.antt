@@ -7,7 +7,7 @@ use Rattle.circuit.specs.Lists.{nth}
 use Rattle.semantics.specs.Values.{byte}
 use Rattle.simulation.proofs.values.sum.Statement.{statement}
 use Rattle.simulation.proofs.values.sum.Tie as tie
-use Rattle.simulation.proofs.Bits.{byte-xor}
+use Rattle.gadgets.proofs.Bits.{byte-xor}
 use Rattle.simulation.proofs.Filled.{fills-one}
 
 returns : tie.Need-returns

@@ -7,8 +7,7 @@ use borrow.Author.Needs.{needs}
 use Rattle.frames.specs.declared.walk.Gate.{Gate as GateCode}
 use Rattle.frames.specs.declared.walk.Frame.{Frame as FrameCode}
 use Rattle.frames.specs.declared.walk.Frame.the-variants as frame
-use Rattle.simulation.specs.Internal.Filling.{frameWires}
-use Rattle.simulation.specs.Internal.Gadgets.{FrameEarly, FrameSupplied}
+use Rattle.gadgets.specs.Internal.Frames.{frameWires, FrameEarly, FrameSupplied}
 use Rattle.simulation.proofs.values.write_frame.Statement.{statement}
 use Rattle.simulation.proofs.values.write_frame.Tie as tie
 use Rattle.simulation.proofs.Filled.{fills-none, fills-at}

@@ -1,0 +1,6 @@
+-- Where the gadgets' wires stand, and the gates there
+pub mod Places
+pub mod Gates
+-- What a frame's code rests on, and the places between an accepted table's frames
+pub mod Frames
+pub mod Accepting

@@ -1,0 +1,5 @@
+-- Marks that end on stops
+pub mod Marks
+pub mod Reading
+-- Bytes looked at together
+pub mod Bytes

@@ -1,0 +1,169 @@
+// What probes read: marks on probed wires, moved on frame by frame from the last to the first, and shown where they end.
+ghost use mathlib.Core.Path.{_≡_};
+ghost use Prim.Native.Nat.{ℕ, _+_, _*_, _≤_, _<_};
+ghost use lib.ListN.{length, replicate};
+ghost use Rattle.circuit.specs.Limits.{tableLimit, wireLimit};
+ghost use Rattle.circuit.proofs.Base.{In};
+ghost use Rattle.circuit.specs.Circuit.{size};
+ghost use Rattle.gadgets.specs.Internal.Places.{wordA, wordB};
+ghost use Rattle.gadgets.specs.Internal.Gates.{AndGates, FrameGates};
+ghost use Rattle.gadgets.specs.Internal.Frames.{frameWires, Small, FrameEarly};
+ghost use Rattle.gadgets.specs.Internal.Accepting.{AcceptedTable, circuitIn};
+ghost use Rattle.reach.specs.Internal.Marks.{Marked, markAll, Moves, shownAt};
+ghost use Rattle.reach.specs.Internal.Reading.{Lists, Propagates, OnStops, Shows};
+use super::bytes;
+use super::reach;
+use circuit::TABLE_WORDS;
+use circuit::WIRES;
+use frames::kinds::decide;
+use frames::walk::Frame;
+use frames::walk::Gate;
+use frames::walk::Step;
+use frames::walk::Walk;
+use gadgets::places;
+
+// The most frames behind HEAD: each of them, and HEAD too, has at least two words.
+const FRAMES: usize = TABLE_WORDS / 2;
+
+// A mark on each probed wire.
+fn mark(marks: &mut [u8; WIRES], probes: &[u16])
+    requires { ⌜ ((x : ℕ) → In x (now probes) → x < wireLimit) ⌝ }
+    ensures { λ _. ⌜ now (marks .exit) ≡ markAll (now (marks .entry)) (now (probes .entry)) ⌝ }
+{
+    let mut i = 0;
+    while i < probes.len() {
+        let wire = probes[i] as usize;
+        marks[wire] = 1;
+        i += 1;
+    }
+}
+
+// AND's wires, where one of them is marked.
+fn propagate_and(marks: &mut [u8], first: usize, d: usize, ops: &[u16])
+    requires { ⌜ Small first d × (first + frameWires Frame.And d ≤ length (now marks)) × FrameEarly Frame.And d first (now ops) ⌝ }
+    ensures { λ _. ⌜ Moves (λ g. AndGates g d first (wordA (now (ops .entry))) (wordB d (now (ops .entry)))) first (first + frameWires Frame.And d) (now (marks .entry)) (now (marks .exit)) ⌝ }
+{
+    let most = bytes::largest(marks, first, places::and_wires(d));
+    if most < 1 {
+        return;
+    }
+    reach::propagate_and(marks, first, d, ops);
+}
+
+// A frame's wires.
+fn propagate_frame(marks: &mut [u8], frame: Frame, d: usize, first: usize, ops: &[u16])
+    requires { ⌜ Small first d × (first + frameWires frame d ≤ length (now marks)) × FrameEarly frame d first (now ops) ⌝ }
+    ensures { λ _. ⌜ ((from : ℕ) → Moves (FrameGates frame d first from (now (ops .entry))) first (first + frameWires frame d) (now (marks .entry)) (now (marks .exit))) ⌝ }
+{
+    match frame {
+        Frame::Gate(gate) => match gate {
+            Gate::In { stage: _ } => {}
+            Gate::Con {
+                label: _,
+                value: _,
+                stage: _,
+            } => {}
+            Gate::Xor {
+                first: one,
+                second: other,
+            } => reach::propagate_gate(marks, first, one, other),
+            Gate::Not { wire } => reach::propagate_gate(marks, first, wire, wire),
+            Gate::Reg { wire: _ } => {}
+            Gate::Out => {}
+        },
+        Frame::And => propagate_and(marks, first, d, ops),
+        Frame::Ref => reach::propagate_refresh(marks, first, d, ops),
+    }
+}
+
+// The places of an accepted table's frames, and how many there are.
+fn list_frames(table: &[u16], starts: &mut [u16]) -> usize
+    requires { ⌜ AcceptedTable (now table) × (tableLimit ≤ 2 * length (now starts)) ⌝ }
+    ensures { λ r. ⌜ Lists (now (table .entry)) (now (starts .exit)) r ⌝ }
+{
+    let d = table[1];
+    let mut at = 2;
+    let mut count = 0;
+    while at < table.len() {
+        starts[count] = at as u16;
+        count += 1;
+        at += 1 + decide(table[at], d).words;
+    }
+    count
+}
+
+// The marks moved on, from the last frame to the first.
+fn propagate_frames(
+    table: &[u16],
+    starts: &[u16],
+    count: usize,
+    wires: usize,
+    marks: &mut [u8; WIRES],
+)
+    requires { ⌜ Lists (now table) (now starts) count × (count ≤ length (now starts)) × (wires ≡ size (circuitIn (now table))) ⌝ }
+    ensures { λ _. ⌜ Propagates (circuitIn (now (table .entry)) .wires) (now (marks .entry)) (now (marks .exit)) ⌝ }
+{
+    let d = table[1];
+    let n = d as usize;
+    let mut w = wires;
+    let mut i = count;
+    while 0 < i {
+        i -= 1;
+        let walk = Walk {
+            d: d,
+            at: starts[i] as usize,
+        };
+        let step = walk.step(table);
+        match step {
+            Step::End => {
+                return;
+            }
+            Step::Refused { rule: _ } => {
+                return;
+            }
+            Step::Next {
+                frame,
+                shape,
+                walk: _,
+            } => {
+                let ops = walk.operands(table);
+                w -= shape.wires;
+                propagate_frame(marks, frame, n, w, ops);
+            }
+        }
+    }
+}
+
+// From clear marks, a mark on exactly the stops that the probes on an accepted table's wires read.
+pub fn reach_stops(table: &[u16], wires: usize, probes: &[u16], marks: &mut [u8; WIRES])
+    requires { ⌜ AcceptedTable (now table) × (wires ≡ size (circuitIn (now table))) × ((x : ℕ) → In x (now probes) → x < wires) × (now marks ≡ replicate wireLimit 0) ⌝ }
+    ensures { λ _. ⌜ OnStops (circuitIn (now (table .entry)) .wires) (now (probes .entry)) (now (marks .exit)) ⌝ }
+{
+    let mut starts = [0u16; FRAMES];
+    let count = list_frames(table, &mut starts);
+    mark(marks, probes);
+    propagate_frames(table, &starts, count, wires, marks);
+}
+
+// A wire's byte of the reading: its value where it is marked, 2 elsewhere.
+fn shown(mark: u8, value: u8) -> u8
+    ensures { λ r. ⌜ r ≡ shownAt mark value ⌝ }
+{
+    if mark < 1 { 2 } else { value }
+}
+
+// The reading, from the values of all wires and marks on the stops that are read.
+pub fn show(marks: &[u8; WIRES], values: &[u8], wires: usize, reading: &mut [u8])
+    requires { ⌜ (wires ≤ wireLimit) × (wireLimit ≤ length (now values)) × (wireLimit ≤ length (now reading)) × ((x : ℕ) → Marked (now marks) x → x < wires) ⌝ }
+    ensures { λ _. ⌜ Shows (now (marks .entry)) (now (values .entry)) (now (reading .entry)) (now (reading .exit)) ⌝ }
+{
+    let mut x = 0;
+    while x < wires {
+        reading[x] = shown(marks[x], values[x]);
+        x += 1;
+    }
+    while x < WIRES {
+        reading[x] = 2;
+        x += 1;
+    }
+}

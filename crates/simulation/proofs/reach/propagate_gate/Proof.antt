@@ -1,8 +1,0 @@
--- Words fit.
-use native.Mathlib.Omega.{arith}
-use borrow.Author.Needs.{needs}
-use Rattle.simulation.proofs.reach.propagate_gate.Statement.{statement}
-use Rattle.simulation.proofs.reach.propagate_gate.Tie as tie
-
-pub propagate-gate-spec : {M : Type 1} → statement M
-propagate-gate-spec = tie.close (tie.spec (λ c κs. c .before .before .pre) (λ c. c .before .before .propagate .kept .0) (λ c. c .before .before .propagate .ensures))
