@@ -1,19 +1,19 @@
 -- The lines of a block, one after the other: those taken are read, and where none is taken the first breaks a rule.
-use mathlib.Core.Path.{_≡_, refl, sym, ap, subst, _∙_}
-use mathlib.Core.List.{List, [], _∷_, _++_, append-assoc, append-nil}
+use mathlib.Core.Path.{_≡_, refl, sym, ap, _∙_}
+use mathlib.Core.List.{List, _∷_, _++_, append-assoc, append-nil}
 use Prim.Native.Nat.{ℕ, zero, suc, _+_, _*_, _-_, _≤_, _<_}
 use native.Mathlib.Omega.{arith}
 use lib.Dec.{ltb}
 use lib.ListN.{length, getD, take, drop, length-drop, length-append}
 use lib.Seq.{paste, length-paste, take-paste, drop-paste, length-take-le, getD-take, ext-getD, drop-drop}
 use borrow.Author.Tests.{ltb-true, ltb-false}
-use Rattle.circuit.specs.Rules.{Judgement, pass}
+use Rattle.circuit.specs.Rules.{pass}
 use Rattle.circuit.specs.Kinds.{kindOf}
 use Rattle.circuit.proofs.Base.{cases}
 use Rattle.text.specs.Lines.{linesOf}
 use Rattle.text.specs.Reader.{frameLines, readText}
 use Rattle.text.specs.Internal.Scan.{valueIn, countFrom, wordsAt, limitOf, ruled, frameByCount}
-use Rattle.text.specs.Internal.Blocks.{blockWords, startOf, countOf, Whole, Split, Lengths, lineNumber, numberOf, Taken}
+use Rattle.text.specs.Internal.Blocks.{blockWords, startOf, countOf, Split, Lengths, numberOf, Taken}
 use Rattle.text.proofs.Scanning.{words-most, same-frame, limit-most, limit-room}
 use Rattle.text.proofs.Blocks.{number-fits, frame-number}
 use Rattle.text.proofs.Reading.{words-length, frame-line, line-fits}

@@ -1,20 +1,20 @@
 -- Lines taken a block at a time: the loop that finds them, and what they tell of the reading.
-use mathlib.Core.Path.{_≡_, refl, sym, ap, subst, _∙_}
-use mathlib.Core.Bool.{Bool, true, false, cond, _&&_}
-use mathlib.Core.List.{List, [], _∷_, _++_, append-assoc, append-nil}
+use mathlib.Core.Path.{_≡_, refl, subst, _∙_}
+use mathlib.Core.Bool.{true, false, cond, _&&_}
+use mathlib.Core.List.{List}
 use Prim.Native.Nat.{ℕ, zero, suc, _+_, _*_, _-_, _≤_, _<_}
 use native.Mathlib.Omega.{arith}
 use lib.Dec.{leb, ltb, eqb}
-use lib.ListN.{length, getD, set, take, drop}
-use lib.Seq.{getD-set-same, getD-set-other, drop-drop}
+use lib.ListN.{length, getD, set, drop}
+use lib.Seq.{getD-set-same, getD-set-other}
 use borrow.Author.Tests.{ltb-true, ltb-false, leb-true, leb-false, lt-ltb, le-leb, lt-leb}
 use Rattle.circuit.specs.Limits.{tableLimit}
 use Rattle.circuit.specs.Kinds.{words, kindOf}
 use Rattle.circuit.proofs.Base.{cases, and-right}
 use Rattle.text.specs.Lines.{lineFeed}
 use Rattle.text.specs.Internal.Scan.{feedOf, isWord, valueIn, countFrom, ruled, frameByCount}
-use Rattle.text.specs.Internal.Blocks.{blockWords, startOf, countOf, Whole, Split, Lengths, lineNumber}
-use Rattle.text.proofs.Scanning.{count-turn, count-end}
+use Rattle.text.specs.Internal.Blocks.{blockWords, startOf, Whole, Split, Lengths, lineNumber}
+use Rattle.text.proofs.Scanning.{count-turn}
 use Rattle.text.proofs.Hex.{word-inside}
 
 -- what holds below a number, and of the number itself

@@ -2,7 +2,7 @@
 use mathlib.Core.Path.{_≡_, refl, sym, ap, _∙_}
 use mathlib.Core.Bool.{true, _&&_}
 use mathlib.Core.List.{List, [], _∷_}
-use Prim.Native.Nat.{ℕ, zero, suc, _+_, _*_, _-_, _≤_, _<_}
+use Prim.Native.Nat.{ℕ, zero, suc, _+_, _-_, _≤_, _<_}
 use native.Mathlib.Omega.{arith}
 use lib.Dec.{leb, ltb, eqb}
 use lib.ListN.{length, set, take, drop, length-set, length-drop, take-append-drop, drop-of-length-le}
@@ -13,7 +13,7 @@ use Rattle.circuit.specs.Limits.{tableLimit}
 use Rattle.circuit.specs.Rules.{Judgement, pass, refuse, need, _then_}
 use Rattle.circuit.proofs.Base.{and-left, and-right}
 use Rattle.text.specs.Lines.{linesOf}
-use Rattle.text.specs.Reader.{onward, frameLines, readText, roomRule}
+use Rattle.text.specs.Reader.{frameLines, readText, roomRule}
 use Rattle.text.specs.Answer.{tableAfter}
 use Rattle.text.specs.Internal.Scan.{isWord, valueIn, countFrom, wordsAt, limitOf, ruled, headByCount, frameByCount}
 use Rattle.circuit.proofs.Judging.{then-pass, need-pass, need-then}

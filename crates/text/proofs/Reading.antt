@@ -1,12 +1,12 @@
 -- The answer from a line on, by the line's count of words.
 use mathlib.Core.Path.{_≡_, refl, sym, ap, _∙_}
-use mathlib.Core.Bool.{Bool, true, false, _&&_}
+use mathlib.Core.Bool.{true, false, _&&_}
 use mathlib.Core.List.{List, [], _∷_, _++_}
 use Prim.Native.Nat.{ℕ, zero, suc, _*_, _≤_, _<_}
 use native.Mathlib.Omega.{arith}
 use lib.ListN.{length, drop}
 use borrow.Author.Tests.{lt-ltb}
-use Rattle.circuit.specs.Rules.{Judgement, pass, need, _then_}
+use Rattle.circuit.specs.Rules.{Judgement}
 use Rattle.text.specs.Lines.{Line, linesOf, areWords}
 use Rattle.text.specs.Reader.{Read, onward, wordsOf, frameLines, allLines, readText}
 use Rattle.text.specs.Internal.Scan.{valueIn, countFrom, wordsAt, headByCount, frameByCount}

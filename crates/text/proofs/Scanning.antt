@@ -5,18 +5,17 @@ use mathlib.Core.List.{List, [], _∷_}
 use Prim.Native.Nat.{ℕ, zero, suc, _+_, _*_, _-_, _≤_, _<_}
 use native.Mathlib.Omega.{arith}
 use lib.Dec.{leb, ltb, eqb}
-use lib.ListN.{length, getD, drop, set, length-drop, length-append}
-use lib.Seq.{sets, drop-drop}
-use borrow.Author.Tests.{eqb-true, leb-true, leb-false, le-leb}
+use lib.ListN.{length, getD, drop, length-drop}
+use borrow.Author.Tests.{leb-true, leb-false, le-leb}
 use Rattle.circuit.proofs.Base.{cases}
 use Rattle.frames.proofs.KindTable.{words-AND, words-REF, words-OUT}
 use Rattle.circuit.specs.Limits.{tableLimit}
 use Rattle.circuit.specs.Circuit.{empty}
-use Rattle.circuit.specs.Kinds.{Kind, HEAD, IN, CON, XOR, NOT, REG, AND, REF, OUT, shareCount, share, before, row, shape, kindOf, words}
-use Rattle.circuit.specs.Rules.{Judgement, pass, refuse, need, _then_, wordRule}
+use Rattle.circuit.specs.Kinds.{Kind, HEAD, IN, CON, XOR, NOT, REG, AND, REF, OUT, shareCount, shape, kindOf, words}
+use Rattle.circuit.specs.Rules.{Judgement, need, _then_, wordRule}
 use Rattle.text.specs.Lines.{lineFeed, areDigits}
 use Rattle.text.specs.Reader.{roomRule}
-use Rattle.text.specs.Internal.Scan.{isMark, isWord, countFrom, behindLine, limitOf, ruled, headWord, headByCount, frameByCount}
+use Rattle.text.specs.Internal.Scan.{isMark, isWord, countFrom, behindLine, limitOf, headByCount, frameByCount}
 use Rattle.text.proofs.Hex.{five}
 
 short-count : (n : ℕ) (bytes : List ℕ) → length bytes < 5 → countFrom n bytes ≡ 0

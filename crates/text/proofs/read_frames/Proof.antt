@@ -1,7 +1,7 @@
 -- At the head of the loop `Progress` holds, and block and ends keep their length; the measure is what is left of the text.
 use mathlib.Core.Path.{_≡_, refl, sym, ap, subst, _∙_}
 use mathlib.Core.List.{List}
-use Prim.Native.Nat.{ℕ, _+_, _*_, _-_, _≤_, _<_}
+use Prim.Native.Nat.{ℕ, _+_, _*_, _-_, _≤_}
 use native.Mathlib.Omega.{arith}
 use lib.ListN.{length, getD, take, drop}
 use lib.Seq.{paste, length-take-le, drop-drop}
@@ -11,7 +11,7 @@ use Rattle.circuit.specs.Rules.{Judgement, pass, refuse}
 use Rattle.text.specs.Reader.{readText}
 use Rattle.text.specs.Answer.{tableAfter}
 use Rattle.text.specs.Internal.Scan.{valueIn, countFrom, ruled, frameByCount}
-use Rattle.text.specs.Internal.Blocks.{blockWords, startOf, Lines, Split}
+use Rattle.text.specs.Internal.Blocks.{blockWords, startOf, Lines}
 use Rattle.text.proofs.Scanning.{limit-most, limit-room, same-frame}
 use Rattle.text.proofs.Reading.{stop}
 use Rattle.text.proofs.Blocks.{start-last}

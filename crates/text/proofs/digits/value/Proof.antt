@@ -1,11 +1,9 @@
 -- The four digits of the word at the place, each by its code.
-use mathlib.Core.Path.{_≡_}
-use Prim.Native.Nat.{_+_, _*_, _≤_}
+use Prim.Native.Nat.{_+_, _≤_}
 use native.Mathlib.Omega.{arith}
 use lib.ListN.{length, getD}
 use borrow.Author.Needs.{needs}
 use denote.Ref.{now}
-use Rattle.text.specs.Lines.{digit}
 use Rattle.text.proofs.Hex.{Digits, word-inside, word-digits, word-value}
 use Rattle.text.proofs.digits.value.Statement.{statement}
 use Rattle.text.proofs.digits.value.Tie as tie

@@ -1,11 +1,11 @@
 -- The loop's invariant: the lines before this one break none of the rules, and so lie in the room.
 use mathlib.Core.Path.{_≡_, refl, sym, ap, _∙_}
-use Prim.Native.Nat.{ℕ, _+_, _-_, _≤_, _<_}
+use Prim.Native.Nat.{ℕ, _-_, _≤_, _<_}
 use native.Mathlib.Omega.{arith}
-use lib.ListN.{length, getD}
+use lib.ListN.{getD}
 use borrow.Author.Needs.{needs}
 use denote.Ref.{now}
-use Rattle.text.specs.Internal.Blocks.{startOf, lineNumber, numberOf, Taken}
+use Rattle.text.specs.Internal.Blocks.{startOf, lineNumber, numberOf}
 use Rattle.text.proofs.Blocks.{below-more, start-next, number-fits}
 use Rattle.text.proofs.rules.taken.Statement.{statement}
 use Rattle.text.proofs.rules.taken.Tie as tie
