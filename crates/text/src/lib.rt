@@ -59,8 +59,8 @@ fn read_by(codes: &[u16; 512], text: &[u8], table: &mut [u16]) -> TextVerdict
     read_frames(codes, text, d, room, table, &mut block, &mut ends)
 }
 
-// The lines behind the first, whose two words stand in the table; whatever stood there in the table as it was lent. At most `room`
-// words are stored.
+// The lines behind the first, whose two words the table has already; at most `room` words are stored. What the table then holds is
+// told of every table that may have been lent: what stood in its first two words does not matter.
 fn read_frames(
     codes: &[u16; 512],
     text: &[u8],

@@ -15,12 +15,8 @@ pub(crate) fn end(codes: &[u16; 512], text: &[u8], at: usize) -> usize
     requires { ⌜ (now codes ≡ codeTable) × (at ≤ length (now text)) ⌝ }
     ensures { λ r. ⌜ r ≡ behindLine at (countFrom 1 (drop at (now (text .entry)))) ⌝ }
 {
-    if text.len() < 5 {
-        return 0;
-    }
-    let last = text.len() - 5;
     let mut i = at;
-    while i <= last {
+    while 5 <= text.len() - i {
         if !digits::is_word(codes, text, i) {
             return 0;
         }

@@ -33,7 +33,7 @@ fn damage(random: &mut Random, text: &mut Vec<u8>) {
         return;
     }
     let at = random.below(text.len());
-    match random.below(10) {
+    match random.below(11) {
         0 => text.truncate(at),
         1 => {
             text.pop();
@@ -50,7 +50,18 @@ fn damage(random: &mut Random, text: &mut Vec<u8>) {
         6 => text[at] = random.number() as u8,
         7 => text[at] ^= 1 << random.below(8),
         8 => text[at] = text[at].to_ascii_lowercase(),
+        9 => join_lines(&mut text[at..]),
         _ => text[at] = random.pick(b"0123456789ABCDEFabcdefGg@/:` \n\r\t-+"),
+    }
+}
+
+/// One long line, of any number of words, in place of those up to the end; its last line feed stays.
+fn join_lines(text: &mut [u8]) {
+    let end = text.len().saturating_sub(1);
+    for byte in &mut text[..end] {
+        if *byte == b'\n' {
+            *byte = b' ';
+        }
     }
 }
 

@@ -14,18 +14,18 @@ use Rattle.text.proofs.Scanning.{count-turn, count-end, behind-some}
 use Rattle.text.proofs.line.end.Statement.{statement}
 
 abbrev Inv-loop : tie.InvT-loop
-Inv-loop codes text at last i₀ i = (i ≤ length text) × (at + 5 * ((i - at) / 5) ≡ i)
+Inv-loop codes text at i₀ i = (i ≤ length text) × (at + 5 * ((i - at) / 5) ≡ i)
     × (countFrom 1 (drop at text) ≡ countFrom ((i - at) / 5 + 1) (drop i text))
 
 abbrev μ-loop : tie.MeasureT-loop
-μ-loop codes text at last i₀ i = length text - i
+μ-loop codes text at i₀ i = length text - i
 
 -- how many words the line has
 abbrev all : tie.Start Inv-loop μ-loop → ℕ
 all s = countFrom 1 (drop (s .args .at) (now (s .args .text)))
 
 abbrev start : tie.After-is-word Inv-loop μ-loop → tie.Start Inv-loop μ-loop
-start c = c .before .before .before .before .before
+start c = c .before .before .before .before
 
 -- how many words have been read, with this one
 abbrev read : tie.After-is-word Inv-loop μ-loop → ℕ
@@ -42,14 +42,14 @@ no-word c h = let k = c .before .before .loop in
     k .inv .2 ∙ count-turn (read c) (now (start c .args .text)) (k .i) (omega arith) ∙ rw (sym (c .is-word .ensures) ∙ h)
 
 loop-holds : tie.Need-loop-holds Inv-loop μ-loop
-loop-holds c = let a = c .before .before .args in
+loop-holds c = let a = c .before .args in
     let e : (a .at - a .at) / 5 + 1 ≡ 1 = omega arith in
     (omega arith, omega arith, rw e)
 
-returns-3 : tie.Need-returns-3 Inv-loop μ-loop
-returns-3 c =
+returns-2 : tie.Need-returns-2 Inv-loop μ-loop
+returns-2 c =
     let w = c .before .before .before in
-    let e : all (start w) ≡ read w = counted w (not-false (w .is-word .result) (c .before .before .if2 .left)) ∙ rw (eq-eqb _ _ (c .if3 .taken)) in
+    let e : all (start w) ≡ read w = counted w (not-false (w .is-word .result) (c .before .before .if1 .left)) ∙ rw (eq-eqb _ _ (c .if2 .taken)) in
     omega (arith, behind-some (start w .args .at) (all (start w)) (omega arith))
 
 loop-again : tie.Need-loop-again Inv-loop μ-loop
@@ -58,12 +58,12 @@ loop-again c =
     let a = start w .args in
     let i = w .before .before .loop .i in
     let e : all (start w) ≡ countFrom (read w + 1) (drop (i + 5) (now (a .text)))
-    = counted w (not-false (w .is-word .result) (c .before .before .if2 .left)) ∙ rw (ne-eqb _ _ (c .if3 .left)) in
+    = counted w (not-false (w .is-word .result) (c .before .before .if1 .left)) ∙ rw (ne-eqb _ _ (c .if2 .left)) in
     let m : read w + 1 ≡ (i + 5 - a .at) / 5 + 1 = omega arith in
     (omega arith, omega arith, e ∙ ap (λ (n : ℕ). countFrom n (drop (i + 5) (now (a .text)))) m)
 
-returns-4 : tie.Need-returns-4 Inv-loop μ-loop
-returns-4 c = let a = c .before .before .before .before .args in let k = c .before .loop in
+returns-3 : tie.Need-returns-3 Inv-loop μ-loop
+returns-3 c = let a = c .before .before .before .args in let k = c .before .loop in
     rw (k .inv .2 ∙ count-end ((k .i - a .at) / 5 + 1) (now (a .text)) (k .i) (omega arith))
 
 pub end-spec : {M : Type 1} → statement M
@@ -72,13 +72,12 @@ end-spec =
     (tie.spec
     Inv-loop
     μ-loop
-    (λ c. let a = c .before .before .args in rw (count-end 1 (now (a .text)) (a .at) (omega arith)))
-    (λ c. omega arith)
     loop-holds
-    (λ c κs. (c .before .before .before .before .pre .0, omega arith))
-    (λ c. rw (no-word (c .before) (not-true (c .before .is-word .result) (c .if2 .taken))))
+    (λ c. omega arith)
+    (λ c κs. (c .before .before .before .pre .0, omega arith))
+    (λ c. rw (no-word (c .before) (not-true (c .before .is-word .result) (c .if1 .taken))))
     (λ c. omega arith) (λ c. omega arith) (λ c. omega arith)
-    returns-3
+    returns-2
     (λ c. omega arith)
     loop-again
-    returns-4)
+    returns-3)
