@@ -12,12 +12,12 @@ use borrow.Author.Tests.{ne-eqb, ltb-true}
 use Rattle.circuit.specs.Limits.{innerNote, fewestShares, mostShares}
 use Rattle.circuit.specs.Lists.{nth, concatMap, overwrite}
 use Rattle.circuit.specs.Wires.{Wire, Place, named, inner, constant, _placed_}
-use Rattle.circuit.specs.Gadgets.{labels, c, S, inAND, inREF}
+use Rattle.circuit.specs.Gadgets.{c, S, inAND, inREF}
 use Rattle.circuit.specs.Kinds.{Kind}
 use Rattle.circuit.specs.Circuit.{Circuit, size, place, labelOf, newStage, made, extend}
 use Rattle.circuit.specs.Answer.{note, notesAfter}
-use Rattle.circuit.proofs.Base.{cases, AllFrom, all-map, all-of, every-of}
-use Rattle.circuit.proofs.Parts.{label-lt, InAND, InREF, and-parts, ref-parts}
+use Rattle.circuit.proofs.Base.{cases, AllFrom, all-any}
+use Rattle.circuit.proofs.Numbered.{at-all, all-default}
 use Rattle.circuit.specs.Composition.{Fits, fit-IN, fit-CON, fit-XOR, fit-NOT, fit-REG, fit-AND, fit-REF, fit-OUT}
 use Rattle.circuit.proofs.Building.{Lawful, step-all, gadget-all}
 use Rattle.checker.specs.Internal.Notes.{foundIn, shown, Represents}
@@ -71,12 +71,7 @@ abbrev pub Labelled : Circuit → ℕ → Wire → Type 0
 Labelled k x wire = labelOf (wire .place) < k .d
 
 label-old : (k : Circuit) → 0 < k .d → Lawful Labelled k → (x : ℕ) → labelOf (place k x) < k .d
-label-old k least law x = go (k .wires) 0 x law
-  where
-    go : (ws : List Wire) (n x : ℕ) → AllFrom (Labelled k) n ws → labelOf (getD ws x (constant false placed inner 0) .place) < k .d
-    go [] n x h = least
-    go (w ∷ ws) n zero h = h .0
-    go (w ∷ ws) n (suc x) h = go ws (suc n) x (h .1)
+label-old k least law x = all-default (λ wire. labelOf (wire .place) < k .d) (constant false placed inner 0) least 0 (k .wires) x law
 
 -- the notes represent the circuit
 pub represents : (k : Circuit) (notes : List ℕ) → k .d ≤ mostShares → 0 < k .d → Lawful Labelled k → Represents k (notesAfter k notes) (size k)
@@ -115,20 +110,15 @@ notes-more k ops kind notes room =
 -- every frame keeps the law of labels
 label-new : (k : Circuit) (ops : List ℕ) (kind : Kind) → fewestShares ≤ k .d → Lawful Labelled k → Fits k kind ops → AllFrom (Labelled (extend k ops kind)) (size k) (made k ops kind)
 unfolding made newStage
-label-new k _ _ ge h (fit-IN t o) = all-map (Labelled k) _ (size k) (labels (k .d))
-    (all-of _ (λ i. i < k .d) (size k) (labels (k .d)) (λ n i l q. q) (every-of (λ i. i < k .d) (labels (k .d)) (label-lt (k .d))))
+label-new k _ _ ge h (fit-IN t o) = at-all (Labelled k) _ (size k) 0 (k .d) (λ i l. omega arith)
 label-new k _ _ ge h (fit-CON l b t o p q) = (o, tt)
 label-new k _ _ ge h (fit-XOR x y l t p q) = (label-old k (omega arith) h x, tt)
 label-new k _ _ ge h (fit-NOT x l t p) = (label-old k (omega arith) h x, tt)
 label-new k _ _ ge h (fit-REG x l t p o) = (label-old k (omega arith) h x, tt)
 label-new k _ _ ge h (fit-AND ops t len first p q o) =
-    gadget-all (Labelled k) (k .d) (size k) _ _ (inAND (k .d)) c _ _
-    (all-of _ (InAND (k .d)) (size k) (inAND (k .d)) (λ x z l i. omega arith) (and-parts (k .d)))
-    (λ x i l g. g)
+    gadget-all (k .d) (size k) _ _ (inAND (k .d)) c _ _ (Labelled k) (all-any _ (λ x z. omega arith) (size k) (inAND (k .d))) (λ x i l g. g)
 label-new k _ _ ge h (fit-REF ops t len first p o) =
-    gadget-all (Labelled k) (k .d) (size k) _ _ (inREF (k .d)) S _ _
-    (all-of _ (InREF (k .d)) (size k) (inREF (k .d)) (λ x z l i. omega arith) (ref-parts (k .d)))
-    (λ x i l g. g)
+    gadget-all (k .d) (size k) _ _ (inREF (k .d)) S _ _ (Labelled k) (all-any _ (λ x z. omega arith) (size k) (inREF (k .d))) (λ x i l g. g)
 label-new k _ _ ge h (fit-OUT ops t len p) = tt
 
 pub label-step : (k : Circuit) (ops : List ℕ) (kind : Kind) → fewestShares ≤ k .d → Fits k kind ops → Lawful Labelled k → Lawful Labelled (extend k ops kind)

@@ -218,6 +218,14 @@ module _ {A : Type 0} (Q : ℕ → A → Type 0) where
   all-of K n [] f h = tt
   all-of K n (x ∷ xs) f h = (f n x (omega arith) (h .0), all-of K (suc n) xs (λ k y l. f k y (omega arith)) (h .1))
 
+  pub all-every : (K : A → Type 0) (n : ℕ) (xs : List A) → AllFrom (λ x a. K a → Q x a) n xs → Every K xs → AllFrom Q n xs
+  all-every K n [] f h = tt
+  all-every K n (x ∷ xs) f h = (f .0 (h .0), all-every K (suc n) xs (f .1) (h .1))
+
+  pub all-any : ((k : ℕ) (x : A) → Q k x) → (n : ℕ) (xs : List A) → AllFrom Q n xs
+  all-any f n [] = tt
+  all-any f n (x ∷ xs) = (f n x, all-any f (suc n) xs)
+
 pub every-of : (Q : ℕ → Type 0) (xs : List ℕ) → ((i : ℕ) → In i xs → Q i) → Every Q xs
 every-of Q [] f = tt
 every-of Q (x ∷ xs) f = (f x (in-head x xs), every-of Q xs (λ i h. f i (in-tail i x xs h)))

@@ -5,16 +5,17 @@ use mathlib.Core.List.{List, [], _∷_}
 use Prim.Native.Nat.{ℕ, suc, _+_, _≤_, _<_}
 use native.Mathlib.Omega.{arith}
 use lib.Dec.{leb, ltb, eqb}
-use lib.ListN.{length, drop, List·getD-eq-default}
+use lib.ListN.{length, drop}
 use lib.Seq.{drop-cons}
-use borrow.Author.Tests.{ltb-true, ltb-false, leb-true, eqb-true, lt-ltb, le-leb, eq-eqb}
+use borrow.Author.Tests.{ltb-true, leb-true, eqb-true, lt-ltb, le-leb, eq-eqb}
 use Rattle.circuit.specs.Limits.{stageLimit, fewestShares, mostShares}
 use Rattle.circuit.specs.Lists.{nth}
-use Rattle.circuit.specs.Wires.{Place, named, inner, constant, _placed_}
+use Rattle.circuit.specs.Wires.{Place, named, inner}
 use Rattle.circuit.specs.Kinds.{WordRule, shareCount, label, value, stage, random, like, share, before}
 use Rattle.circuit.specs.Circuit.{Circuit, size, place, labelOf, stageShown}
 use Rattle.circuit.specs.Rules.{Judgement, pass, refuse, need, _then_, isNamed, wireRule, wordRule, wordsRule}
-use Rattle.circuit.proofs.Base.{cases, and-left, and-right, and-both, AllFrom}
+use Rattle.circuit.proofs.Building.{named-made}
+use Rattle.circuit.proofs.Base.{and-left, and-right, and-both, AllFrom}
 
 pub never : {A : Type 0} (rule frame word : ℕ) → refuse rule frame word ≡ pass → A
 never rule frame word h = absurd (let z : _≡_ {A = ℕ} 0 1 = cc in omega arith)
@@ -40,12 +41,6 @@ need-then b rule frame word j h = let (p, q) = then-pass (need b rule frame word
 
 pub then-need : (b : Bool) (rule frame word : ℕ) (j : Judgement) → b ≡ true → j ≡ pass → (need b rule frame word then j) ≡ pass
 then-need b rule frame word j p q = rw (p, q)
-
--- a wire that is named has been made
-pub named-made : (k : Circuit) (x l t : ℕ) → place k x ≡ named l t → x < size k
-named-made k x l t h = cases (ltb x (size k)) (ltb-true x (size k))
-    (λ e. let z : place k x ≡ inner 0 = ap (λ wire. wire .place) (List·getD-eq-default (k .wires) (constant false placed inner 0) (ltb-false x (size k) e)) in
-    absurd (let y : _≡_ {A = ℕ} 0 1 = cc in omega arith))
 
 named-place : (p : Place) → isNamed p ≡ true → p ≡ named (labelOf p) (stageShown p)
 named-place (named l t) h = refl

@@ -10,7 +10,7 @@ use lib.Dec.{eqb, ltb}
 use lib.ListN.{length}
 use Rattle.circuit.specs.Lists.{concatMap}
 use Rattle.circuit.specs.Gadgets.{Part, r, R, B, m, M, u, U, v, V′, w, W, c, s, S, same, labels, above, others, sorted, inAND, inREF, index}
-use Rattle.circuit.proofs.Base.{cases, not-true, eqb-sym, ltb-ne, ltb-other, In, in-head, in-tail, in-range, range-in, in-keep, filter-in, Has, has-left, has-right, has-each, has-map, Every, every-append, every-map, every-each, AllFrom, all-imp}
+use Rattle.circuit.proofs.Base.{cases, not-true, eqb-sym, ltb-ne, ltb-other, In, in-head, in-tail, in-range, range-in, in-keep, filter-in, Has, has-left, has-right, has-each, has-map, Every, every-append, every-map, every-each, every-of, AllFrom, all-imp}
 
 -- the wire at the index of a part is that part's
 pub index-at : (Q : ℕ → Part → Type 0) (n : ℕ) (ps : List Part) (p : Part) → Has p ps → AllFrom Q n ps → Q (n + index p ps) p
@@ -95,6 +95,9 @@ other {d} {i} {j} o = record { fst = o .snd; snd = o .fst; apart = eqb-sym j i �
 
 pub label-lt : (d i : ℕ) → In i (labels d) → i < d
 label-lt d i h = omega (arith, range-in i 0 d h)
+
+pub labels-lt : (d : ℕ) → Every (λ i. i < d) (labels d)
+labels-lt d = every-of (λ i. i < d) (labels d) (label-lt d)
 
 pub in-labels : (d i : ℕ) → i < d → In i (labels d)
 in-labels d i h = in-range i 0 d (omega arith) (omega arith)

@@ -1,23 +1,20 @@
 -- AND: every probed wire, and every output with a label among the share indices behind, looks the same.
 use mathlib.Core.Path.{_≡_, refl, sym, ap, ap₂, _∙_}
 use mathlib.Core.Bool.{Bool, true, false, not, _&&_, true≢false}
-use mathlib.Core.List.{List, [], _++_, map}
-use mathlib.Core.Logic.{inl, inr}
+use mathlib.Core.List.{List, map}
 use Prim.Native.Nat.{ℕ, _+_, _≤_, _<_}
 use native.Mathlib.Omega.{arith}
-use lib.ListN.{length}
 use lib.Dec.{ltb}
-use Rattle.circuit.specs.Lists.{_⊕_, concatMap}
-use Rattle.circuit.specs.Wires.{named, inner}
-use Rattle.circuit.specs.Gadgets.{Part, r, R, B, m, M, u, U, v, V′, w, W, c, labels, above, others, sorted, delay, inAND}
-use Rattle.circuit.proofs.Base.{no-flip, cases, ltb-other, In, Has, has-left, every-append, every-map, AllFrom}
-use Rattle.circuit.proofs.Parts.{index-lt, Before, before-append, before-each, More, Ready, Pair, other, label-lt, above-pair, others-pair, InAND, is-r, is-R, is-B, is-m, is-M, is-u, is-U, is-v, is-V, is-w, is-W, and-parts, and-has, cell1, cell2, cell3, sec1, sec2, sec3, has1, sorted-at}
+use Rattle.circuit.specs.Lists.{_⊕_}
+use Rattle.circuit.specs.Gadgets.{Part, r, R, B, m, M, u, U, v, V′, w, W, c, labels, others, sorted, inAND}
+use Rattle.circuit.proofs.Base.{no-flip, cases, ltb-other, In, every-append, every-map, AllFrom, all-of, all-any}
+use Rattle.circuit.proofs.Parts.{Pair, other, others-pair, InAND, is-r, is-R, is-B, is-m, is-M, is-u, is-U, is-v, is-V, is-w, is-W, and-parts, and-has, sorted-at}
 use Rattle.secrecy.proofs.Roles.{Role, lone, pair, role}
 use Rattle.secrecy.proofs.Taken.{seen-both}
-use Rattle.secrecy.proofs.Coupled.{Values, undecided, Shift, Agree, EarlyStep}
+use Rattle.secrecy.proofs.Coupled.{Values, Shift, Decided}
 use Rattle.secrecy.proofs.Same.{Two, Same, settle, carry}
 use Rattle.secrecy.proofs.Flips.{delta, delta-swap, delta-none, delta-half, delta-u, delta-w, delta-agree}
-use Rattle.secrecy.proofs.Sites.{Site, number, gateOf, entry, lift, Known, Good, entriesAt, out, ins, out-ins, touched, ProbedRole, PartFact, OutFact, look, good, early-at}
+use Rattle.secrecy.proofs.Sites.{Site, number, Known, Good, entriesAt, entries-all, out, ins, out-ins, touched, ProbedRole, PartFact, OutFact, look, good}
 
 -- an AND of d shares, from the wire `first` on
 module _ (isProbed : ℕ → Bool) (d first : ℕ) (a b : ℕ → ℕ) (start end : ℕ) (behind : List ℕ) where
@@ -175,15 +172,9 @@ module _ (isProbed : ℕ → Bool) (d first : ℕ) (a b : ℕ → ℕ) (start en
     pub and-good : AllFrom (Good T isProbed behind) first (entriesAt site)
     and-good = good site T flips (InAND d) (and-parts d) inner-same c-same known
 
-  -- every part is made behind those it uses, and flips are decided by the wires a and b
+  -- flips are decided by the wires a and b
   module _ (la : (i : ℕ) → i < d → a i < first) (lb : (i : ℕ) → i < d → b i < first) where
-    abbrev E : ℕ → Part → Type 0
-    E x p = EarlyStep x (lift flips (entry (gateOf site p) (inner (start + delay p)) (role p)))
-
-    abbrev Q : List Part → Part → Type 0
-    Q = Ready E first (inAND d)
-
-    pairs : (i j x : ℕ) → first ≤ x → Pair d i j → (f g f′ g′ : Values) → Agree x f g → Agree x f′ g′ → flip i j f f′ ≡ flip i j g g′
+    pairs : (i j x : ℕ) → first ≤ x → Pair d i j → Decided x (flip i j)
     pairs i j x l o f g f′ g′ h h′ =
         let ai = la i (o .fst) in
         let aj = la j (o .snd) in
@@ -191,65 +182,18 @@ module _ (isProbed : ℕ → Bool) (d first : ℕ) (a b : ℕ → ℕ) (start en
         let bj = lb j (o .snd) in
         delta-agree (ins site) (out site) (touched site true) a b i j f g f′ g′ (h (a i) (omega arith)) (h (a j) (omega arith)) (h (b i) (omega arith)) (h (b j) (omega arith)) (h′ (b i) (omega arith)) (h′ (b j) (omega arith))
 
-    made1 : Before Q [] (sec1 d)
-    made1 = before-each Q [] (labels d) (λ i. concatMap (above d i) (cell1 i)) (λ i h pre k. before-each Q pre (above d i) (cell1 i) (λ j h′ more k′.
-        let (o, l) = above-pair d i j h h′ in (
-          (λ x n g. record { low = tt; decided = pairs i j x n o }),
-          ((λ x n g. record { low = (g (r i j) (inl refl), tt); decided = pairs i j x n o }), tt),
-        )))
+    inner-decided : (x : ℕ) (p : Part) → first ≤ x → InAND d p → Decided x (flips (role p))
+    inner-decided x _ n (is-r i j o l) = pairs i j x n o
+    inner-decided x _ n (is-R i j o l) = pairs i j x n o
+    inner-decided x _ n (is-B i l) = λ f g f′ g′ h h′. refl
+    inner-decided x _ n (is-m i l) = λ f g f′ g′ h h′. refl
+    inner-decided x _ n (is-M i l) = λ f g f′ g′ h h′. refl
+    inner-decided x _ n (is-u i j o) = pairs i j x n o
+    inner-decided x _ n (is-U i j o) = pairs i j x n o
+    inner-decided x _ n (is-v i j o) = pairs j i x n (other o)
+    inner-decided x _ n (is-V i j o) = pairs j i x n (other o)
+    inner-decided x _ n (is-w i j o) = pairs i j x n o
+    inner-decided x _ n (is-W i j o) = pairs i j x n o
 
-    made2 : (pre : List Part) → Before Q pre (sec2 d)
-    made2 pre = before-each Q pre (labels d) cell2 (λ i h more k.
-        let l = label-lt d i h in (
-          (λ x n g. record { low = (omega (arith, lb i l), tt); decided = undecided x }),
-          (
-            (λ x n g. record { low = (omega (arith, la i l), (g (B i) (inl refl), tt)); decided = undecided x }),
-            ((λ x n g. record { low = (g (m i) (inl refl), tt); decided = undecided x }), tt),
-          ),
-        ))
-
-    made3 : (pre : List Part) → More Q (sec1 d) pre → Before Q pre (sec3 d)
-    made3 pre up = before-each Q pre (labels d) (λ i. concatMap (others d i) (cell3 i)) (λ i h more k. before-each Q more (others d i) (cell3 i) (λ j h′ most k′.
-        let o = others-pair d i j (label-lt d i h) h′ in
-        let hr : Has (sorted r i j) most = k′ (sorted r i j) (k (sorted r i j) (up (sorted r i j) (sorted-at (λ i j p. Has p (sec1 d)) r d i j o (λ i j o l. has1 d (r i j) i j o l (inl refl)) (λ x z. z)))) in
-        let hR : Has (sorted R i j) most = k′ (sorted R i j) (k (sorted R i j) (up (sorted R i j) (sorted-at (λ i j p. Has p (sec1 d)) R d i j o (λ i j o l. has1 d (R i j) i j o l (inr (inl refl))) (λ x z. z)))) in (
-          (λ x n g. record { low = (omega (arith, la i (o .fst)), (g (sorted R i j) hR, tt)); decided = pairs i j x n o }),
-          (
-            (λ x n g. record { low = (g (u i j) (inl refl), tt); decided = pairs i j x n o }),
-            (
-              (λ x n g. record { low = (omega (arith, lb j (o .snd)), (g (sorted r i j) (inr (inr hr)), tt)); decided = pairs j i x n (other o) }),
-              (
-                (λ x n g. record { low = (g (v i j) (inl refl), tt); decided = pairs j i x n (other o) }),
-                (
-                  (λ x n g. record { low = (omega (arith, la i (o .fst)), (g (V′ i j) (inl refl), tt)); decided = pairs i j x n o }),
-                  ((λ x n g. record { low = (g (w i j) (inl refl), tt); decided = pairs i j x n o }), tt),
-                ),
-              ),
-            ),
-          ),
-        )))
-
-    inner-early : Before Q [] (inAND d)
-    unfolding inAND
-    inner-early = before-append Q [] (sec1 d ++ sec2 d) (sec3 d)
-        (before-append Q [] (sec1 d) (sec2 d) made1 (λ more f g. made2 more))
-        (λ more f g. made3 more (λ q z. g q (has-left q (sec1 d) (sec2 d) z)))
-
-    low : {p : Part} (x : ℕ) → first + length (inAND d) ≤ x → InAND d p → number site p < x
-    low {p} x n o = omega (arith, index-lt (inAND d) p (and-has d o))
-
-    output-early : (x i : ℕ) → first + length (inAND d) ≤ x → i < d → EarlyStep x (lift flips (entry (gateOf site (c i)) (named i end) (lone i)))
-    output-early x i n l =
-        let L : ℕ → Type 0 = λ y. y < x in
-        record {
-          low = (
-            low x n (is-M i l),
-            every-append L (map (λ j. number site (U i j)) (others d i)) (map (λ j. number site (W i j)) (others d i))
-                (every-map L (λ j. number site (U i j)) (others d i) (λ j z. low x n (is-U i j (others-pair d i j l z))))
-                (every-map L (λ j. number site (W i j)) (others d i) (λ j z. low x n (is-W i j (others-pair d i j l z)))),
-          );
-          decided = undecided x;
-        }
-
-    pub and-early : AllFrom (λ x e. EarlyStep x (lift flips e)) first (entriesAt site)
-    and-early = early-at site flips inner-early output-early
+    pub and-decided : AllFrom (λ x e. Decided x (flips (e .role))) first (entriesAt site)
+    and-decided = entries-all site (λ x e. Decided x (flips (e .role))) (all-of _ (InAND d) first (inAND d) inner-decided (and-parts d)) (all-any _ (λ x i f g f′ g′ h h′. refl) _ (labels d))

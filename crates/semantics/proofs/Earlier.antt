@@ -12,12 +12,11 @@ use Rattle.circuit.specs.Gadgets.{Part, r, R, B, m, u, U, v, V′, w, W, c, s, 
 use Rattle.circuit.specs.Kinds.{Kind}
 use Rattle.circuit.specs.Circuit.{Circuit, size, empty, made}
 use Rattle.circuit.specs.Rules.{checked}
-use Rattle.circuit.proofs.Base.{In, in-head, in-tail, Has, has-left, Every, every-append, every-map, every-of, AllFrom, all-map, all-of}
-use Rattle.circuit.proofs.Numbered.{all-get}
+use Rattle.circuit.proofs.Base.{In, in-head, in-tail, Has, has-left, Every, every-append, every-map, AllFrom}
+use Rattle.circuit.proofs.Numbered.{all-get, at-all}
 use Rattle.circuit.proofs.Parts.{index-lt, Before, before-append, before-each, More, Ready, ordered, label-lt, others-pair, InAND, is-M, is-U, is-W, and-has, cell1, cell2, cell3, sec1, sec2, sec3, has1, added, fresh1, fresh-has, ref-has, sorted-at}
 use Rattle.circuit.specs.Composition.{Frame, Fits, fit-IN, fit-CON, fit-XOR, fit-NOT, fit-REG, fit-AND, fit-REF, fit-OUT, AllFit, build}
-use Rattle.circuit.proofs.Building.{wireAt, gadget-all, Lawful, build-all}
-use Rattle.circuit.proofs.Judging.{named-made}
+use Rattle.circuit.proofs.Building.{named-made, wireAt, gadget-all, Lawful, build-all}
 use Rattle.circuit.proofs.Exact.{Accepted}
 use Rattle.semantics.specs.Probes.{operands}
 use Rattle.semantics.proofs.Randoms.{randomsIn, build-randoms}
@@ -83,7 +82,7 @@ module _ (d first : ℕ) (a b : ℕ → ℕ) (la : (i : ℕ) → i < d → a i <
       )
 
   pub and-early : AllFrom (λ x wire. OperandsBefore x (wire .gate)) first (gadget d first a b (inAND d) c start end)
-  and-early = gadget-all (λ x wire. OperandsBefore x (wire .gate)) d first a b (inAND d) c start end
+  and-early = gadget-all d first a b (inAND d) c start end (λ x wire. OperandsBefore x (wire .gate))
       (ordered (λ x p. OperandsBefore x (gate d a b wireA p)) first (inAND d) and-inner) and-output
 
   -- REF
@@ -114,7 +113,7 @@ module _ (d first : ℕ) (a b : ℕ → ℕ) (la : (i : ℕ) → i < d → a i <
   ref-inner = before-append QR [] (fresh1 d) (map s (labels d)) drawn (λ more f g. sums (labels d) more (label-lt d) g)
 
   pub ref-early : AllFrom (λ x wire. OperandsBefore x (wire .gate)) first (gadget d first a b (inREF d) S start end)
-  ref-early = gadget-all (λ x wire. OperandsBefore x (wire .gate)) d first a b (inREF d) S start end
+  ref-early = gadget-all d first a b (inREF d) S start end (λ x wire. OperandsBefore x (wire .gate))
       (ordered (λ x p. OperandsBefore x (gate d a b wireR p)) first (inREF d) ref-inner)
       (λ x i n l. (omega (arith, index-lt (inREF d) (s i) (ref-has d (added i l))), tt))
 
@@ -124,8 +123,7 @@ EarlyIn k x wire = OperandsBefore x (wire .gate)
 
 pub early-new : (k : Circuit) (ops : List ℕ) (kind : Kind) → Fits k kind ops → AllFrom (λ x wire. OperandsBefore x (wire .gate)) (size k) (made k ops kind)
 unfolding made
-early-new k _ _ (fit-IN t o) = all-map (EarlyIn k) _ (size k) (labels (k .d))
-    (all-of _ (λ i. i < k .d) (size k) (labels (k .d)) (λ n i l q. tt) (every-of (λ i. i < k .d) (labels (k .d)) (label-lt (k .d))))
+early-new k _ _ (fit-IN t o) = at-all (EarlyIn k) _ (size k) 0 (k .d) (λ i l. tt)
 early-new k _ _ (fit-CON l b t o p q) = (tt, tt)
 early-new k _ _ (fit-XOR x y l t p q) = ((named-made k x l t p, (named-made k y l t q, tt)), tt)
 early-new k _ _ (fit-NOT x l t p) = ((named-made k x l t p, tt), tt)
