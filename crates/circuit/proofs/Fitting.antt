@@ -39,16 +39,16 @@ kind-known REF = refl
 kind-known OUT = refl
 
 -- lists of one, two and three words
-one-word : (xs : List ℕ) → length xs ≡ 1 → xs ≡ nth xs 0 ∷ []
+pub one-word : (xs : List ℕ) → length xs ≡ 1 → xs ≡ nth xs 0 ∷ []
 one-word [] e = absurd (omega arith)
 one-word (x ∷ []) e = refl
 one-word (x ∷ y ∷ xs) e = absurd (omega arith)
 
-two-words : (xs : List ℕ) → length xs ≡ 2 → xs ≡ nth xs 0 ∷ nth xs 1 ∷ []
+pub two-words : (xs : List ℕ) → length xs ≡ 2 → xs ≡ nth xs 0 ∷ nth xs 1 ∷ []
 two-words [] e = absurd (omega arith)
 two-words (x ∷ xs) e = ap (λ l. x ∷ l) (one-word xs (omega arith))
 
-three-words : (xs : List ℕ) → length xs ≡ 3 → xs ≡ nth xs 0 ∷ nth xs 1 ∷ nth xs 2 ∷ []
+pub three-words : (xs : List ℕ) → length xs ≡ 3 → xs ≡ nth xs 0 ∷ nth xs 1 ∷ nth xs 2 ∷ []
 three-words [] e = absurd (omega arith)
 three-words (x ∷ xs) e = ap (λ l. x ∷ l) (two-words xs (omega arith))
 

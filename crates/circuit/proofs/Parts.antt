@@ -193,6 +193,15 @@ module _ (d : ℕ) where
   and-has (is-w i j o) = right (w i j) (has3 (w i j) i j o (inr (inr (inr (inr (inl refl))))))
   and-has (is-W i j o) = right (W i j) (has3 (W i j) i j o (inr (inr (inr (inr (inr (inl refl)))))))
 
+-- the parts that an output c(i) adds up
+pub output-every : (Q : ℕ → Type 0) (wire : Part → ℕ) {d i : ℕ} → i < d → Q (wire (M i)) → ((j : ℕ) → Pair d i j → Q (wire (U i j))) → ((j : ℕ) → Pair d i j → Q (wire (W i j)))
+    → Every Q (wire (M i) ∷ (map (λ j. wire (U i j)) (others d i) ++ map (λ j. wire (W i j)) (others d i)))
+output-every Q wire {d} {i} l h us ws = (
+  h,
+  every-append Q (map (λ j. wire (U i j)) (others d i)) (map (λ j. wire (W i j)) (others d i))
+      (every-map Q (λ j. wire (U i j)) (others d i) (λ j z. us j (others-pair d i j l z))) (every-map Q (λ j. wire (W i j)) (others d i) (λ j z. ws j (others-pair d i j l z))),
+)
+
 -- the parts that REF makes inside
 pub data InREF (d : ℕ) : Part → Type 0 where
   fresh : (i j : ℕ) → Pair d i j → ltb i j ≡ true → InREF d (r i j)

@@ -1,6 +1,6 @@
 -- REF: every probed wire, and every output with a label among the share indices behind, looks the same; no bit is flipped.
 use mathlib.Core.Path.{refl, sym, _∙_}
-use mathlib.Core.Bool.{Bool, false, true≢false}
+use mathlib.Core.Bool.{Bool, false}
 use mathlib.Core.List.{List}
 use Prim.Native.Nat.{ℕ, _<_}
 use Rattle.circuit.specs.Gadgets.{Part, r, s, S, others, sorted, inREF}
@@ -8,7 +8,7 @@ use Rattle.circuit.proofs.Base.{no-flip, In, every-map, AllFrom, all-any}
 use Rattle.circuit.proofs.Parts.{others-pair, InREF, fresh, added, ref-parts, ref-has, sorted-at}
 use Rattle.secrecy.proofs.Roles.{Role, role}
 use Rattle.secrecy.proofs.Coupled.{Shift, Decided}
-use Rattle.secrecy.proofs.Same.{Two, Same, settle, carry}
+use Rattle.secrecy.proofs.Same.{Two, Same, stop-same, carry}
 use Rattle.secrecy.proofs.Sites.{Site, Entry, number, Known, Good, entriesAt, out, ins, out-ins, ProbedRole, PartFact, OutFact, look, good}
 
 -- no bit is flipped
@@ -35,7 +35,7 @@ module _ (isProbed : ℕ → Bool) (d first : ℕ) (a : ℕ → ℕ) (start end 
     fact {p} o = look refsite T still known p (ref-has d o)
 
     r-same : (x i j : ℕ) → Seen x (r i j) → Same T x
-    r-same x i j h = settle h (sym (h .bits .flipped refl ∙ no-flip (f x))) (λ z. absurd (true≢false z))
+    r-same x i j h = stop-same h refl (sym (h .bits .flipped refl ∙ no-flip (f x)))
 
     s-same : (x i : ℕ) → i < d → Seen x (s i) → In i (ins refsite) → Same T x
     s-same x i l h q = carry h refl refl (

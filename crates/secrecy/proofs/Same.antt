@@ -1,6 +1,6 @@
 -- Wires that look the same in two evaluations: the wire's value, and the values of the stops that a probe on it reads.
 use mathlib.Core.Path.{_≡_, sym, subst, _∙_}
-use mathlib.Core.Bool.{Bool, false, cond, false≢true}
+use mathlib.Core.Bool.{Bool, true, false, cond, false≢true}
 use mathlib.Core.List.{List, [], _∷_}
 use Prim.Native.Nat.{ℕ}
 use lib.Dec.{eqb}
@@ -35,11 +35,13 @@ pub settle : {T : Two} {g : Gate} {δ : Shift} {x : ℕ} → Fact T g δ x → T
 settle {T} {g} {δ} {x} h e ops = record {
   valued = e;
   stopped = λ s i. cases (isStop g)
-      (λ k. let i′ : In s (cond (isStop g) (x ∷ []) (concatMap (operands g) (T .stops))) = subst (In s) (h .reading) i in
-      let z : s ≡ x = or-cases (eqb s x) false (rw k at i′) (eqb-true s x) (λ q. absurd (false≢true q)) in rw z e)
-      (λ k. let i′ : In s (cond (isStop g) (x ∷ []) (concatMap (operands g) (T .stops))) = subst (In s) (h .reading) i in
-      in-each s (T .stops) (operands g) (rw k at i′) (λ y p q. (every-in (Same T) (operands g) (ops k) y p) .stopped s q));
+      (λ k. let z : s ≡ x = or-cases (eqb s x) false (rw (h .reading, k) at i) (eqb-true s x) (λ q. absurd (false≢true q)) in rw z e)
+      (λ k. in-each s (T .stops) (operands g) (rw (h .reading, k) at i) (λ y p q. (every-in (Same T) (operands g) (ops k) y p) .stopped s q));
 }
+
+-- a stop with the same value
+pub stop-same : {T : Two} {g : Gate} {δ : Shift} {x : ℕ} → Fact T g δ x → isStop g ≡ true → T .f x ≡ T .f′ x → Same T x
+stop-same h k e = settle h e (clash k)
 
 plain-gate : (g : Gate) → isInput g ≡ false → isRandom g ≡ false → (T : Two) (δ : Shift) (x : ℕ) → Fact T g δ x → Every (Same T) (operands g) → T .f x ≡ T .f′ x
 plain-gate g s k T δ x h ops = h .bits .left k

@@ -12,9 +12,9 @@ use Rattle.circuit.specs.Gadgets.{Part, r, R, B, m, u, U, v, V′, w, W, c, s, 
 use Rattle.circuit.specs.Kinds.{Kind}
 use Rattle.circuit.specs.Circuit.{Circuit, size, empty, made}
 use Rattle.circuit.specs.Rules.{checked}
-use Rattle.circuit.proofs.Base.{In, in-head, in-tail, Has, has-left, Every, every-append, every-map, AllFrom}
+use Rattle.circuit.proofs.Base.{In, in-head, in-tail, Has, has-left, Every, every-map, AllFrom}
 use Rattle.circuit.proofs.Numbered.{all-get, at-all}
-use Rattle.circuit.proofs.Parts.{index-lt, Before, before-append, before-each, More, Ready, ordered, label-lt, others-pair, InAND, is-M, is-U, is-W, and-has, cell1, cell2, cell3, sec1, sec2, sec3, has1, added, fresh1, fresh-has, ref-has, sorted-at}
+use Rattle.circuit.proofs.Parts.{index-lt, Before, before-append, before-each, More, Ready, ordered, label-lt, others-pair, output-every, InAND, is-M, is-U, is-W, and-has, cell1, cell2, cell3, sec1, sec2, sec3, has1, added, fresh1, fresh-has, ref-has, sorted-at}
 use Rattle.circuit.specs.Composition.{Frame, Fits, fit-IN, fit-CON, fit-XOR, fit-NOT, fit-REG, fit-AND, fit-REF, fit-OUT, AllFit, build}
 use Rattle.circuit.proofs.Building.{named-made, wireAt, gadget-all, Lawful, build-all}
 use Rattle.circuit.proofs.Exact.{Accepted}
@@ -73,13 +73,7 @@ module _ (d first : ℕ) (a b : ℕ → ℕ) (la : (i : ℕ) → i < d → a i <
   low {p} x n o = omega (arith, index-lt (inAND d) p (and-has d o))
 
   and-output : (x i : ℕ) → first + length (inAND d) ≤ x → i < d → OperandsBefore x (gate d a b wireA (c i))
-  and-output x i n l =
-      let L : ℕ → Type 0 = λ y. y < x in (
-        low x n (is-M i l),
-        every-append L (map (λ j. wireA (U i j)) (others d i)) (map (λ j. wireA (W i j)) (others d i))
-            (every-map L (λ j. wireA (U i j)) (others d i) (λ j z. low x n (is-U i j (others-pair d i j l z))))
-            (every-map L (λ j. wireA (W i j)) (others d i) (λ j z. low x n (is-W i j (others-pair d i j l z)))),
-      )
+  and-output x i n l = output-every (λ y. y < x) wireA l (low x n (is-M i l)) (λ j o. low x n (is-U i j o)) (λ j o. low x n (is-W i j o))
 
   pub and-early : AllFrom (λ x wire. OperandsBefore x (wire .gate)) first (gadget d first a b (inAND d) c start end)
   and-early = gadget-all d first a b (inAND d) c start end (λ x wire. OperandsBefore x (wire .gate))

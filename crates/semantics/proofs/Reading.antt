@@ -13,9 +13,9 @@ use Rattle.circuit.specs.Wires.{Gate, constant, sum, inner, Wire, _placed_}
 use Rattle.circuit.specs.Gadgets.{Part, M, U, W, c, others, gate, inAND, index}
 use Rattle.circuit.specs.Kinds.{AND}
 use Rattle.circuit.specs.Circuit.{Circuit, size, empty, made, extend}
-use Rattle.circuit.proofs.Base.{cases, or-cases, or-left, In, in-tail, in-append, in-each, Sub, Every, every-append, every-map, AllFrom, all-append}
+use Rattle.circuit.proofs.Base.{cases, or-cases, or-left, In, in-tail, in-append, in-each, Sub, Every, AllFrom, all-append}
 use Rattle.circuit.proofs.Numbered.{all-get}
-use Rattle.circuit.proofs.Parts.{index-lt, others-pair, InAND, is-M, is-U, is-W, and-has}
+use Rattle.circuit.proofs.Parts.{index-lt, output-every, InAND, is-M, is-U, is-W, and-has}
 use Rattle.circuit.proofs.Sizes.{gadget-size}
 use Rattle.circuit.specs.Composition.{Frame, Fits, AllFit, next, build}
 use Rattle.circuit.proofs.Building.{Lawful, build-more, build-append, build-shares, fit-split, part-at, output-at}
@@ -124,16 +124,11 @@ module _ (k : Circuit) (ops : List ℕ) (early : Lawful EarlyIn k) (fits : Fits 
 
   and-reads : (i : ℕ) → i < d → probe behind (size k + length (inAND d) + i) ≡ outputStops d (size k) i
   and-reads i l =
-      let Q : ℕ → Type 0 = λ y. probe behind y ≡ y ∷ [] in
       let e = output-gate i l in
       gate-reads behind early-behind nothing (size k + length (inAND d) + i) (omega (arith, behind-size)) (ap isStop e)
       ∙ ap (λ g. concatMap (operands g) (probe behind)) e
-      ∙ selves (probe behind) (outputStops d (size k) i) (
-        register-reads (is-M i l) refl,
-        every-append Q (map (λ j. wire (U i j)) (others d i)) (map (λ j. wire (W i j)) (others d i))
-            (every-map Q (λ j. wire (U i j)) (others d i) (λ j z. register-reads (is-U i j (others-pair d i j l z)) refl))
-            (every-map Q (λ j. wire (W i j)) (others d i) (λ j z. register-reads (is-W i j (others-pair d i j l z)) refl)),
-      )
+      ∙ selves (probe behind) (outputStops d (size k) i) (output-every (λ y. probe behind y ≡ y ∷ []) wire l
+      (register-reads (is-M i l) refl) (λ j o. register-reads (is-U i j o) refl) (λ j o. register-reads (is-W i j o) refl))
 
   -- whatever frames come after it
   later-reads : (fs : List Frame) (i : ℕ) → i < d → probe (build (extend k ops AND) fs .wires) (size k + length (inAND d) + i) ≡ outputStops d (size k) i

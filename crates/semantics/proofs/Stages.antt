@@ -11,9 +11,9 @@ use Rattle.circuit.specs.Gadgets.{Part, r, R, U, W, c, s, S, others, sorted, ga
 use Rattle.circuit.specs.Kinds.{Kind, AND, REF}
 use Rattle.circuit.specs.Circuit.{Circuit, size, empty, place, stageShown, stageOf, newStage, made, extend}
 use Rattle.circuit.specs.Rules.{checked}
-use Rattle.circuit.proofs.Base.{Every, every-append, every-map, every-imp, AllFrom, all-of, all-imp, all-zip}
+use Rattle.circuit.proofs.Base.{Every, every-map, every-imp, AllFrom, all-of, all-imp, all-zip}
 use Rattle.circuit.proofs.Numbered.{all-get, at-all}
-use Rattle.circuit.proofs.Parts.{others-pair, InAND, is-r, is-R, is-B, is-m, is-M, is-u, is-U, is-v, is-V, is-w, is-W, and-parts, and-has, InREF, fresh, added, ref-parts, ref-has, sorted-at}
+use Rattle.circuit.proofs.Parts.{others-pair, output-every, InAND, is-r, is-R, is-B, is-m, is-M, is-u, is-U, is-v, is-V, is-w, is-W, and-parts, and-has, InREF, fresh, added, ref-parts, ref-has, sorted-at}
 use Rattle.circuit.specs.Composition.{Frame, Fits, fit-IN, fit-CON, fit-XOR, fit-NOT, fit-REG, fit-AND, fit-REF, fit-OUT, AllFit, build}
 use Rattle.circuit.proofs.Building.{named-made, wireAt, gadget-all, part-at, place-old, row-first, Lawful, build-all}
 use Rattle.circuit.proofs.Exact.{Accepted}
@@ -60,13 +60,8 @@ module _ (d : ℕ) (a b : ℕ → ℕ) (wire : Part → ℕ) (stage : ℕ → �
     and-inner (is-W i j o) = (omega (arith, known _ (is-w i j o)), tt)
 
     and-output : (end i : ℕ) → end ≡ start + 2 → i < d → Follows stage end (gate d a b wire (c i))
-    and-output end i e l =
-        let Q : ℕ → Type 0 = λ y. end ≡ 0 + stage y in (
-          omega (arith, known _ (is-M i l)),
-          every-append Q (map (λ j. wire (U i j)) (others d i)) (map (λ j. wire (W i j)) (others d i))
-              (every-map Q (λ j. wire (U i j)) (others d i) (λ j z. omega (arith, known _ (is-U i j (others-pair d i j l z)))))
-              (every-map Q (λ j. wire (W i j)) (others d i) (λ j z. omega (arith, known _ (is-W i j (others-pair d i j l z))))),
-        )
+    and-output end i e l = output-every (λ y. end ≡ 0 + stage y) wire l (omega (arith, known _ (is-M i l)))
+        (λ j o. omega (arith, known _ (is-U i j o))) (λ j o. omega (arith, known _ (is-W i j o)))
 
   -- REF: its wires stand at `start`
   module _ (sa : (i : ℕ) → i < d → stage (a i) ≡ start) (known : (p : Part) → InREF d p → stage (wire p) ≡ start + delay p) where
