@@ -40,10 +40,6 @@ and-right false b h = absurd (false≢true h)
 pub and-both : (a b : Bool) → a ≡ true → b ≡ true → (a && b) ≡ true
 and-both a b p q = rw (p, q)
 
-pub not-true : (b : Bool) → not b ≡ true → b ≡ false
-not-true true h = absurd (false≢true h)
-not-true false h = refl
-
 -- bits
 pub no-flip : (a : Bool) → (a ⊕ false) ≡ a
 no-flip true = refl
@@ -229,8 +225,3 @@ module _ {A : Type 0} (Q : ℕ → A → Type 0) where
 pub every-of : (Q : ℕ → Type 0) (xs : List ℕ) → ((i : ℕ) → In i xs → Q i) → Every Q xs
 every-of Q [] f = tt
 every-of Q (x ∷ xs) f = (f x (in-head x xs), every-of Q xs (λ i h. f i (in-tail i x xs h)))
-
-pub map-two : {A B C D : Type 0} (k : C → D) (f : A → C) (g : B → C) (xs : List A) (ys : List B) → map k (map f xs ++ map g ys) ≡ map (λ x. k (f x)) xs ++ map (λ y. k (g y)) ys
-map-two k f g [] [] = refl
-map-two k f g [] (y ∷ ys) = ap (λ l. k (g y) ∷ l) (map-two k f g [] ys)
-map-two k f g (x ∷ xs) ys = ap (λ l. k (f x) ∷ l) (map-two k f g xs ys)

@@ -1,7 +1,7 @@
 -- The frames: every probed wire, and every named wire whose label is among the share indices behind, looks the same.
 use mathlib.Core.Path.{_≡_, refl, sym, ap, subst, _∙_}
 use mathlib.Core.Bool.{Bool, true, false}
-use mathlib.Core.List.{List, [], _∷_, map}
+use mathlib.Core.List.{List, [], _∷_, map, map-map}
 use Prim.Native.Nat.{ℕ, zero, suc, _+_, _*_, _<_}
 use native.Mathlib.Omega.{arith}
 use lib.ListN.{length, getD}
@@ -10,7 +10,7 @@ use Rattle.circuit.specs.Wires.{Gate, input, constant, reg, inverse, sum, Place
 use Rattle.circuit.specs.Gadgets.{labels}
 use Rattle.circuit.specs.Kinds.{Kind, HEAD, IN, CON, XOR, NOT, REG, AND, REF, OUT}
 use Rattle.circuit.specs.Circuit.{Circuit, size, place, labelOf, stageShown, isSet, newStage, made}
-use Rattle.circuit.proofs.Base.{In, in-head, AllFrom, all-zip, all-map, all-unmap, all-every, map-two}
+use Rattle.circuit.proofs.Base.{In, in-head, AllFrom, all-zip, all-map, all-unmap, all-every}
 use Rattle.circuit.proofs.Parts.{labels-lt}
 use Rattle.circuit.specs.Composition.{Fits, fit-IN, fit-CON, fit-XOR, fit-NOT, fit-REG, fit-AND, fit-REF, fit-OUT}
 use Rattle.circuit.proofs.Numbered.{all-get}
@@ -75,7 +75,7 @@ module _ (isProbed : ℕ → Bool) (behind : List ℕ) (k : Circuit) where
   pub frame-wires : (ops : List ℕ) (kind : Kind) → map entryWire (entries ops kind) ≡ made k ops kind
   unfolding entries made newStage
   frame-wires ops HEAD = refl
-  frame-wires ops IN = map-two entryWire (inEntry ops) (inEntry ops) [] (labels (k .d))
+  frame-wires ops IN = map-map entryWire (inEntry ops) (labels (k .d))
   frame-wires ops CON = refl
   frame-wires ops XOR = refl
   frame-wires ops NOT = refl

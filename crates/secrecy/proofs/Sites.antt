@@ -1,7 +1,7 @@
 -- A gadget in its place: what its wires are known to be, and what is wanted of them.
 use mathlib.Core.Path.{_≡_, refl, ap, _∙_}
 use mathlib.Core.Bool.{Bool, true, false}
-use mathlib.Core.List.{List, _++_, map}
+use mathlib.Core.List.{List, _++_, map, map-append, map-map}
 use mathlib.Core.Logic.{_⊎_}
 use Prim.Native.Nat.{ℕ, _+_, _<_}
 use native.Mathlib.Omega.{arith}
@@ -9,7 +9,7 @@ use lib.ListN.{length, length-map}
 use Rattle.circuit.specs.Lists.{mem}
 use Rattle.circuit.specs.Wires.{Gate, Place, named, inner, Wire, _placed_}
 use Rattle.circuit.specs.Gadgets.{Part, labels, gate, delay, index, gadget}
-use Rattle.circuit.proofs.Base.{In, Sub, Has, Every, AllFrom, all-append, all-left, all-right, all-zip, all-map, all-unmap, all-every, map-two}
+use Rattle.circuit.proofs.Base.{In, Sub, Has, Every, AllFrom, all-append, all-left, all-right, all-zip, all-map, all-unmap, all-every}
 use Rattle.circuit.proofs.Parts.{index-at, labels-lt}
 use Rattle.secrecy.proofs.Roles.{Role, lone, pair, role}
 use Rattle.secrecy.proofs.Taken.{taken, taken-sub, taken-append, Chosen, chosen, seen, seen-all}
@@ -83,7 +83,7 @@ module _ (here : Site) where
 
   pub wires-at : map entryWire entriesAt ≡ gadget d first a b inside output start end
   unfolding entriesAt gadget
-  wires-at = map-two entryWire innerEntry outerEntry inside (labels d)
+  wires-at = simp (map-append, map-map)
 
   -- the share indices once the outputs are taken, and once the inner parts are taken too
   unfoldable pub out : List ℕ
@@ -94,8 +94,8 @@ module _ (here : Site) where
 
   pub ins-eq : taken isProbed behind first (map entryRole entriesAt) ≡ ins
   unfolding entriesAt ins out
-  ins-eq = ap (taken isProbed behind first) (map-two entryRole innerEntry outerEntry inside (labels d)) ∙ taken-append isProbed behind first (map role inside) (map lone (labels d))
-      ∙ ap (λ n. taken isProbed (taken isProbed behind (first + n) (map lone (labels d))) first (map role inside)) (length-map inside role)
+  ins-eq = simp (map-append, map-map) (taken-append isProbed behind first (map role inside) (map lone (labels d))
+      ∙ ap (λ n. taken isProbed (taken isProbed behind (first + n) (map lone (labels d))) first (map role inside)) (length-map inside role))
 
   pub out-ins : Sub out ins
   unfolding ins

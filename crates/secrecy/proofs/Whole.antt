@@ -1,7 +1,7 @@
 -- Frame after frame: in two coupled evaluations that agree at the share indices taken, every probed wire looks the same.
 use mathlib.Core.Path.{_≡_, refl, sym, ap, subst, _∙_}
 use mathlib.Core.Bool.{Bool, true}
-use mathlib.Core.List.{List, [], _∷_, _++_, map, append-assoc, append-nil}
+use mathlib.Core.List.{List, [], _∷_, _++_, map, append-assoc, append-nil, map-append, map-map}
 use Prim.Native.Nat.{ℕ, _+_, _≤_}
 use native.Mathlib.Omega.{arith}
 use lib.ListN.{length, length-append, length-map}
@@ -18,11 +18,6 @@ use Rattle.secrecy.proofs.Sites.{Entry, entryWire, entryRole, lift, Goo
 -- the circuit with one frame more
 abbrev pub step : Circuit → Frame → Circuit
 step k f = extend k (f .ops) (f .kind)
-
--- the wires of steps
-map-lift : (δ : Role → Shift) (es : List Entry) (ss : List Step) → map wireOf (map (lift δ) es ++ ss) ≡ map entryWire es ++ map wireOf ss
-map-lift δ [] ss = refl
-map-lift δ (e ∷ es) ss = ap (λ x. e .wire ∷ x) (map-lift δ es ss)
 
 -- the probed wires, and the share indices to start from
 module _ (isProbed : ℕ → Bool) (start : List ℕ) where
@@ -47,7 +42,7 @@ module _ (isProbed : ℕ → Bool) (start : List ℕ) where
   steps-wires k [] = sym (append-nil (k .wires))
   steps-wires k (f ∷ fs) = let behind = front (step k f) fs in
       steps-wires (step k f) fs ∙ append-assoc (k .wires) (made k (f .ops) (f .kind)) (map wireOf (steps (step k f) fs))
-      ∙ ap (λ x. k .wires ++ x) (sym (map-lift (flipsOf behind k f) (entriesOf behind k f) (steps (step k f) fs) ∙ ap (λ x. x ++ map wireOf (steps (step k f) fs)) (frame-wires isProbed behind k (f .ops) (f .kind))))
+      ∙ rw (map-append wireOf (map (lift (flipsOf behind k f)) (entriesOf behind k f)) (steps (step k f) fs), map-map wireOf (lift (flipsOf behind k f)) (entriesOf behind k f), frame-wires isProbed behind k (f .ops) (f .kind))
 
   size-step : (k : Circuit) (f : Frame) (behind : List ℕ) → size (step k f) ≡ size k + length (entriesOf behind k f)
   size-step k f behind = length-append (k .wires) (made k (f .ops) (f .kind)) ∙ ap (λ x. size k + x) (ap length (sym (frame-wires isProbed behind k (f .ops) (f .kind))) ∙ length-map (entriesOf behind k f) entryWire)

@@ -19,7 +19,6 @@ use Rattle.circuit.specs.Composition.{Frame, Fits, fit-IN, fit-CON, fit-XOR, fi
 use Rattle.circuit.proofs.Building.{named-made, wireAt, gadget-all, Lawful, build-all}
 use Rattle.circuit.proofs.Exact.{Accepted}
 use Rattle.semantics.specs.Probes.{operands}
-use Rattle.semantics.proofs.Randoms.{randomsIn, build-randoms}
 
 -- the gate of wire x takes wires before x
 abbrev pub OperandsBefore : ℕ → Gate → Type 0
@@ -144,7 +143,3 @@ accepted-early a = rw (a .circuit-is) (build-early (a .d) (a .fs) (a .least) (a 
 pub accepted-earlier : {table : List ℕ} {room : ℕ} → Accepted table room
     → (n : ℕ) → n < size (checked table room .circuit) → OperandsBefore n (wireAt (checked table room .circuit) n .gate)
 accepted-earlier a = rw (a .circuit-is) (earlier (a .d) (a .fs) (a .least) (a .fit))
-
--- an accepted circuit has as many random gates as it counts
-pub accepted-randoms : {table : List ℕ} {room : ℕ} → Accepted table room → randomsIn (checked table room .circuit .wires) ≡ checked table room .circuit .randoms
-accepted-randoms a = rw (a .circuit-is) (build-randoms (empty (a .d)) (a .fs) refl)
