@@ -44,12 +44,11 @@ abbrev noteStage : Place → ℕ
 noteStage (named l t) = t
 noteStage (inner t) = innerNote
 
-placeAt : List Wire → ℕ → Place
+abbrev placeAt : List Wire → ℕ → Place
 placeAt ws x = getD ws x (constant false placed inner 0) .place
 
 words-at : (ws : List Wire) (rest : List ℕ) (x : ℕ) → x < length ws
     → (nth (notesOf ws ++ rest) (2 * x) ≡ noteLabel (placeAt ws x)) × (nth (notesOf ws ++ rest) (2 * x + 1) ≡ noteStage (placeAt ws x))
-unfolding placeAt
 words-at [] rest x h = absurd (omega arith)
 words-at (w ∷ ws) rest zero h = first (w .place)
   where
@@ -75,7 +74,7 @@ label-old k least law x = all-default (λ wire. labelOf (wire .place) < k .d) (c
 
 -- the notes represent the circuit
 pub represents : (k : Circuit) (notes : List ℕ) → k .d ≤ mostShares → 0 < k .d → Lawful Labelled k → Represents k (notesAfter k notes) (size k)
-unfolding notesAfter placeAt
+unfolding notesAfter
 represents k notes most least law x = cases (ltb x (size k)) (λ e. rw e (inside (ltb-true x (size k) e))) (λ e. rw e)
   where
     found : (p : Place) → labelOf p < k .d → foundIn (noteLabel p) (noteStage p) ≡ shown p

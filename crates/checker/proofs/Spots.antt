@@ -15,6 +15,10 @@ judged (suc r) f w = refuse (suc r) f w
 abbrev pub judgedAt : ℕ → Spot → Judgement
 judgedAt f s = judged (s .rule) f (s .word)
 
+pub judged-refuse : (n f w : ℕ) → (n ≡ 0 → ⊥) → judged n f w ≡ refuse n f w
+judged-refuse zero f w h = absurd (h refl)
+judged-refuse (suc n) f w h = refl
+
 -- a spot that names a rule comes first, one that names none is passed over
 pub broken-first : (s next : Spot) → (s .rule ≡ 0 → ⊥) → (s andThen next) ≡ s
 broken-first s next h = go (s .rule) h
