@@ -19,7 +19,6 @@ use Rattle.circuit.proofs.Building.{size-extend}
 use Rattle.frames.specs.declared.kinds.Shape.{Shape as ShapeCode}
 use Rattle.frames.specs.Walk.{formOf, shapeCode}
 use Rattle.frames.proofs.KindTable.{means}
-use Rattle.checker.specs.declared.notes.Made.{Made}
 use Rattle.checker.specs.declared.forms.Spot.{Spot}
 use Rattle.checker.specs.declared.frame.Tally.{Tally}
 use Rattle.checker.specs.declared.frame.Added.{Added}
@@ -64,11 +63,7 @@ module _ {k : Circuit} {kind : Kind} {tally : Tally} {sh : ShapeCode} {d : ℕ} 
   stage-is = ap (λ x. x .stage) made-is ∙ made-stage k ops kind (p .later)
 
   -- and so is the first spot
-  limits : Made → Spot
-  limits m = limitBroken m (size k)
-
-  broken-is : broken tally sh d ops old ≡ (brokenIn (k .d) (k .randoms) (foundOf k) ops (formOf kind) andThen limits (madeBy k ops kind))
-  unfolding limits
+  broken-is : broken tally sh d ops old ≡ (brokenIn (k .d) (k .randoms) (foundOf k) ops (formOf kind) andThen limitBroken (madeBy k ops kind) (size k))
   broken-is = ap₂ (λ s m. brokenIn d (tally .randoms) (noted old (tally .wires)) ops (s .form) andThen limitBroken m (tally .wires)) (p .shape-is) made-is
       ∙ ap₂ (λ n look. brokenIn n (tally .randoms) look ops (formOf kind) andThen limitBroken (madeBy k ops kind) (tally .wires)) (sym (p .shares)) (fun-ext (p .represents))
       ∙ ap (λ t. brokenIn (k .d) (t .randoms) (foundOf k) ops (formOf kind) andThen limitBroken (madeBy k ops kind) (t .wires)) (p .tally-is)
@@ -79,9 +74,8 @@ module _ {k : Circuit} {kind : Kind} {tally : Tally} {sh : ShapeCode} {d : ℕ} 
       words-are k f (formOf kind) ops (counts (k .d) kind (foundOf k) ops .form-later (p .later)) (p .whole ∙ ap (λ n. words n kind) (sym (p .shares)) ∙ sym (ap length (m .rules)))
       ∙ ap (λ rs. wordsRule k f ops 1 rs ops) (m .rules)
 
-  limits-judged : (f : ℕ) → judgedAt f (limits (madeBy k ops kind))
+  limits-judged : (f : ℕ) → judgedAt f (limitBroken (madeBy k ops kind) (size k))
       ≡ (need (leb (newStage k ops kind) stageLimit) 13 f 0 then need (leb (size k + shape (k .d) kind .wires) wireLimit) 14 f 0)
-  unfolding limits
   limits-judged f = both (leb (madeBy k ops kind .stage) stageLimit) (leb (size k + (madeBy k ops kind .inner + madeBy k ops kind .named)) wireLimit)
       ∙ ap₂ (λ t n. need (leb t stageLimit) 13 f 0 then need (leb (size k + n) wireLimit) 14 f 0) (made-stage k ops kind (p .later)) (counts (k .d) kind (foundOf k) ops .wires-are)
     where
@@ -91,7 +85,7 @@ module _ {k : Circuit} {kind : Kind} {tally : Tally} {sh : ShapeCode} {d : ℕ} 
       both false b = refl
 
   broken-judged : (f : ℕ) → judgedAt f (broken tally sh d ops old) ≡ laterRule k f kind ops
-  broken-judged f = ap (judgedAt f) broken-is ∙ judged-then f (brokenIn (k .d) (k .randoms) (foundOf k) ops (formOf kind)) (limits (madeBy k ops kind))
+  broken-judged f = ap (judgedAt f) broken-is ∙ judged-then f (brokenIn (k .d) (k .randoms) (foundOf k) ops (formOf kind)) (limitBroken (madeBy k ops kind) (size k))
       ∙ ap₂ _then_ (words-judged f) (limits-judged f)
 
   -- the counts with the frame are those of the circuit with it

@@ -31,22 +31,19 @@ module _ (k : Circuit) where
   past : (x : ℕ) → size k ≤ x → place k x ≡ inner 0
   past x h = ap (λ w. w .place) (List·getD-eq-default (k .wires) _ h)
 
-  found-by : {A : Type 0} (f : Found → A) (g : Place → A) → f Missing ≡ g (inner 0) → ((p : Place) → f (shown p) ≡ g p) → (x : ℕ) → f (foundOf k x) ≡ g (place k x)
-  found-by f g e h x = cases (ltb x (size k)) (λ l. rw l (h (place k x))) (λ l. rw (l, past x (ltb-false x (size k) l)) e)
+  found-by : {A : Type 0} (f : Found → A) (g : Place → A) → f Missing ≡ g (inner 0) → ((l t : ℕ) → f (shown (named l t)) ≡ g (named l t)) → ((t : ℕ) → f (shown (inner t)) ≡ g (inner t))
+      → (x : ℕ) → f (foundOf k x) ≡ g (place k x)
+  found-by f g e n i x = cases (ltb x (size k)) (λ l. rw l (by-place (place k x))) (λ l. rw (l, past x (ltb-false x (size k) l)) e)
+    where
+      by-place : (p : Place) → f (shown p) ≡ g p
+      by-place (named l t) = n l t
+      by-place (inner t) = i t
 
   pub label-found : (x : ℕ) → labelFound (foundOf k x) ≡ labelOf (place k x)
-  label-found = found-by labelFound labelOf refl by-place
-    where
-      by-place : (p : Place) → labelFound (shown p) ≡ labelOf p
-      by-place (named l t) = refl
-      by-place (inner t) = refl
+  label-found = found-by labelFound labelOf refl (λ l t. refl) (λ t. refl)
 
   pub stage-found : (x : ℕ) → stageFound (foundOf k x) ≡ stageShown (place k x)
-  stage-found = found-by stageFound stageShown refl by-place
-    where
-      by-place : (p : Place) → stageFound (shown p) ≡ stageShown p
-      by-place (named l t) = refl
-      by-place (inner t) = refl
+  stage-found = found-by stageFound stageShown refl (λ l t. refl) (λ t. refl)
 
 -- one word, then others
 word-then : (f n w : ℕ) (rest : Spot) {one more : Judgement} → judged n f w ≡ one → judgedAt f rest ≡ more → judgedAt f (orElse n w rest) ≡ (one then more)

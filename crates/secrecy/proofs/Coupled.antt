@@ -87,26 +87,16 @@ pub record EarlyStep (x : ℕ) (s : Step) : Type 0 where
   pub low : Low x (s .wire .gate)
   pub decided : Decided x (s .shift)
 
--- values that agree on the operands; the shares agree too, or are not asked
-abbrev pub isInput : Gate → Bool
-isInput (input n) = true
-isInput (constant b) = false
-isInput random = false
-isInput (reg x) = false
-isInput (inverse x) = false
-isInput (sum xs) = false
-isInput (product x y) = false
-isInput (andNot x y) = false
-
-pub value-same : (g : Gate) (f w : Values) (sh sh′ : List Bool) → (isInput g ≡ true → sh ≡ sh′) → Every (λ y. f y ≡ w y) (operands g) → value g f sh [] ≡ value g w sh′ []
-value-same (input n) f w sh sh′ e h = ap (λ l. at l n) (e refl)
-value-same (constant b) f w sh sh′ e h = refl
-value-same random f w sh sh′ e h = refl
-value-same (reg x) f w sh sh′ e h = h .0
-value-same (inverse x) f w sh sh′ e h = ap not (h .0)
-value-same (sum xs) f w sh sh′ e h = xorSum-ext f w xs (every-in (λ y. f y ≡ w y) xs h)
-value-same (product x y) f w sh sh′ e h = ap₂ (λ p q. p && q) (h .0) (h .1 .0)
-value-same (andNot x y) f w sh sh′ e h = ap₂ (λ p q. not p && q) (h .0) (h .1 .0)
+-- values that agree on the operands
+pub value-same : (g : Gate) (f w : Values) (sh t : List Bool) → Every (λ y. f y ≡ w y) (operands g) → value g f sh t ≡ value g w sh t
+value-same (input n) f w sh t h = refl
+value-same (constant b) f w sh t h = refl
+value-same random f w sh t h = refl
+value-same (reg x) f w sh t h = h .0
+value-same (inverse x) f w sh t h = ap not (h .0)
+value-same (sum xs) f w sh t h = xorSum-ext f w xs (every-in (λ y. f y ≡ w y) xs h)
+value-same (product x y) f w sh t h = ap₂ (λ p q. p && q) (h .0) (h .1 .0)
+value-same (andNot x y) f w sh t h = ap₂ (λ p q. not p && q) (h .0) (h .1 .0)
 
 -- the values at the end: each wire's bits are to the final values what they were to the values below it
 module _ (sh sh′ : List Bool) where
@@ -131,8 +121,8 @@ module _ (sh sh′ : List Bool) where
       let g = s .wire .gate in
       let low : (k k′ : Values) → Agree x k k′ → Every (λ y. k y ≡ k′ y) (operands g) = λ k k′ q. every-imp (λ y. y < x) (λ y. k y ≡ k′ y) (operands g) (λ y l. q y l) (e .low) in
       record {
-        left = λ k. h .left k ∙ value-same g f w sh sh (λ i. refl) (low f w a);
-        right = λ k. h .right k ∙ value-same g f′ w′ sh′ sh′ (λ i. refl) (low f′ w′ a′);
+        left = λ k. h .left k ∙ value-same g f w sh [] (low f w a);
+        right = λ k. h .right k ∙ value-same g f′ w′ sh′ [] (low f′ w′ a′);
         flipped = λ k. h .flipped k ∙ ap (λ z. b ⊕ z) (e .decided f w f′ w′ a a′);
       }
 
