@@ -1,6 +1,5 @@
 -- A frame added: where its form is judged, the counts fit and the code's answer is the definition's.
-use mathlib.Core.Path.{_≡_, refl, sym, ap, ap₂, subst, _∙_}
-use mathlib.Core.Bool.{cond}
+use mathlib.Core.Path.{_≡_, refl, sym, ap, ap₂, _∙_}
 use mathlib.Core.List.{List}
 use Prim.Native.Nat.{ℕ, zero, suc, _+_, _-_, _≤_}
 use native.Mathlib.Omega.{arith}
@@ -18,7 +17,7 @@ use Rattle.checker.specs.declared.forms.Spot.{Spot}
 use Rattle.checker.specs.declared.frame.Tally.{Tally}
 use Rattle.checker.specs.declared.frame.Added.{Added}
 use Rattle.checker.specs.Internal.Notes.{noted, innerWords, namedWords}
-use Rattle.checker.specs.Internal.Adding.{spot, none, orElse, _andThen_, brokenIn, wiresAt, madeIn, limitBroken, notesWith, Judges, numbersOf, addedBy, Bounded, Fitting, FrameOf, latencyIn, Adds}
+use Rattle.checker.specs.Internal.Adding.{none, orElse, _andThen_, brokenIn, wiresAt, madeIn, limitBroken, notesWith, Judges, numbersOf, addedBy, Bounded, Fitting, FrameOf, latencyIn, Adds}
 use Rattle.checker.proofs.MadeNotes.{wordCount, numbersIn, Counts, counts}
 
 -- no rule is broken only where the new wires fit

@@ -2,7 +2,7 @@
 use mathlib.Core.Path.{_≡_, refl, sym, ap, subst, _∙_}
 use mathlib.Core.Bool.{Bool, true, false, cond, _&&_}
 use mathlib.Core.List.{List, _∷_}
-use Prim.Native.Nat.{ℕ, zero, suc, _+_, _-_, _/_, _≤_, _<_}
+use Prim.Native.Nat.{ℕ, suc, _+_, _-_, _/_, _≤_, _<_}
 use native.Mathlib.Omega.{arith}
 use lib.Dec.{leb, ltb, eqb}
 use lib.ListN.{length, drop}
@@ -12,20 +12,19 @@ use Rattle.circuit.specs.Limits.{tableLimit, notesRoom, fewestShares, mostShare
 use Rattle.circuit.specs.Lists.{nth}
 use Rattle.circuit.specs.Kinds.{kindOf, words}
 use Rattle.circuit.specs.Circuit.{Circuit, size, empty}
-use Rattle.circuit.specs.Rules.{refuse, need, _then_, frameRule, onward, frames, headRule, checked}
-use Rattle.circuit.specs.Answer.{answer, verdictOf, notesAfter}
+use Rattle.circuit.specs.Rules.{refuse, need, _then_, frameRule, frames, headRule, checked}
+use Rattle.circuit.specs.Answer.{verdictOf, notesAfter}
 use Rattle.circuit.proofs.Base.{cases}
 use Rattle.circuit.proofs.Building.{Lawful}
 use Rattle.circuit.proofs.Exact.{Headed, head-pass}
 use Rattle.checker.specs.declared.Verdict.the-variants.{Refused}
 use Rattle.frames.specs.declared.kinds.Shape.{Shape as ShapeCode}
-use Rattle.frames.specs.declared.walk.Frame.{Frame}
 use Rattle.frames.specs.declared.walk.Walk.{Walk}
 use Rattle.frames.specs.declared.walk.Step.{Step}
 use Rattle.frames.specs.declared.walk.Step.the-variants.{End, Next, Refused as Stopped}
 use Rattle.checker.specs.declared.frame.Tally.{Tally}
 use Rattle.checker.specs.Answers.{answerOf}
-use Rattle.frames.specs.Walk.{kindCode, shapeCode, frameCode, operandsAt, behind, stepAt}
+use Rattle.frames.specs.Walk.{shapeCode, behind, stepAt}
 use Rattle.checker.specs.Internal.Adding.{tallyOf, headNumber}
 use Rattle.checker.proofs.Spots.{judged, judged-refuse}
 use Rattle.checker.proofs.Represented.{Labelled}

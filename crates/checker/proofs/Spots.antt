@@ -1,8 +1,7 @@
 -- The first of some spots that names a rule, as a judgement.
-use mathlib.Core.Path.{_≡_, refl, sym, ap, _∙_}
+use mathlib.Core.Path.{_≡_, refl, ap}
 use mathlib.Core.Bool.{Bool, true, false, cond}
 use Prim.Native.Nat.{ℕ, zero, suc}
-use native.Mathlib.Omega.{arith}
 use Rattle.circuit.specs.Rules.{Judgement, pass, refuse, need, _then_}
 use Rattle.checker.specs.declared.forms.Spot.{Spot}
 use Rattle.checker.specs.Internal.Adding.{spot, orElse, _andThen_}

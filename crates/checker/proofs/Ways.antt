@@ -26,7 +26,7 @@ use Rattle.checker.specs.declared.frame.Tally.{Tally}
 use Rattle.checker.specs.declared.frame.Added.{Added}
 use Rattle.checker.specs.declared.frame.Added.the-variants as added
 use Rattle.checker.specs.Answers.{answerOf, inputsAre}
-use Rattle.frames.specs.Walk.{shapeCode, operandsAt, behind, stepAt}
+use Rattle.frames.specs.Walk.{shapeCode, operandsAt, stepAt}
 use Rattle.checker.specs.declared.notes.Found.{Found}
 use Rattle.checker.specs.declared.forms.Spot.{Spot}
 use Rattle.checker.specs.Internal.Notes.{Represents}

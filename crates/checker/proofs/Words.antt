@@ -10,7 +10,7 @@ use lib.Seq.{length-take-le}
 use borrow.Author.Tests.{ltb-false}
 use Rattle.circuit.specs.Lists.{nth, range}
 use Rattle.circuit.specs.Wires.{Place, named, inner}
-use Rattle.circuit.specs.Kinds.{WordRule, label, value, stage, random, like, share, before, row}
+use Rattle.circuit.specs.Kinds.{WordRule, like, share, before, row}
 use Rattle.circuit.specs.Circuit.{Circuit, size, place, labelOf, stageShown}
 use Rattle.circuit.specs.Rules.{Judgement, need, _then_, isNamed, wireRule, wordRule, wordsRule}
 use Rattle.circuit.proofs.Base.{cases}

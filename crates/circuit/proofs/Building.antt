@@ -2,7 +2,7 @@
 use mathlib.Core.Path.{_≡_, refl, sym, ap, subst, subst₂, _∙_}
 use mathlib.Core.Bool.{false}
 use mathlib.Core.List.{List, [], _∷_, _++_, map, append-nil, append-assoc}
-use Prim.Native.Nat.{ℕ, zero, suc, _+_, _≤_, _<_}
+use Prim.Native.Nat.{ℕ, suc, _+_, _≤_, _<_}
 use native.Mathlib.Omega.{arith}
 use lib.Dec.{ltb}
 use lib.ListN.{length, getD, length-append, length-map, List·getD-append, List·getD-eq-default}
@@ -10,7 +10,7 @@ use lib.Seq.{getD-append-add}
 use borrow.Author.Tests.{ltb-true, ltb-false}
 use Rattle.circuit.specs.Limits.{wireLimit, stageLimit, fewestShares}
 use Rattle.circuit.specs.Lists.{nth}
-use Rattle.circuit.specs.Wires.{Gate, constant, Place, named, inner, Wire, _placed_}
+use Rattle.circuit.specs.Wires.{constant, Place, named, inner, Wire, _placed_}
 use Rattle.circuit.specs.Gadgets.{Part, r, R, B, m, M, u, U, v, V′, w, W, c, s, S, labels, gate, delay, inAND, inREF, index, gadget}
 use Rattle.circuit.specs.Kinds.{Kind, shape}
 use Rattle.circuit.specs.Circuit.{Circuit, size, empty, place, stageShown, stageOf, newStage, made, extend}

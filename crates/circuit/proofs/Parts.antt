@@ -10,7 +10,7 @@ use lib.Dec.{eqb, ltb}
 use lib.ListN.{length}
 use borrow.Author.Tests.{not-true}
 use Rattle.circuit.specs.Lists.{concatMap}
-use Rattle.circuit.specs.Gadgets.{Part, r, R, B, m, M, u, U, v, V′, w, W, c, s, S, same, labels, above, others, sorted, inAND, inREF, index}
+use Rattle.circuit.specs.Gadgets.{Part, r, R, B, m, M, u, U, v, V′, w, W, s, same, labels, above, others, sorted, inAND, inREF, index}
 use Rattle.circuit.proofs.Numbered.{get-all}
 use Rattle.circuit.proofs.Base.{cases, eqb-sym, ltb-ne, ltb-other, In, in-head, in-tail, in-range, range-in, in-keep, filter-in, Has, has-left, has-right, has-each, has-map, Every, every-append, every-map, every-each, every-of, AllFrom, all-imp}
 

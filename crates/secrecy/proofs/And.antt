@@ -2,12 +2,12 @@
 use mathlib.Core.Path.{_≡_, refl, sym, ap, ap₂, _∙_}
 use mathlib.Core.Bool.{Bool, true, false, not, _&&_}
 use mathlib.Core.List.{List, map}
-use Prim.Native.Nat.{ℕ, _+_, _≤_, _<_}
+use Prim.Native.Nat.{ℕ, _≤_, _<_}
 use native.Mathlib.Omega.{arith}
 use lib.Dec.{ltb}
 use Rattle.circuit.specs.Lists.{_⊕_}
 use Rattle.circuit.specs.Wires.{reg}
-use Rattle.circuit.specs.Gadgets.{Part, r, R, B, m, M, u, U, v, V′, w, W, c, labels, sorted, inAND}
+use Rattle.circuit.specs.Gadgets.{Part, r, R, m, u, U, v, V′, w, W, c, labels, sorted, inAND}
 use Rattle.circuit.proofs.Base.{no-flip, cases, ltb-other, In, AllFrom, all-of, all-any}
 use Rattle.circuit.proofs.Parts.{Pair, other, output-every, InAND, is-r, is-R, is-B, is-m, is-M, is-u, is-U, is-v, is-V, is-w, is-W, and-parts, and-has, sorted-at}
 use Rattle.secrecy.proofs.Roles.{Role, lone, pair, role}

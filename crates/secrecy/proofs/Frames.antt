@@ -1,12 +1,11 @@
 -- The frames: every probed wire, and every named wire whose label is among the share indices behind, looks the same.
 use mathlib.Core.Path.{_≡_, refl, sym, ap, subst, _∙_}
-use mathlib.Core.Bool.{Bool, true, false}
+use mathlib.Core.Bool.{Bool, true}
 use mathlib.Core.List.{List, [], _∷_, map, map-map}
-use Prim.Native.Nat.{ℕ, zero, suc, _+_, _*_, _<_}
+use Prim.Native.Nat.{ℕ, suc, _+_, _*_, _<_}
 use native.Mathlib.Omega.{arith}
-use lib.ListN.{length, getD}
 use Rattle.circuit.specs.Lists.{nth}
-use Rattle.circuit.specs.Wires.{Gate, input, constant, reg, inverse, sum, Place, named, inner, Wire, _placed_}
+use Rattle.circuit.specs.Wires.{Gate, input, constant, reg, inverse, sum, named, Wire}
 use Rattle.circuit.specs.Gadgets.{labels}
 use Rattle.circuit.specs.Kinds.{Kind, HEAD, IN, CON, XOR, NOT, REG, AND, REF, OUT}
 use Rattle.circuit.specs.Circuit.{Circuit, size, place, labelOf, stageShown, isSet, newStage, made}
@@ -20,7 +19,7 @@ use Rattle.secrecy.proofs.Roles.{Role, lone}
 use Rattle.secrecy.proofs.Taken.{taken, taken-sub, chosen, Chosen}
 use Rattle.secrecy.proofs.Coupled.{Shift, Decided}
 use Rattle.secrecy.proofs.Same.{Two, Same, settle, carry}
-use Rattle.secrecy.proofs.Sites.{Site, Entry, entry, entryWire, entryRole, lift, Known, Good, hidden, entriesAt, wires-at, ins-eq}
+use Rattle.secrecy.proofs.Sites.{Site, Entry, entry, entryWire, entryRole, Known, Good, entriesAt, wires-at, ins-eq}
 use Rattle.secrecy.proofs.And.{site, flips, and-good, and-decided}
 use Rattle.secrecy.proofs.Ref.{still, still-decided, refsite, ref-good}
 

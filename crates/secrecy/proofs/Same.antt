@@ -1,11 +1,10 @@
 -- Wires that look the same in two evaluations: the wire's value, and the values of the stops that a probe on it reads.
-use mathlib.Core.Path.{_≡_, sym, subst, _∙_}
-use mathlib.Core.Bool.{Bool, true, false, cond, false≢true}
-use mathlib.Core.List.{List, [], _∷_}
+use mathlib.Core.Path.{_≡_, sym, _∙_}
+use mathlib.Core.Bool.{Bool, true, false, false≢true}
+use mathlib.Core.List.{List, []}
 use Prim.Native.Nat.{ℕ}
 use lib.Dec.{eqb}
 use borrow.Author.Tests.{eqb-true}
-use Rattle.circuit.specs.Lists.{concatMap}
 use Rattle.circuit.specs.Wires.{Gate}
 use Rattle.circuit.proofs.Base.{cases, clash, or-cases, In, in-each, Every, every-imp, every-in}
 use Rattle.semantics.specs.Values.{value, isRandom}

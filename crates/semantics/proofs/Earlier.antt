@@ -1,5 +1,5 @@
 -- In a circuit of frames that fit, every gate takes earlier wires only.
-use mathlib.Core.Path.{refl, subst, _≡_}
+use mathlib.Core.Path.{refl, subst}
 use mathlib.Core.List.{List, [], _∷_, _++_, map}
 use mathlib.Core.Logic.{inl, inr}
 use Prim.Native.Nat.{ℕ, _+_, _≤_, _<_}
@@ -8,7 +8,7 @@ use lib.ListN.{length}
 use Rattle.circuit.specs.Limits.{fewestShares}
 use Rattle.circuit.specs.Lists.{nth, concatMap}
 use Rattle.circuit.specs.Wires.{Gate, Wire}
-use Rattle.circuit.specs.Gadgets.{Part, r, R, B, m, u, U, v, V′, w, W, c, s, S, labels, above, others, sorted, gate, inAND, inREF, index, gadget}
+use Rattle.circuit.specs.Gadgets.{Part, r, R, B, m, u, v, V′, w, c, s, S, labels, above, others, sorted, gate, inAND, inREF, index, gadget}
 use Rattle.circuit.specs.Kinds.{Kind}
 use Rattle.circuit.specs.Circuit.{Circuit, size, empty, made}
 use Rattle.circuit.specs.Rules.{checked}

@@ -1,13 +1,13 @@
 -- In a circuit of frames that fit, a register stands one stage after its operand, and every other gate at each of its operands' stage.
 use mathlib.Core.Path.{_≡_, refl, sym, ap, _∙_}
 use mathlib.Core.Bool.{false}
-use mathlib.Core.List.{List, [], _∷_, map}
+use mathlib.Core.List.{List, [], _∷_}
 use Prim.Native.Nat.{ℕ, suc, _+_, _≤_, _<_}
 use native.Mathlib.Omega.{arith}
 use Rattle.circuit.specs.Limits.{fewestShares}
 use Rattle.circuit.specs.Lists.{nth}
 use Rattle.circuit.specs.Wires.{Gate, input, constant, random, reg, inverse, sum, product, andNot, named, inner, Wire, _placed_}
-use Rattle.circuit.specs.Gadgets.{Part, r, R, U, W, c, s, S, others, sorted, gate, delay, inAND, inREF, index}
+use Rattle.circuit.specs.Gadgets.{Part, r, R, c, s, S, others, sorted, gate, delay, inAND, inREF, index}
 use Rattle.circuit.specs.Kinds.{Kind, AND, REF}
 use Rattle.circuit.specs.Circuit.{Circuit, size, empty, place, stageShown, stageOf, newStage, made, extend}
 use Rattle.circuit.specs.Rules.{checked}
