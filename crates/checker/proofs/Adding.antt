@@ -24,13 +24,10 @@ use Rattle.checker.proofs.MadeNotes.{wordCount, numbersIn, Counts, coun
 within : (words : Spot) (m : Made) (wires : ℕ) → ((words andThen limitBroken m wires) .rule) ≡ 0 → wires + (m .inner + m .named) ≤ wireLimit
 within words m wires = go (words .rule)
   where
-    off : {n : ℕ} → suc n ≡ 0 → ⊥
-    off e = omega arith
-
     go : (n : ℕ) → orElse n (words .word) (limitBroken m wires) .rule ≡ 0 → wires + (m .inner + m .named) ≤ wireLimit
     go (suc n) e = absurd (omega arith)
     go zero e = cases (leb (wires + (m .inner + m .named)) wireLimit) (leb-true (wires + (m .inner + m .named)) wireLimit) (λ a.
-        cases (leb (m .stage) stageLimit) (λ b. absurd (off (rw (b, a) at e))) (λ b. absurd (off (rw b at e))))
+        cases (leb (m .stage) stageLimit) (λ b. absurd (omega (arith, rw (b, a) at e))) (λ b. absurd (omega (arith, rw b at e))))
 
 -- no wires are written where none are made
 pub nothing-made : (wires : ℕ) (old : List ℕ) → wires ≤ wireLimit → Judges none (wiresAt 0 0 0) wires old old none

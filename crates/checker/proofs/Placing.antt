@@ -137,7 +137,4 @@ refused-rule {tally} {sh} {d} {ops} {old} a {s} e = by-rule (broken tally sh d o
   where
     by-rule : (n w latency : ℕ) → addedBy n w tally (numbersOf sh) latency ≡ Refused s → s .rule ≡ 0 → ⊥
     by-rule zero w latency e h = let z : _≡_ {A = ℕ} 0 1 = cc in omega arith
-    by-rule (suc n) w latency e h = let q : suc n ≡ s .rule = ap (λ x. x .rule) (same e) in omega arith
-      where
-        same : Refused (spot (suc n) w) ≡ Refused s → spot (suc n) w ≡ s
-        same e = cc
+    by-rule (suc n) w latency e h = let q : spot (suc n) w ≡ s = cc in omega (arith, ap (λ x. x .rule) q)

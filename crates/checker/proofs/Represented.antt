@@ -26,16 +26,7 @@ use Rattle.checker.proofs.MadeNotes.{notes-append}
 abbrev notesOf : List Wire → List ℕ
 notesOf ws = concatMap ws (λ w. note (w .place))
 
--- two words a wire
-pub notes-length : (ws : List Wire) → length (notesOf ws) ≡ 2 * length ws
-notes-length [] = refl
-notes-length (w ∷ ws) = omega (arith, length-append (note (w .place)) (notesOf ws), two (w .place), notes-length ws)
-  where
-    two : (p : Place) → length (note p) ≡ 2
-    two (named l t) = refl
-    two (inner t) = refl
-
--- the words of wire x
+-- the words of a wire
 abbrev noteLabel : Place → ℕ
 noteLabel (named l t) = l
 noteLabel (inner t) = innerNote
@@ -44,26 +35,26 @@ abbrev noteStage : Place → ℕ
 noteStage (named l t) = t
 noteStage (inner t) = innerNote
 
+note-is : (p : Place) → note p ≡ noteLabel p ∷ noteStage p ∷ []
+note-is (named l t) = refl
+note-is (inner t) = refl
+
+pub notes-length : (ws : List Wire) → length (notesOf ws) ≡ 2 * length ws
+notes-length [] = refl
+notes-length (w ∷ ws) = rw (note-is (w .place)) (omega (arith, notes-length ws))
+
+-- the words of wire x
 abbrev placeAt : List Wire → ℕ → Place
 placeAt ws x = getD ws x (constant false placed inner 0) .place
 
 words-at : (ws : List Wire) (rest : List ℕ) (x : ℕ) → x < length ws
     → (nth (notesOf ws ++ rest) (2 * x) ≡ noteLabel (placeAt ws x)) × (nth (notesOf ws ++ rest) (2 * x + 1) ≡ noteStage (placeAt ws x))
 words-at [] rest x h = absurd (omega arith)
-words-at (w ∷ ws) rest zero h = first (w .place)
-  where
-    first : (p : Place) → (nth (note p ++ notesOf ws ++ rest) 0 ≡ noteLabel p) × (nth (note p ++ notesOf ws ++ rest) 1 ≡ noteStage p)
-    first (named l t) = (refl, refl)
-    first (inner t) = (refl, refl)
+words-at (w ∷ ws) rest zero h = rw (note-is (w .place)) (refl, refl)
 words-at (w ∷ ws) rest (suc x) h =
-    let (a, b) = words-at ws rest x (omega arith) in
     let e : 2 * suc x ≡ suc (suc (2 * x)) = omega arith in
-    let g : 2 * suc x + 1 ≡ suc (suc (2 * x + 1)) = omega arith in
-    (ap (nth (note (w .place) ++ notesOf ws ++ rest)) e ∙ later (w .place) (2 * x) ∙ a, ap (nth (note (w .place) ++ notesOf ws ++ rest)) g ∙ later (w .place) (2 * x + 1) ∙ b)
-  where
-    later : (p : Place) (n : ℕ) → nth (note p ++ notesOf ws ++ rest) (suc (suc n)) ≡ nth (notesOf ws ++ rest) n
-    later (named l t) n = refl
-    later (inner t) n = refl
+    let g : suc (suc (2 * x)) + 1 ≡ suc (suc (2 * x + 1)) = omega arith in
+    rw (note-is (w .place), e, g) (words-at ws rest x (omega arith))
 
 -- every label is a share
 abbrev pub Labelled : Circuit → ℕ → Wire → Type 0

@@ -50,14 +50,8 @@ module _ {table notes₀ notes : List ℕ} {d : ℕ} {walk : Walk} {tally : Tall
   -- the end of the table
   pub way-end : step.End ≡ stepAt table (walk .d) (walk .at) → Promised table notes₀ notes (Accepted (tally .wires) (tally .randoms) (tally .latency) (tally .inputs))
   unfolding frames
-  way-end e = ends (record { circuit = w .k; judgement = pass }) (ap (frames (w .k) (tally .frames) 0) none) refl (Accepted (tally .wires) (tally .randoms) (tally .latency) (tally .inputs))
-      (ap (λ t. answer-of (t .wires) (t .randoms) (t .latency)) (w .tally-is)) (ap (λ t. t .inputs) (w .tally-is))
-    where
-      answer-of : ℕ → ℕ → ℕ → Answer
-      answer-of a b c = answerOf (Accepted a b c 0)
-
-      none : drop (walk .at) table ≡ []
-      none = drop-of-length-le table {i = walk .at} (met table (walk .d) (walk .at) e)
+  way-end e = ends (record { circuit = w .k; judgement = pass }) (ap (frames (w .k) (tally .frames) 0) (drop-of-length-le table {i = walk .at} (met table (walk .d) (walk .at) e))) refl
+      (Accepted (tally .wires) (tally .randoms) (tally .latency) (tally .inputs)) (ap (λ t. answerOf (Accepted (t .wires) (t .randoms) (t .latency) 0)) (w .tally-is)) (ap (λ t. t .inputs) (w .tally-is))
 
   -- a frame that is refused
   refused-at : (rule word : ℕ) → walk .at < length table → frameRule (w .k) (tally .frames) (nth table (walk .at)) (drop (walk .at + 1) table) ≡ refuse rule (tally .frames) word

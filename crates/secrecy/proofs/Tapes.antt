@@ -80,10 +80,11 @@ module _ (d : ℕ) (fs : List Frame) (probes start : List ℕ) where
     alike-reads : (g g′ : List Bool) → Run sh sh′ ss [] [] g g′ → (x : ℕ) → In x (stops ws probes ++ besides) → at g x ≡ at g′ x
     unfolding indices stops
     alike-reads g g′ r x h =
+        let none : Step = record { wire = constant false placed inner 0; shift = λ f f′. false } in
         let (a, b) = static isProbed start (two g g′) indices fit same (λ i q. q) tt (sure g g′ r) in
         in-append x (concatMap probes readAt) besides h
         (λ q. in-each x readAt probes q (λ p i k. elim (decLt p (length ss)) [
-          | yes l ↦ (subst (λ (y : ℕ). isProbed y ≡ true → Same (two g g′) y) (omega arith) (all-get (Seen isProbed start (two g g′) indices) 0 ss (record { wire = constant false placed inner 0; shift = λ f f′. false }) a p l) i) .stopped x k
+          | yes l ↦ (subst (λ (y : ℕ). isProbed y ≡ true → Same (two g g′) y) (omega arith) (all-get (Seen isProbed start (two g g′) indices) 0 ss none a p l) i) .stopped x k
           | no l ↦ (let e : readAt p ≡ [] = List·getD-eq-default (stopsFrom [] ws) [] (omega (arith, stops-length [] ws, length-map ss wireOf)) in absurd (false≢true (rw e at k)))
         ]))
         (λ q. let n = shown x q in held isProbed start (build (empty d) fs) (two g g′) start b x (n .label) (n .stage) (n .is) (n .listed) .valued)

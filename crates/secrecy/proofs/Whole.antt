@@ -40,9 +40,9 @@ module _ (isProbed : ℕ → Bool) (start : List ℕ) where
 
   pub steps-wires : (k : Circuit) (fs : List Frame) → (build k fs) .wires ≡ k .wires ++ map wireOf (steps k fs)
   steps-wires k [] = sym (append-nil (k .wires))
-  steps-wires k (f ∷ fs) = let behind = front (step k f) fs in
+  steps-wires k (f ∷ fs) = let behind = front (step k f) fs in let es = entriesOf behind k f in let δ = flipsOf behind k f in
       steps-wires (step k f) fs ∙ append-assoc (k .wires) (made k (f .ops) (f .kind)) (map wireOf (steps (step k f) fs))
-      ∙ rw (map-append wireOf (map (lift (flipsOf behind k f)) (entriesOf behind k f)) (steps (step k f) fs), map-map wireOf (lift (flipsOf behind k f)) (entriesOf behind k f), frame-wires isProbed behind k (f .ops) (f .kind))
+      ∙ rw (map-append wireOf (map (lift δ) es) (steps (step k f) fs), map-map wireOf (lift δ) es, frame-wires isProbed behind k (f .ops) (f .kind))
 
   size-step : (k : Circuit) (f : Frame) (behind : List ℕ) → size (step k f) ≡ size k + length (entriesOf behind k f)
   size-step k f behind = length-append (k .wires) (made k (f .ops) (f .kind)) ∙ ap (λ x. size k + x) (ap length (sym (frame-wires isProbed behind k (f .ops) (f .kind))) ∙ length-map (entriesOf behind k f) entryWire)
