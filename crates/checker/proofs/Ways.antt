@@ -148,12 +148,9 @@ module _ {table notes₀ notes : List ℕ} {d : ℕ} {walk : Walk} {tally : Tall
                 ∙ notes-more (w .k) ops kind notes₀ (omega (arith, size-extend (w .k) ops kind, passed .few, w .roomy));
             rest = w .rest ∙ ap (frames (w .k) (tally .frames) 0) (here table d (walk .at) (frame-at .inside))
                 ∙ frames-pass (w .k) (tally .frames) (nth table (walk .at)) rest (judged-is ∙ told)
-                ∙ ap₂ (λ o f. frames (extend (w .k) o kind) f 0 (drop n rest)) (sym ops-is) (one ∙ sym f-is)
+                ∙ ap₂ (λ o f. frames (extend (w .k) o kind) f 0 (drop n rest)) (sym ops-is) (omega arith)
                 ∙ ap (frames more (t .frames) 0) (drop-drop n (walk .at + 1) table ∙ ap (λ q. drop q table) (sym at-is));
           }
-        where
-          one : suc (tally .frames) ≡ tally .frames + 1
-          one = omega arith
 
     -- and less of the table is left
     pub less-left : length table - on .at < length table - walk .at
