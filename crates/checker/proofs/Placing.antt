@@ -12,7 +12,7 @@ use Rattle.circuit.specs.Limits.{stageLimit, wireLimit}
 use Rattle.circuit.specs.Lists.{concatMap}
 use Rattle.circuit.specs.Wires.{Wire}
 use Rattle.circuit.specs.Kinds.{Kind, HEAD, shape, words}
-use Rattle.circuit.specs.Circuit.{Circuit, size, newStage, made, latencyAfter, extend}
+use Rattle.circuit.specs.Circuit.{Circuit, size, newStage, made, extend}
 use Rattle.circuit.specs.Rules.{Judgement, pass, refuse, need, _then_, wordsRule}
 use Rattle.circuit.specs.Answer.{note}
 use Rattle.circuit.proofs.Building.{size-extend}
@@ -90,32 +90,23 @@ module _ {k : Circuit} {kind : Kind} {tally : Tally} {sh : ShapeCode} {d : ℕ} 
 
   -- the counts with the frame are those of the circuit with it
   tally-next : withFrame tally (numbersOf sh) (latencyIn (sh .form) (tally .latency) (madeNew tally sh d ops old .stage)) ≡ tallyOf (tally .frames + 1) (extend k ops kind)
-  tally-next = λ i. record { frames = tally .frames + 1; wires = wires i; randoms = randoms i; latency = latency i; inputs = inputs i }
-    where
-      wires : tally .wires + sh .wires ≡ size (extend k ops kind)
-      wires = ap₂ (λ t s. t .wires + s .wires) (p .tally-is) (p .shape-is) ∙ ap (λ n. size k + shape n kind .wires) (sym (p .shares)) ∙ sym (size-extend k ops kind)
-
-      randoms : tally .randoms + sh .randoms ≡ k .randoms + shape (k .d) kind .randoms
-      randoms = ap₂ (λ t s. t .randoms + s .randoms) (p .tally-is) (p .shape-is) ∙ ap (λ n. k .randoms + shape n kind .randoms) (sym (p .shares))
-
-      inputs : tally .inputs + sh .inputs ≡ k .inputs + shape (k .d) kind .inputs
-      inputs = ap₂ (λ t s. t .inputs + s .inputs) (p .tally-is) (p .shape-is) ∙ ap (λ n. k .inputs + shape n kind .inputs) (sym (p .shares))
-
-      latency : latencyIn (sh .form) (tally .latency) (madeNew tally sh d ops old .stage) ≡ latencyAfter k ops kind
-      latency = ap₂ (λ s t. latencyIn (s .form) (t .latency) (madeNew tally sh d ops old .stage)) (p .shape-is) (p .tally-is)
-          ∙ ap (latencyIn (formOf kind) (k .latency)) stage-is ∙ made-latency k ops kind (p .later)
+  tally-next =
+      ap₂ (λ t s. withFrame t (numbersOf s) (latencyIn (s .form) (t .latency) (madeNew tally sh d ops old .stage))) (p .tally-is) (p .shape-is)
+      ∙ ap₂ (λ n stage. withFrame (tallyOf (tally .frames) k) (numbersOf (shapeCode n kind)) (latencyIn (formOf kind) (k .latency) stage)) (sym (p .shares)) stage-is
+      ∙ ap₂ (λ wires latency. record { frames = tally .frames + 1; wires = wires; randoms = k .randoms + shape (k .d) kind .randoms; latency = latency; inputs = k .inputs + shape (k .d) kind .inputs })
+      (sym (size-extend k ops kind)) (made-latency k ops kind (p .later))
 
   -- what adding the frame answers
   module _ {new : List ℕ} {r : Added} (a : Adds tally sh d ops old new r) where
     pub judgement : judgementIn (tally .frames) r ≡ laterRule k (tally .frames) kind ops
-    judgement = ap (judgementIn (tally .frames)) (a .added-is) ∙ by-rule (broken tally sh d ops old .rule) (broken tally sh d ops old .word) (latencyIn (sh .form) (tally .latency) (madeNew tally sh d ops old .stage)) ∙ broken-judged (tally .frames)
+    judgement = ap (judgementIn (tally .frames)) (a .added-is) ∙ by-rule (broken tally sh d ops old .rule) _ _ ∙ broken-judged (tally .frames)
       where
         by-rule : (n w latency : ℕ) → judgementIn (tally .frames) (addedBy n w tally (numbersOf sh) latency) ≡ judged n (tally .frames) w
         by-rule zero w latency = refl
         by-rule (suc n) w latency = refl
 
     pub next : (t : Tally) → r ≡ Next t → t ≡ tallyOf (tally .frames + 1) (extend k ops kind)
-    next t e = by-rule (broken tally sh d ops old .rule) (broken tally sh d ops old .word) (latencyIn (sh .form) (tally .latency) (madeNew tally sh d ops old .stage)) (sym (a .added-is) ∙ e) ∙ tally-next
+    next t e = by-rule (broken tally sh d ops old .rule) _ _ (sym (a .added-is) ∙ e) ∙ tally-next
       where
         by-rule : (n w latency : ℕ) → addedBy n w tally (numbersOf sh) latency ≡ Next t → t ≡ withFrame tally (numbersOf sh) latency
         by-rule zero w latency e = cc

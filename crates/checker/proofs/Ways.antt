@@ -11,7 +11,7 @@ use Rattle.circuit.specs.Lists.{nth, concatMap}
 use Rattle.circuit.specs.Kinds.{Kind, HEAD, kindOf, words}
 use Rattle.circuit.specs.Circuit.{Circuit, size, made, extend}
 use Rattle.circuit.specs.Rules.{pass, refuse, frameRule, Checked, frames, checked}
-use Rattle.circuit.specs.Answer.{Answer, answer, verdictOf, note, notesAfter}
+use Rattle.circuit.specs.Answer.{answer, verdictOf, note, notesAfter}
 use Rattle.circuit.specs.Composition.{kindWord, Fits}
 use Rattle.circuit.proofs.Building.{size-extend}
 use Rattle.circuit.proofs.Steps.{frames-pass, frames-refuse}
