@@ -1,6 +1,5 @@
 -- A frame added: where its form is judged, the counts fit and the code's answer is the definition's.
-use mathlib.Core.Path.{_≡_, refl, sym, ap, ap₂, subst, _∙_}
-use mathlib.Core.Bool.{cond}
+use mathlib.Core.Path.{_≡_, refl, sym, ap, ap₂, _∙_}
 use mathlib.Core.List.{List}
 use Prim.Native.Nat.{ℕ, zero, suc, _+_, _-_, _≤_}
 use native.Mathlib.Omega.{arith}
@@ -18,20 +17,17 @@ use Rattle.checker.specs.declared.forms.Spot.{Spot}
 use Rattle.checker.specs.declared.frame.Tally.{Tally}
 use Rattle.checker.specs.declared.frame.Added.{Added}
 use Rattle.checker.specs.Internal.Notes.{noted, innerWords, namedWords}
-use Rattle.checker.specs.Internal.Adding.{spot, none, orElse, _andThen_, brokenIn, wiresAt, madeIn, limitBroken, notesWith, Judges, numbersOf, addedBy, Bounded, Fitting, FrameOf, latencyIn, Adds}
+use Rattle.checker.specs.Internal.Adding.{none, orElse, _andThen_, brokenIn, wiresAt, madeIn, limitBroken, notesWith, Judges, numbersOf, addedBy, Bounded, Fitting, FrameOf, latencyIn, Adds}
 use Rattle.checker.proofs.MadeNotes.{wordCount, numbersIn, Counts, counts}
 
 -- no rule is broken only where the new wires fit
 within : (words : Spot) (m : Made) (wires : ℕ) → ((words andThen limitBroken m wires) .rule) ≡ 0 → wires + (m .inner + m .named) ≤ wireLimit
 within words m wires = go (words .rule)
   where
-    off : {n : ℕ} → suc n ≡ 0 → ⊥
-    off e = omega arith
-
     go : (n : ℕ) → orElse n (words .word) (limitBroken m wires) .rule ≡ 0 → wires + (m .inner + m .named) ≤ wireLimit
     go (suc n) e = absurd (omega arith)
     go zero e = cases (leb (wires + (m .inner + m .named)) wireLimit) (leb-true (wires + (m .inner + m .named)) wireLimit) (λ a.
-        cases (leb (m .stage) stageLimit) (λ b. absurd (off (rw (b, a) at e))) (λ b. absurd (off (rw b at e))))
+        cases (leb (m .stage) stageLimit) (λ b. absurd (omega (arith, rw (b, a) at e))) (λ b. absurd (omega (arith, rw b at e))))
 
 -- no wires are written where none are made
 pub nothing-made : (wires : ℕ) (old : List ℕ) → wires ≤ wireLimit → Judges none (wiresAt 0 0 0) wires old old none

@@ -2,7 +2,7 @@
 use mathlib.Core.Path.{_≡_, refl, sym, ap, subst, _∙_}
 use mathlib.Core.Bool.{Bool, true, false, cond, _&&_}
 use mathlib.Core.List.{List, _∷_}
-use Prim.Native.Nat.{ℕ, zero, suc, _+_, _-_, _/_, _≤_, _<_}
+use Prim.Native.Nat.{ℕ, suc, _+_, _-_, _/_, _≤_, _<_}
 use native.Mathlib.Omega.{arith}
 use lib.Dec.{leb, ltb, eqb}
 use lib.ListN.{length, drop}
@@ -12,21 +12,21 @@ use Rattle.circuit.specs.Limits.{tableLimit, notesRoom, fewestShares, mostShare
 use Rattle.circuit.specs.Lists.{nth}
 use Rattle.circuit.specs.Kinds.{kindOf, words}
 use Rattle.circuit.specs.Circuit.{Circuit, size, empty}
-use Rattle.circuit.specs.Rules.{refuse, need, _then_, frameRule, onward, frames, headRule, checked}
-use Rattle.circuit.specs.Answer.{answer, verdictOf, notesAfter}
+use Rattle.circuit.specs.Rules.{refuse, need, _then_, frameRule, frames, headRule, checked}
+use Rattle.circuit.specs.Answer.{verdictOf, notesAfter}
 use Rattle.circuit.proofs.Base.{cases}
 use Rattle.circuit.proofs.Building.{Lawful}
+use Rattle.circuit.proofs.Exact.{Headed, head-pass}
 use Rattle.checker.specs.declared.Verdict.the-variants.{Refused}
 use Rattle.frames.specs.declared.kinds.Shape.{Shape as ShapeCode}
-use Rattle.frames.specs.declared.walk.Frame.{Frame}
 use Rattle.frames.specs.declared.walk.Walk.{Walk}
 use Rattle.frames.specs.declared.walk.Step.{Step}
-use Rattle.frames.specs.declared.walk.Step.the-variants as step
+use Rattle.frames.specs.declared.walk.Step.the-variants.{End, Next, Refused as Stopped}
 use Rattle.checker.specs.declared.frame.Tally.{Tally}
 use Rattle.checker.specs.Answers.{answerOf}
-use Rattle.frames.specs.Walk.{kindCode, shapeCode, frameCode, operandsAt, behind, stepAt}
+use Rattle.frames.specs.Walk.{shapeCode, behind, stepAt}
 use Rattle.checker.specs.Internal.Adding.{tallyOf, headNumber}
-use Rattle.checker.proofs.Spots.{judged}
+use Rattle.checker.proofs.Spots.{judged, judged-refuse}
 use Rattle.checker.proofs.Represented.{Labelled}
 
 -- 1 to 4
@@ -45,13 +45,7 @@ head-judged table room = go (leb (length table) tableLimit) (leb notesRoom room)
 pub head-refused : (table notes : List ℕ) (n : ℕ) → n ≡ headNumber table (length notes) → (n ≡ 0 → ⊥)
     → (answerOf (Refused n 0 (n / 4)) ≡ verdictOf table (length notes)) × ((notes ≡ notesAfter (checked table (length notes) .circuit) notes) × Unit {0})
 unfolding checked notesAfter
-head-refused table notes n e h = rw (head-judged table (length notes), ← e) (go n h)
-  where
-    go : (n : ℕ) → (n ≡ 0 → ⊥)
-        → (answerOf (Refused n 0 (n / 4)) ≡ answer (onward (judged n 0 (n / 4)) (empty 0) (frames (empty (nth table 1)) 1 0 (drop 2 table)) .circuit) (onward (judged n 0 (n / 4)) (empty 0) (frames (empty (nth table 1)) 1 0 (drop 2 table)) .judgement))
-        × ((notes ≡ notesAfter (onward (judged n 0 (n / 4)) (empty 0) (frames (empty (nth table 1)) 1 0 (drop 2 table)) .circuit) notes) × Unit {0})
-    go zero z = absurd (z refl)
-    go (suc n) z = (refl, (refl, tt))
+head-refused table notes n e h = rw (head-judged table (length notes), ← e, judged-refuse n 0 (n / 4) h) (refl, (refl, tt))
 
 -- what the loop keeps: the circuit of the frames so far, its notes, and that the rest of the table is still to be judged
 pub record Walking (table notes₀ notes : List ℕ) (d : ℕ) (walk : Walk) (tally : Tally) : Type 0 where
@@ -73,27 +67,8 @@ pub record Walking (table notes₀ notes : List ℕ) (d : ℕ) (walk : Walk) (ta
   pub rest : checked table (length notes₀) ≡ frames k (tally .frames) 0 (drop (walk .at) table)
 
 -- at the start
-pub record Headed (table : List ℕ) (room : ℕ) : Type 0 where
-  pub short : length table ≤ tableLimit
-  pub roomy : notesRoom ≤ room
-  pub two : 2 ≤ length table
-  pub least : fewestShares ≤ nth table 1
-  pub most : nth table 1 ≤ mostShares
-
 pub headed : (table : List ℕ) (room : ℕ) → headNumber table room ≡ 0 → Headed table room
-headed table room e =
-    cases (leb (length table) tableLimit) (λ a. cases (leb notesRoom room) (λ b. cases (leb 2 (length table)) (λ c.
-    cases (eqb (nth table 0) 0) (λ z. cases (leb fewestShares (nth table 1)) (λ f. cases (leb (nth table 1) mostShares)
-    (λ g. record { short = leb-true _ _ a; roomy = leb-true _ _ b; two = leb-true _ _ c; least = leb-true _ _ f; most = leb-true _ _ g })
-    (λ g. off (rw (a, b, c, z, f, g) at e)))
-    (λ f. off (rw (a, b, c, z, f) at e)))
-    (λ z. off (rw (a, b, c, z) at e)))
-    (λ c. off (rw (a, b, c) at e)))
-    (λ b. off (rw (a, b) at e)))
-    (λ a. off (rw a at e))
-  where
-    off : {n : ℕ} → suc n ≡ 0 → Headed table room
-    off e = absurd (omega arith)
+headed table room e = head-pass table room (head-judged table room ∙ ap (λ n. judged n 0 (n / 4)) e)
 
 pub start : (table notes : List ℕ) → headNumber table (length notes) ≡ 0
     → Walking table notes notes (nth table 1) (record { d = nth table 1; at = 2 }) (record { frames = 1; wires = 0; randoms = 0; latency = 0; inputs = 0 })
@@ -140,39 +115,20 @@ module _ (table : List ℕ) (d at : ℕ) where
     pub walk-is : w ≡ behind d at (words d (kindOf word))
 
   -- its end; a word that breaks 5 or 6; or a whole frame
-  pub data At : Step → Type 0 where
-    at-end : length table ≤ at → At step.End
-    at-refused : (rule : ℕ) → at < length table → (rule ≡ 0 → ⊥) → ((k : Circuit) → k .d ≡ d → (f : ℕ) → frameRule k f word rest ≡ refuse rule f 0) → At (step.Refused rule)
-    at-frame : (fr : Frame) (sh : ShapeCode) (w : Walk) → AtFrame sh w → At (step.Next fr sh w)
+  abbrev pub At : Step → Type 0
+  At End = length table ≤ at
+  At (Stopped rule) = (at < length table) × (rule ≡ 0 → ⊥) × ((k : Circuit) → k .d ≡ d → (f : ℕ) → frameRule k f word rest ≡ refuse rule f 0)
+  At (Next fr sh w) = AtFrame sh w
 
   found : At (stepAt table d at)
   unfolding frameRule
   found = cases (ltb at (length table)) (λ a. let l = ltb-true at (length table) a in
       cases (leb 1 (nth table at)) (λ b. cases (leb (nth table at) 8) (λ c. cases (leb (words d (kindOf (nth table at))) (length (drop (at + 1) table)))
-      (λ e. rw (a, b, c, e) (at-frame _ _ _ (record { inside = l; low = leb-true _ _ b; high = leb-true _ _ c; whole = leb-true _ _ e; shape-is = refl; walk-is = refl })))
-      (λ e. rw (a, b, c, e) (at-refused 6 l (λ z. omega arith) (λ k s f. rw (s, b, c, e)))))
-      (λ c. rw (a, b, c) (at-refused 5 l (λ z. omega arith) (λ k s f. rw (b, c)))))
-      (λ b. rw (a, b) (at-refused 5 l (λ z. omega arith) (λ k s f. rw b))))
-      (λ a. rw a (at-end (ltb-false at (length table) a)))
+      (λ e. rw (a, b, c, e) (record { inside = l; low = leb-true _ _ b; high = leb-true _ _ c; whole = leb-true _ _ e; shape-is = refl; walk-is = refl }))
+      (λ e. rw (a, b, c, e) (l, (λ z. omega arith), (λ k s f. rw (s, b, c, e)))))
+      (λ c. rw (a, b, c) (l, (λ z. omega arith), (λ k s f. rw (b, c)))))
+      (λ b. rw (a, b) (l, (λ z. omega arith), (λ k s f. rw b))))
+      (λ a. rw a (ltb-false at (length table) a))
 
-  met : {s : Step} → s ≡ stepAt table d at → At s
+  pub met : {s : Step} → s ≡ stepAt table d at → At s
   met e = subst At (sym e) found
-
-  pub step-end : step.End ≡ stepAt table d at → length table ≤ at
-  step-end e = of (met e)
-    where
-      of : At step.End → length table ≤ at
-      of (at-end h) = h
-
-  pub step-refused : (rule : ℕ) → step.Refused rule ≡ stepAt table d at
-      → (at < length table) × (rule ≡ 0 → ⊥) × ((k : Circuit) → k .d ≡ d → (f : ℕ) → frameRule k f word rest ≡ refuse rule f 0)
-  step-refused rule e = of (met e)
-    where
-      of : At (step.Refused rule) → (at < length table) × (rule ≡ 0 → ⊥) × ((k : Circuit) → k .d ≡ d → (f : ℕ) → frameRule k f word rest ≡ refuse rule f 0)
-      of (at-refused r l z h) = (l, z, h)
-
-  pub step-next : {fr : Frame} {sh : ShapeCode} {w : Walk} → step.Next fr sh w ≡ stepAt table d at → AtFrame sh w
-  step-next {fr} {sh} {w} e = of (met e)
-    where
-      of : At (step.Next fr sh w) → AtFrame sh w
-      of (at-frame f s v h) = h

@@ -18,14 +18,11 @@ like-self l t = rw (eq-eqb l l refl, eq-eqb (t + 0) t (omega arith))
 
 pub not-inner : (notes : List ℕ) (wires x : ℕ) {l t : ℕ} → noted notes wires x ≡ Named l t → l ≡ innerNote → ⊥
 not-inner notes wires x {l} {t} e h = cases (ltb x wires)
-    (λ a. cases (eqb (nth notes (2 * x)) innerNote) (λ b. inner (rw (a, b) at e)) (λ b. eqb-false (nth notes (2 * x)) innerNote b (label (rw (a, b) at e) ∙ h)))
-    (λ a. missing (rw a at e))
+    (λ a. cases (eqb (nth notes (2 * x)) innerNote) (λ b. never (rw (a, b) at e)) (λ b. eqb-false (nth notes (2 * x)) innerNote b (label (rw (a, b) at e) ∙ h)))
+    (λ a. let q : Missing ≡ Named l t = rw a at e in let z : _≡_ {A = ℕ} 0 1 = cc in omega arith)
   where
-    missing : Missing ≡ Named l t → ⊥
-    missing e = let z : _≡_ {A = ℕ} 0 1 = cc in omega arith
-
-    inner : Inner ≡ Named l t → ⊥
-    inner e = let z : _≡_ {A = ℕ} 0 1 = cc in omega arith
+    never : Inner ≡ Named l t → ⊥
+    never e = let z : _≡_ {A = ℕ} 0 1 = cc in omega arith
 
     label : {a b : ℕ} → Named a b ≡ Named l t → a ≡ l
     label e = cc

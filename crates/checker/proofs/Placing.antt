@@ -12,14 +12,13 @@ use Rattle.circuit.specs.Limits.{stageLimit, wireLimit}
 use Rattle.circuit.specs.Lists.{concatMap}
 use Rattle.circuit.specs.Wires.{Wire}
 use Rattle.circuit.specs.Kinds.{Kind, HEAD, shape, words}
-use Rattle.circuit.specs.Circuit.{Circuit, size, newStage, made, latencyAfter, extend}
+use Rattle.circuit.specs.Circuit.{Circuit, size, newStage, made, extend}
 use Rattle.circuit.specs.Rules.{Judgement, pass, refuse, need, _then_, wordsRule}
 use Rattle.circuit.specs.Answer.{note}
 use Rattle.circuit.proofs.Building.{size-extend}
 use Rattle.frames.specs.declared.kinds.Shape.{Shape as ShapeCode}
 use Rattle.frames.specs.Walk.{formOf, shapeCode}
 use Rattle.frames.proofs.KindTable.{means}
-use Rattle.checker.specs.declared.notes.Made.{Made}
 use Rattle.checker.specs.declared.forms.Spot.{Spot}
 use Rattle.checker.specs.declared.frame.Tally.{Tally}
 use Rattle.checker.specs.declared.frame.Added.{Added}
@@ -64,11 +63,7 @@ module _ {k : Circuit} {kind : Kind} {tally : Tally} {sh : ShapeCode} {d : ℕ} 
   stage-is = ap (λ x. x .stage) made-is ∙ made-stage k ops kind (p .later)
 
   -- and so is the first spot
-  limits : Made → Spot
-  limits m = limitBroken m (size k)
-
-  broken-is : broken tally sh d ops old ≡ (brokenIn (k .d) (k .randoms) (foundOf k) ops (formOf kind) andThen limits (madeBy k ops kind))
-  unfolding limits
+  broken-is : broken tally sh d ops old ≡ (brokenIn (k .d) (k .randoms) (foundOf k) ops (formOf kind) andThen limitBroken (madeBy k ops kind) (size k))
   broken-is = ap₂ (λ s m. brokenIn d (tally .randoms) (noted old (tally .wires)) ops (s .form) andThen limitBroken m (tally .wires)) (p .shape-is) made-is
       ∙ ap₂ (λ n look. brokenIn n (tally .randoms) look ops (formOf kind) andThen limitBroken (madeBy k ops kind) (tally .wires)) (sym (p .shares)) (fun-ext (p .represents))
       ∙ ap (λ t. brokenIn (k .d) (t .randoms) (foundOf k) ops (formOf kind) andThen limitBroken (madeBy k ops kind) (t .wires)) (p .tally-is)
@@ -79,9 +74,8 @@ module _ {k : Circuit} {kind : Kind} {tally : Tally} {sh : ShapeCode} {d : ℕ} 
       words-are k f (formOf kind) ops (counts (k .d) kind (foundOf k) ops .form-later (p .later)) (p .whole ∙ ap (λ n. words n kind) (sym (p .shares)) ∙ sym (ap length (m .rules)))
       ∙ ap (λ rs. wordsRule k f ops 1 rs ops) (m .rules)
 
-  limits-judged : (f : ℕ) → judgedAt f (limits (madeBy k ops kind))
+  limits-judged : (f : ℕ) → judgedAt f (limitBroken (madeBy k ops kind) (size k))
       ≡ (need (leb (newStage k ops kind) stageLimit) 13 f 0 then need (leb (size k + shape (k .d) kind .wires) wireLimit) 14 f 0)
-  unfolding limits
   limits-judged f = both (leb (madeBy k ops kind .stage) stageLimit) (leb (size k + (madeBy k ops kind .inner + madeBy k ops kind .named)) wireLimit)
       ∙ ap₂ (λ t n. need (leb t stageLimit) 13 f 0 then need (leb (size k + n) wireLimit) 14 f 0) (made-stage k ops kind (p .later)) (counts (k .d) kind (foundOf k) ops .wires-are)
     where
@@ -91,37 +85,28 @@ module _ {k : Circuit} {kind : Kind} {tally : Tally} {sh : ShapeCode} {d : ℕ} 
       both false b = refl
 
   broken-judged : (f : ℕ) → judgedAt f (broken tally sh d ops old) ≡ laterRule k f kind ops
-  broken-judged f = ap (judgedAt f) broken-is ∙ judged-then f (brokenIn (k .d) (k .randoms) (foundOf k) ops (formOf kind)) (limits (madeBy k ops kind))
+  broken-judged f = ap (judgedAt f) broken-is ∙ judged-then f (brokenIn (k .d) (k .randoms) (foundOf k) ops (formOf kind)) (limitBroken (madeBy k ops kind) (size k))
       ∙ ap₂ _then_ (words-judged f) (limits-judged f)
 
   -- the counts with the frame are those of the circuit with it
   tally-next : withFrame tally (numbersOf sh) (latencyIn (sh .form) (tally .latency) (madeNew tally sh d ops old .stage)) ≡ tallyOf (tally .frames + 1) (extend k ops kind)
-  tally-next = λ i. record { frames = tally .frames + 1; wires = wires i; randoms = randoms i; latency = latency i; inputs = inputs i }
-    where
-      wires : tally .wires + sh .wires ≡ size (extend k ops kind)
-      wires = ap₂ (λ t s. t .wires + s .wires) (p .tally-is) (p .shape-is) ∙ ap (λ n. size k + shape n kind .wires) (sym (p .shares)) ∙ sym (size-extend k ops kind)
-
-      randoms : tally .randoms + sh .randoms ≡ k .randoms + shape (k .d) kind .randoms
-      randoms = ap₂ (λ t s. t .randoms + s .randoms) (p .tally-is) (p .shape-is) ∙ ap (λ n. k .randoms + shape n kind .randoms) (sym (p .shares))
-
-      inputs : tally .inputs + sh .inputs ≡ k .inputs + shape (k .d) kind .inputs
-      inputs = ap₂ (λ t s. t .inputs + s .inputs) (p .tally-is) (p .shape-is) ∙ ap (λ n. k .inputs + shape n kind .inputs) (sym (p .shares))
-
-      latency : latencyIn (sh .form) (tally .latency) (madeNew tally sh d ops old .stage) ≡ latencyAfter k ops kind
-      latency = ap₂ (λ s t. latencyIn (s .form) (t .latency) (madeNew tally sh d ops old .stage)) (p .shape-is) (p .tally-is)
-          ∙ ap (latencyIn (formOf kind) (k .latency)) stage-is ∙ made-latency k ops kind (p .later)
+  tally-next =
+      ap₂ (λ t s. withFrame t (numbersOf s) (latencyIn (s .form) (t .latency) (madeNew tally sh d ops old .stage))) (p .tally-is) (p .shape-is)
+      ∙ ap₂ (λ n stage. withFrame (tallyOf (tally .frames) k) (numbersOf (shapeCode n kind)) (latencyIn (formOf kind) (k .latency) stage)) (sym (p .shares)) stage-is
+      ∙ ap₂ (λ wires latency. record { frames = tally .frames + 1; wires = wires; randoms = k .randoms + shape (k .d) kind .randoms; latency = latency; inputs = k .inputs + shape (k .d) kind .inputs })
+      (sym (size-extend k ops kind)) (made-latency k ops kind (p .later))
 
   -- what adding the frame answers
   module _ {new : List ℕ} {r : Added} (a : Adds tally sh d ops old new r) where
     pub judgement : judgementIn (tally .frames) r ≡ laterRule k (tally .frames) kind ops
-    judgement = ap (judgementIn (tally .frames)) (a .added-is) ∙ by-rule (broken tally sh d ops old .rule) (broken tally sh d ops old .word) (latencyIn (sh .form) (tally .latency) (madeNew tally sh d ops old .stage)) ∙ broken-judged (tally .frames)
+    judgement = ap (judgementIn (tally .frames)) (a .added-is) ∙ by-rule (broken tally sh d ops old .rule) _ _ ∙ broken-judged (tally .frames)
       where
         by-rule : (n w latency : ℕ) → judgementIn (tally .frames) (addedBy n w tally (numbersOf sh) latency) ≡ judged n (tally .frames) w
         by-rule zero w latency = refl
         by-rule (suc n) w latency = refl
 
     pub next : (t : Tally) → r ≡ Next t → t ≡ tallyOf (tally .frames + 1) (extend k ops kind)
-    next t e = by-rule (broken tally sh d ops old .rule) (broken tally sh d ops old .word) (latencyIn (sh .form) (tally .latency) (madeNew tally sh d ops old .stage)) (sym (a .added-is) ∙ e) ∙ tally-next
+    next t e = by-rule (broken tally sh d ops old .rule) _ _ (sym (a .added-is) ∙ e) ∙ tally-next
       where
         by-rule : (n w latency : ℕ) → addedBy n w tally (numbersOf sh) latency ≡ Next t → t ≡ withFrame tally (numbersOf sh) latency
         by-rule zero w latency e = cc
@@ -143,7 +128,4 @@ refused-rule {tally} {sh} {d} {ops} {old} a {s} e = by-rule (broken tally sh d o
   where
     by-rule : (n w latency : ℕ) → addedBy n w tally (numbersOf sh) latency ≡ Refused s → s .rule ≡ 0 → ⊥
     by-rule zero w latency e h = let z : _≡_ {A = ℕ} 0 1 = cc in omega arith
-    by-rule (suc n) w latency e h = let q : suc n ≡ s .rule = ap (λ x. x .rule) (same e) in omega arith
-      where
-        same : Refused (spot (suc n) w) ≡ Refused s → spot (suc n) w ≡ s
-        same e = cc
+    by-rule (suc n) w latency e h = let q : spot (suc n) w ≡ s = cc in omega (arith, ap (λ x. x .rule) q)

@@ -12,12 +12,12 @@ use borrow.Author.Tests.{ne-eqb, ltb-true}
 use Rattle.circuit.specs.Limits.{innerNote, fewestShares, mostShares}
 use Rattle.circuit.specs.Lists.{nth, concatMap, overwrite}
 use Rattle.circuit.specs.Wires.{Wire, Place, named, inner, constant, _placed_}
-use Rattle.circuit.specs.Gadgets.{labels, c, S, inAND, inREF}
+use Rattle.circuit.specs.Gadgets.{c, S, inAND, inREF}
 use Rattle.circuit.specs.Kinds.{Kind}
 use Rattle.circuit.specs.Circuit.{Circuit, size, place, labelOf, newStage, made, extend}
 use Rattle.circuit.specs.Answer.{note, notesAfter}
-use Rattle.circuit.proofs.Base.{cases, AllFrom, all-map, all-of, every-of}
-use Rattle.circuit.proofs.Parts.{label-lt, InAND, InREF, and-parts, ref-parts}
+use Rattle.circuit.proofs.Base.{cases, AllFrom, all-any}
+use Rattle.circuit.proofs.Numbered.{at-all, all-default}
 use Rattle.circuit.specs.Composition.{Fits, fit-IN, fit-CON, fit-XOR, fit-NOT, fit-REG, fit-AND, fit-REF, fit-OUT}
 use Rattle.circuit.proofs.Building.{Lawful, step-all, gadget-all}
 use Rattle.checker.specs.Internal.Notes.{foundIn, shown, Represents}
@@ -26,16 +26,7 @@ use Rattle.checker.proofs.MadeNotes.{notes-append}
 abbrev notesOf : List Wire → List ℕ
 notesOf ws = concatMap ws (λ w. note (w .place))
 
--- two words a wire
-pub notes-length : (ws : List Wire) → length (notesOf ws) ≡ 2 * length ws
-notes-length [] = refl
-notes-length (w ∷ ws) = omega (arith, length-append (note (w .place)) (notesOf ws), two (w .place), notes-length ws)
-  where
-    two : (p : Place) → length (note p) ≡ 2
-    two (named l t) = refl
-    two (inner t) = refl
-
--- the words of wire x
+-- the words of a wire
 abbrev noteLabel : Place → ℕ
 noteLabel (named l t) = l
 noteLabel (inner t) = innerNote
@@ -44,43 +35,37 @@ abbrev noteStage : Place → ℕ
 noteStage (named l t) = t
 noteStage (inner t) = innerNote
 
-placeAt : List Wire → ℕ → Place
+note-is : (p : Place) → note p ≡ noteLabel p ∷ noteStage p ∷ []
+note-is (named l t) = refl
+note-is (inner t) = refl
+
+pub notes-length : (ws : List Wire) → length (notesOf ws) ≡ 2 * length ws
+notes-length [] = refl
+notes-length (w ∷ ws) = rw (note-is (w .place)) (omega (arith, notes-length ws))
+
+-- the words of wire x
+abbrev placeAt : List Wire → ℕ → Place
 placeAt ws x = getD ws x (constant false placed inner 0) .place
 
 words-at : (ws : List Wire) (rest : List ℕ) (x : ℕ) → x < length ws
     → (nth (notesOf ws ++ rest) (2 * x) ≡ noteLabel (placeAt ws x)) × (nth (notesOf ws ++ rest) (2 * x + 1) ≡ noteStage (placeAt ws x))
-unfolding placeAt
 words-at [] rest x h = absurd (omega arith)
-words-at (w ∷ ws) rest zero h = first (w .place)
-  where
-    first : (p : Place) → (nth (note p ++ notesOf ws ++ rest) 0 ≡ noteLabel p) × (nth (note p ++ notesOf ws ++ rest) 1 ≡ noteStage p)
-    first (named l t) = (refl, refl)
-    first (inner t) = (refl, refl)
+words-at (w ∷ ws) rest zero h = rw (note-is (w .place)) (refl, refl)
 words-at (w ∷ ws) rest (suc x) h =
-    let (a, b) = words-at ws rest x (omega arith) in
     let e : 2 * suc x ≡ suc (suc (2 * x)) = omega arith in
-    let g : 2 * suc x + 1 ≡ suc (suc (2 * x + 1)) = omega arith in
-    (ap (nth (note (w .place) ++ notesOf ws ++ rest)) e ∙ later (w .place) (2 * x) ∙ a, ap (nth (note (w .place) ++ notesOf ws ++ rest)) g ∙ later (w .place) (2 * x + 1) ∙ b)
-  where
-    later : (p : Place) (n : ℕ) → nth (note p ++ notesOf ws ++ rest) (suc (suc n)) ≡ nth (notesOf ws ++ rest) n
-    later (named l t) n = refl
-    later (inner t) n = refl
+    let g : suc (suc (2 * x)) + 1 ≡ suc (suc (2 * x + 1)) = omega arith in
+    rw (note-is (w .place), e, g) (words-at ws rest x (omega arith))
 
 -- every label is a share
 abbrev pub Labelled : Circuit → ℕ → Wire → Type 0
 Labelled k x wire = labelOf (wire .place) < k .d
 
 label-old : (k : Circuit) → 0 < k .d → Lawful Labelled k → (x : ℕ) → labelOf (place k x) < k .d
-label-old k least law x = go (k .wires) 0 x law
-  where
-    go : (ws : List Wire) (n x : ℕ) → AllFrom (Labelled k) n ws → labelOf (getD ws x (constant false placed inner 0) .place) < k .d
-    go [] n x h = least
-    go (w ∷ ws) n zero h = h .0
-    go (w ∷ ws) n (suc x) h = go ws (suc n) x (h .1)
+label-old k least law x = all-default (λ wire. labelOf (wire .place) < k .d) (constant false placed inner 0) least 0 (k .wires) x law
 
 -- the notes represent the circuit
 pub represents : (k : Circuit) (notes : List ℕ) → k .d ≤ mostShares → 0 < k .d → Lawful Labelled k → Represents k (notesAfter k notes) (size k)
-unfolding notesAfter placeAt
+unfolding notesAfter
 represents k notes most least law x = cases (ltb x (size k)) (λ e. rw e (inside (ltb-true x (size k) e))) (λ e. rw e)
   where
     found : (p : Place) → labelOf p < k .d → foundIn (noteLabel p) (noteStage p) ≡ shown p
@@ -115,20 +100,15 @@ notes-more k ops kind notes room =
 -- every frame keeps the law of labels
 label-new : (k : Circuit) (ops : List ℕ) (kind : Kind) → fewestShares ≤ k .d → Lawful Labelled k → Fits k kind ops → AllFrom (Labelled (extend k ops kind)) (size k) (made k ops kind)
 unfolding made newStage
-label-new k _ _ ge h (fit-IN t o) = all-map (Labelled k) _ (size k) (labels (k .d))
-    (all-of _ (λ i. i < k .d) (size k) (labels (k .d)) (λ n i l q. q) (every-of (λ i. i < k .d) (labels (k .d)) (label-lt (k .d))))
+label-new k _ _ ge h (fit-IN t o) = at-all (Labelled k) _ (size k) 0 (k .d) (λ i l. omega arith)
 label-new k _ _ ge h (fit-CON l b t o p q) = (o, tt)
 label-new k _ _ ge h (fit-XOR x y l t p q) = (label-old k (omega arith) h x, tt)
 label-new k _ _ ge h (fit-NOT x l t p) = (label-old k (omega arith) h x, tt)
 label-new k _ _ ge h (fit-REG x l t p o) = (label-old k (omega arith) h x, tt)
 label-new k _ _ ge h (fit-AND ops t len first p q o) =
-    gadget-all (Labelled k) (k .d) (size k) _ _ (inAND (k .d)) c _ _
-    (all-of _ (InAND (k .d)) (size k) (inAND (k .d)) (λ x z l i. omega arith) (and-parts (k .d)))
-    (λ x i l g. g)
+    gadget-all (k .d) (size k) _ _ (inAND (k .d)) c _ _ (Labelled k) (all-any _ (λ x z. omega arith) (size k) (inAND (k .d))) (λ x i l g. g)
 label-new k _ _ ge h (fit-REF ops t len first p o) =
-    gadget-all (Labelled k) (k .d) (size k) _ _ (inREF (k .d)) S _ _
-    (all-of _ (InREF (k .d)) (size k) (inREF (k .d)) (λ x z l i. omega arith) (ref-parts (k .d)))
-    (λ x i l g. g)
+    gadget-all (k .d) (size k) _ _ (inREF (k .d)) S _ _ (Labelled k) (all-any _ (λ x z. omega arith) (size k) (inREF (k .d))) (λ x i l g. g)
 label-new k _ _ ge h (fit-OUT ops t len p) = tt
 
 pub label-step : (k : Circuit) (ops : List ℕ) (kind : Kind) → fewestShares ≤ k .d → Fits k kind ops → Lawful Labelled k → Lawful Labelled (extend k ops kind)

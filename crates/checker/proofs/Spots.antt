@@ -1,8 +1,7 @@
 -- The first of some spots that names a rule, as a judgement.
-use mathlib.Core.Path.{_≡_, refl, sym, ap, _∙_}
+use mathlib.Core.Path.{_≡_, refl, ap}
 use mathlib.Core.Bool.{Bool, true, false, cond}
 use Prim.Native.Nat.{ℕ, zero, suc}
-use native.Mathlib.Omega.{arith}
 use Rattle.circuit.specs.Rules.{Judgement, pass, refuse, need, _then_}
 use Rattle.checker.specs.declared.forms.Spot.{Spot}
 use Rattle.checker.specs.Internal.Adding.{spot, orElse, _andThen_}
@@ -14,6 +13,10 @@ judged (suc r) f w = refuse (suc r) f w
 
 abbrev pub judgedAt : ℕ → Spot → Judgement
 judgedAt f s = judged (s .rule) f (s .word)
+
+pub judged-refuse : (n f w : ℕ) → (n ≡ 0 → ⊥) → judged n f w ≡ refuse n f w
+judged-refuse zero f w h = absurd (h refl)
+judged-refuse (suc n) f w h = refl
 
 -- a spot that names a rule comes first, one that names none is passed over
 pub broken-first : (s next : Spot) → (s .rule ≡ 0 → ⊥) → (s andThen next) ≡ s

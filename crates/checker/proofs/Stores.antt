@@ -1,5 +1,5 @@
 -- Wires stored into the notes, two words a turn.
-use mathlib.Core.Path.{_≡_, refl, sym, ap, ap₂, _∙_}
+use mathlib.Core.Path.{_≡_, refl, sym, ap, _∙_}
 use mathlib.Core.List.{List, [], _∷_, _++_}
 use Prim.Native.Nat.{ℕ, zero, suc, _+_, _*_, _-_, _≤_, _<_}
 use native.Mathlib.Omega.{arith}
@@ -11,24 +11,18 @@ use Rattle.checker.specs.Internal.Notes.{innerWords, namedWords}
 -- before the first turn
 pub store-start : (n : List ℕ) (from label count : ℕ) (words : ℕ → ℕ → List ℕ) → sets n (2 * from) (words label count) ≡ sets n (2 * from + 0) (words (label + 0) (count - 0))
 store-start n from label count words =
-    let p : 2 * from ≡ 2 * from + 0 = omega arith in
-    let l : label ≡ label + 0 = omega arith in
-    let k : count ≡ count - 0 = omega arith in
-    ap₂ (λ p k. sets n p (words label k)) p k ∙ ap (λ l. sets n (2 * from + 0) (words l (count - 0))) l
+    let p : 2 * from + 0 ≡ 2 * from = omega arith in
+    let l : label + 0 ≡ label = omega arith in
+    let k : count - 0 ≡ count = omega arith in
+    rw (p, l, k)
 
 -- one turn
 pub store-turn : (n : List ℕ) (from i a b : ℕ) (ws rest : List ℕ) → ws ≡ a ∷ b ∷ rest
     → sets n (2 * from + 2 * i) ws ≡ sets (set (set n (2 * from + 2 * i) a) (2 * from + 2 * i + 1) b) (2 * from + 2 * (i + 1)) rest
-store-turn n from i a b ws rest e = ap (sets n p) e ∙ ap₂ (λ q r. sets (set (set n p a) q b) r rest) next after
-  where
-    p : ℕ
-    p = 2 * from + 2 * i
-
-    next : suc p ≡ p + 1
-    next = omega arith
-
-    after : suc (suc p) ≡ 2 * from + 2 * (i + 1)
-    after = omega arith
+store-turn n from i a b ws rest e =
+    let next : 2 * from + 2 * i + 1 ≡ suc (2 * from + 2 * i) = omega arith in
+    let after : 2 * from + 2 * (i + 1) ≡ suc (suc (2 * from + 2 * i)) = omega arith in
+    rw (e, next, after)
 
 -- the words of inner wires, one by one
 unfoldable pub marks : ℕ → List ℕ

@@ -11,7 +11,7 @@ use Rattle.circuit.specs.Lists.{nth, concatMap}
 use Rattle.circuit.specs.Kinds.{Kind, HEAD, kindOf, words}
 use Rattle.circuit.specs.Circuit.{Circuit, size, made, extend}
 use Rattle.circuit.specs.Rules.{pass, refuse, frameRule, Checked, frames, checked}
-use Rattle.circuit.specs.Answer.{Answer, answer, verdictOf, note, notesAfter}
+use Rattle.circuit.specs.Answer.{answer, verdictOf, note, notesAfter}
 use Rattle.circuit.specs.Composition.{kindWord, Fits}
 use Rattle.circuit.proofs.Building.{size-extend}
 use Rattle.circuit.proofs.Steps.{frames-pass, frames-refuse}
@@ -26,7 +26,7 @@ use Rattle.checker.specs.declared.frame.Tally.{Tally}
 use Rattle.checker.specs.declared.frame.Added.{Added}
 use Rattle.checker.specs.declared.frame.Added.the-variants as added
 use Rattle.checker.specs.Answers.{answerOf, inputsAre}
-use Rattle.frames.specs.Walk.{shapeCode, operandsAt, behind, stepAt}
+use Rattle.frames.specs.Walk.{shapeCode, operandsAt, stepAt}
 use Rattle.checker.specs.declared.notes.Found.{Found}
 use Rattle.checker.specs.declared.forms.Spot.{Spot}
 use Rattle.checker.specs.Internal.Notes.{Represents}
@@ -34,7 +34,7 @@ use Rattle.checker.specs.Internal.Adding.{tallyOf, Bounded, FrameOf, Add
 use Rattle.checker.proofs.MadeNotes.{counts}
 use Rattle.checker.proofs.Represented.{represents, notes-more, notes-same, label-step}
 use Rattle.checker.proofs.Placing.{judgementIn, laterRule, notesAdded, Placed, judgement, next, notes-next}
-use Rattle.checker.proofs.Checking.{Walking, here, step-end, step-refused, AtFrame, step-next}
+use Rattle.checker.proofs.Checking.{Walking, here, AtFrame, met}
 
 -- what the call promises
 abbrev pub Promised : (table notes₀ notes : List ℕ) → Verdict → Type 0
@@ -50,14 +50,8 @@ module _ {table notes₀ notes : List ℕ} {d : ℕ} {walk : Walk} {tally : Tall
   -- the end of the table
   pub way-end : step.End ≡ stepAt table (walk .d) (walk .at) → Promised table notes₀ notes (Accepted (tally .wires) (tally .randoms) (tally .latency) (tally .inputs))
   unfolding frames
-  way-end e = ends (record { circuit = w .k; judgement = pass }) (ap (frames (w .k) (tally .frames) 0) none) refl (Accepted (tally .wires) (tally .randoms) (tally .latency) (tally .inputs))
-      (ap (λ t. answer-of (t .wires) (t .randoms) (t .latency)) (w .tally-is)) (ap (λ t. t .inputs) (w .tally-is))
-    where
-      answer-of : ℕ → ℕ → ℕ → Answer
-      answer-of a b c = answerOf (Accepted a b c 0)
-
-      none : drop (walk .at) table ≡ []
-      none = drop-of-length-le table {i = walk .at} (step-end table (walk .d) (walk .at) e)
+  way-end e = ends (record { circuit = w .k; judgement = pass }) (ap (frames (w .k) (tally .frames) 0) (drop-of-length-le table {i = walk .at} (met table (walk .d) (walk .at) e))) refl
+      (Accepted (tally .wires) (tally .randoms) (tally .latency) (tally .inputs)) (ap (λ t. answerOf (Accepted (t .wires) (t .randoms) (t .latency) 0)) (w .tally-is)) (ap (λ t. t .inputs) (w .tally-is))
 
   -- a frame that is refused
   refused-at : (rule word : ℕ) → walk .at < length table → frameRule (w .k) (tally .frames) (nth table (walk .at)) (drop (walk .at + 1) table) ≡ refuse rule (tally .frames) word
@@ -67,37 +61,33 @@ module _ {table notes₀ notes : List ℕ} {d : ℕ} {walk : Walk} {tally : Tall
       (Refused rule (tally .frames) word) refl tt
 
   pub way-refused : (rule : ℕ) → step.Refused rule ≡ stepAt table (walk .d) (walk .at) → Promised table notes₀ notes (Refused rule (tally .frames) 0)
-  way-refused rule e = let (h, _, r) = step-refused table (walk .d) (walk .at) rule e in
+  way-refused rule e = let (h, _, r) = met table (walk .d) (walk .at) e in
       refused-at rule 0 h (r (w .k) (w .shares ∙ sym (w .walk-shares)) (tally .frames))
 
   -- a whole frame at the walk's place
   module _ {fr : Frame} {sh : ShapeCode} {on : Walk} (e : step.Next fr sh on ≡ stepAt table (walk .d) (walk .at)) (ops : List ℕ) (o : ops ≡ operandsAt table (walk .d) (walk .at)) where
     frame-at : AtFrame table (walk .d) (walk .at) sh on
-    frame-at = step-next table (walk .d) (walk .at) e
+    frame-at = met table (walk .d) (walk .at) e
 
-    kind : Kind
+    abbrev kind : Kind
     kind = kindOf (nth table (walk .at))
 
-    rest : List ℕ
+    abbrev rest : List ℕ
     rest = drop (walk .at + 1) table
 
     later : kind ≡ HEAD → ⊥
-    unfolding kind
     later h = omega (arith, frame-at .low, ap kindWord h, known (nth table (walk .at)) (frame-at .high))
 
     shares : walk .d ≡ w .k .d
     shares = w .walk-shares ∙ sym (w .shares)
 
     ops-is : ops ≡ take (words (w .k .d) kind) rest
-    unfolding kind rest
     ops-is = o ∙ ap (λ n. take (words n kind) rest) shares
 
     whole : words (w .k .d) kind ≤ length rest
-    unfolding kind rest
     whole = subst (λ n. words n kind ≤ length rest) shares (frame-at .whole)
 
     placed : Placed (w .k) kind tally sh d ops notes
-    unfolding kind rest
     placed = record {
       later = later;
       represents = rw (w .notes-is) (subst (λ n. Represents (w .k) (notesAfter (w .k) notes₀) n) (sym (ap (λ t. t .wires) (w .tally-is))) (represents (w .k) notes₀ (w .most) (omega (arith, w .least)) (w .law)));
@@ -109,7 +99,7 @@ module _ {table notes₀ notes : List ℕ} {d : ℕ} {walk : Walk} {tally : Tall
 
     -- what is left to judge behind 5 and 6 is the frame's judgement
     judged-is : frameRule (w .k) (tally .frames) (nth table (walk .at)) rest ≡ laterRule (w .k) (tally .frames) kind ops
-    unfolding kind rest frameRule
+    unfolding frameRule
     judged-is = rw (le-leb 1 (nth table (walk .at)) (frame-at .low), le-leb (nth table (walk .at)) 8 (frame-at .high), le-leb (words (w .k .d) kind) (length rest) whole, ops-is)
 
     pub frame-of : FrameOf sh d ops
@@ -124,14 +114,12 @@ module _ {table notes₀ notes : List ℕ} {d : ℕ} {walk : Walk} {tally : Tall
       broken-kept s e = notes-next placed a ∙ ap (λ j. notesAdded j notes (size (w .k)) (made (w .k) ops kind)) (broken-is s e)
 
       pub way-broken : (s : Spot) → r ≡ added.Refused s → Promised table notes₀ new (Refused (s .rule) (tally .frames) (s .word))
-      unfolding kind rest
       way-broken s e =
           let (v, n) = refused-at (s .rule) (s .word) (frame-at .inside) (judged-is ∙ broken-is s e) in
           (v, (broken-kept s e ∙ n .0, n .1))
 
       -- the frame is added
       pub turn : (t : Tally) → r ≡ added.Next t → Walking table notes₀ new d on t
-      unfolding kind rest
       turn t s =
           let told : laterRule (w .k) (tally .frames) kind ops ≡ pass = sym (judgement placed a) ∙ ap (judgementIn (tally .frames)) s in
           let passed = frame-pass (w .k) (tally .frames) (nth table (walk .at)) rest (w .least) (judged-is ∙ told) in
@@ -160,16 +148,12 @@ module _ {table notes₀ notes : List ℕ} {d : ℕ} {walk : Walk} {tally : Tall
                 ∙ notes-more (w .k) ops kind notes₀ (omega (arith, size-extend (w .k) ops kind, passed .few, w .roomy));
             rest = w .rest ∙ ap (frames (w .k) (tally .frames) 0) (here table d (walk .at) (frame-at .inside))
                 ∙ frames-pass (w .k) (tally .frames) (nth table (walk .at)) rest (judged-is ∙ told)
-                ∙ ap₂ (λ o f. frames (extend (w .k) o kind) f 0 (drop n rest)) (sym ops-is) (one ∙ sym f-is)
+                ∙ ap₂ (λ o f. frames (extend (w .k) o kind) f 0 (drop n rest)) (sym ops-is) (omega arith)
                 ∙ ap (frames more (t .frames) 0) (drop-drop n (walk .at + 1) table ∙ ap (λ q. drop q table) (sym at-is));
           }
-        where
-          one : suc (tally .frames) ≡ tally .frames + 1
-          one = omega arith
 
     -- and less of the table is left
     pub less-left : length table - on .at < length table - walk .at
-    unfolding kind rest
     less-left = omega (arith, ap (λ x. x .at) (frame-at .walk-is), frame-at .inside)
 
 -- the notes are as long as they were

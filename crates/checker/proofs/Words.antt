@@ -10,10 +10,11 @@ use lib.Seq.{length-take-le}
 use borrow.Author.Tests.{ltb-false}
 use Rattle.circuit.specs.Lists.{nth, range}
 use Rattle.circuit.specs.Wires.{Place, named, inner}
-use Rattle.circuit.specs.Kinds.{WordRule, label, value, stage, random, like, share, before, row}
+use Rattle.circuit.specs.Kinds.{WordRule, like, share, before, row}
 use Rattle.circuit.specs.Circuit.{Circuit, size, place, labelOf, stageShown}
 use Rattle.circuit.specs.Rules.{Judgement, need, _then_, isNamed, wireRule, wordRule, wordsRule}
 use Rattle.circuit.proofs.Base.{cases}
+use Rattle.circuit.proofs.Fitting.{one-word, two-words, three-words}
 use Rattle.frames.specs.declared.kinds.Form.{Form}
 use Rattle.frames.specs.declared.kinds.Form.the-variants.{ShareCount, Stage, Constant, Sum, Copy, Product, Refresh, Row}
 use Rattle.frames.specs.Walk.{rulesOf}
@@ -30,22 +31,19 @@ module _ (k : Circuit) where
   past : (x : ℕ) → size k ≤ x → place k x ≡ inner 0
   past x h = ap (λ w. w .place) (List·getD-eq-default (k .wires) _ h)
 
-  found-by : {A : Type 0} (f : Found → A) (g : Place → A) → f Missing ≡ g (inner 0) → ((p : Place) → f (shown p) ≡ g p) → (x : ℕ) → f (foundOf k x) ≡ g (place k x)
-  found-by f g e h x = cases (ltb x (size k)) (λ l. rw l (h (place k x))) (λ l. rw (l, past x (ltb-false x (size k) l)) e)
+  found-by : {A : Type 0} (f : Found → A) (g : Place → A) → f Missing ≡ g (inner 0) → ((l t : ℕ) → f (shown (named l t)) ≡ g (named l t)) → ((t : ℕ) → f (shown (inner t)) ≡ g (inner t))
+      → (x : ℕ) → f (foundOf k x) ≡ g (place k x)
+  found-by f g e n i x = cases (ltb x (size k)) (λ l. rw l (by-place (place k x))) (λ l. rw (l, past x (ltb-false x (size k) l)) e)
+    where
+      by-place : (p : Place) → f (shown p) ≡ g p
+      by-place (named l t) = n l t
+      by-place (inner t) = i t
 
   pub label-found : (x : ℕ) → labelFound (foundOf k x) ≡ labelOf (place k x)
-  label-found = found-by labelFound labelOf refl by-place
-    where
-      by-place : (p : Place) → labelFound (shown p) ≡ labelOf p
-      by-place (named l t) = refl
-      by-place (inner t) = refl
+  label-found = found-by labelFound labelOf refl (λ l t. refl) (λ t. refl)
 
   pub stage-found : (x : ℕ) → stageFound (foundOf k x) ≡ stageShown (place k x)
-  stage-found = found-by stageFound stageShown refl by-place
-    where
-      by-place : (p : Place) → stageFound (shown p) ≡ stageShown p
-      by-place (named l t) = refl
-      by-place (inner t) = refl
+  stage-found = found-by stageFound stageShown refl (λ l t. refl) (λ t. refl)
 
 -- one word, then others
 word-then : (f n w : ℕ) (rest : Spot) {one more : Judgement} → judged n f w ≡ one → judgedAt f rest ≡ more → judgedAt f (orElse n w rest) ≡ (one then more)
@@ -124,25 +122,16 @@ module _ (k : Circuit) (f : ℕ) where
       → judgedAt f (brokenIn (k .d) (k .randoms) (foundOf k) ops form) ≡ wordsRule k f ops 1 (rulesOf (k .d) form) ops
   unfolding wordsRule
   words-are ShareCount ops h e = absurd (h refl)
-  words-are Stage (x ∷ []) h e = word-then f (stageNumber x) 1 none (tested (leb x 255) 6 f 1) refl
-  words-are Stage [] h e = absurd (omega arith)
-  words-are Stage (x ∷ y ∷ xs) h e = absurd (omega arith)
-  words-are Constant (l ∷ v ∷ t ∷ []) h e =
-      word-then f (labelNumber (k .d) l) 1 (spot (valueNumber v) 2 andThen spot (stageNumber t) 3 andThen none) (tested (ltb l (k .d)) 6 f 1)
-      (word-then f (valueNumber v) 2 (spot (stageNumber t) 3 andThen none) (tested (leb v 1) 6 f 2) (word-then f (stageNumber t) 3 none (tested (leb t 255) 6 f 3) refl))
-  words-are Constant [] h e = absurd (omega arith)
-  words-are Constant (l ∷ []) h e = absurd (omega arith)
-  words-are Constant (l ∷ v ∷ []) h e = absurd (omega arith)
-  words-are Constant (l ∷ v ∷ t ∷ x ∷ xs) h e = absurd (omega arith)
-  words-are Sum (x ∷ y ∷ []) h e =
-      word-then f (likeNumber (foundOf k x) (foundOf k x)) 1 (spot (likeNumber (foundOf k x) (foundOf k y)) 2 andThen none) (like-is k f (x ∷ y ∷ []) 0 1 x)
-      (word-then f (likeNumber (foundOf k x) (foundOf k y)) 2 none (like-is k f (x ∷ y ∷ []) 0 2 y) refl)
-  words-are Sum [] h e = absurd (omega arith)
-  words-are Sum (x ∷ []) h e = absurd (omega arith)
-  words-are Sum (x ∷ y ∷ z ∷ xs) h e = absurd (omega arith)
-  words-are (Copy after) (x ∷ []) h e = word-then f (likeNumber (foundOf k x) (foundOf k x)) 1 none (like-is k f (x ∷ []) 0 1 x) refl
-  words-are (Copy after) [] h e = absurd (omega arith)
-  words-are (Copy after) (x ∷ y ∷ xs) h e = absurd (omega arith)
+  words-are Stage ops h e = let x = nth ops 0 in rw (one-word ops e) (word-then f (stageNumber x) 1 none (tested (leb x 255) 6 f 1) refl)
+  words-are Constant ops h e =
+      let l = nth ops 0 in let v = nth ops 1 in let t = nth ops 2 in rw (three-words ops e)
+      (word-then f (labelNumber (k .d) l) 1 (spot (valueNumber v) 2 andThen spot (stageNumber t) 3 andThen none) (tested (ltb l (k .d)) 6 f 1)
+      (word-then f (valueNumber v) 2 (spot (stageNumber t) 3 andThen none) (tested (leb v 1) 6 f 2) (word-then f (stageNumber t) 3 none (tested (leb t 255) 6 f 3) refl)))
+  words-are Sum ops h e =
+      let x = nth ops 0 in let y = nth ops 1 in rw (two-words ops e)
+      (word-then f (likeNumber (foundOf k x) (foundOf k x)) 1 (spot (likeNumber (foundOf k x) (foundOf k y)) 2 andThen none) (like-is k f (x ∷ y ∷ []) 0 1 x)
+      (word-then f (likeNumber (foundOf k x) (foundOf k y)) 2 none (like-is k f (x ∷ y ∷ []) 0 2 y) refl))
+  words-are (Copy after) ops h e = let x = nth ops 0 in rw (one-word ops e) (word-then f (likeNumber (foundOf k x) (foundOf k x)) 1 none (like-is k f (x ∷ []) 0 1 x) refl)
   words-are Product [] h e = absurd (omega arith)
   words-are Product (x ∷ xs) h e =
       let t = stageFound (foundOf k (nth (x ∷ xs) 1)) in

@@ -1,6 +1,6 @@
 -- Lemmas on tests, bits, numbers and lists.
 use mathlib.Core.Path.{_≡_, refl, sym, ap, subst, _∙_}
-use mathlib.Core.Bool.{Bool, true, false, not, _&&_, _||_, true≢false, false≢true}
+use mathlib.Core.Bool.{Bool, true, false, _&&_, _||_, true≢false, false≢true}
 use mathlib.Core.List.{List, [], _∷_, _++_, map}
 use mathlib.Core.Logic.{_⊎_, inl, inr}
 use Prim.Native.Nat.{ℕ, zero, suc, _+_, _≤_, _<_}
@@ -39,10 +39,6 @@ and-right false b h = absurd (false≢true h)
 
 pub and-both : (a b : Bool) → a ≡ true → b ≡ true → (a && b) ≡ true
 and-both a b p q = rw (p, q)
-
-pub not-true : (b : Bool) → not b ≡ true → b ≡ false
-not-true true h = absurd (false≢true h)
-not-true false h = refl
 
 -- bits
 pub no-flip : (a : Bool) → (a ⊕ false) ≡ a
@@ -218,11 +214,14 @@ module _ {A : Type 0} (Q : ℕ → A → Type 0) where
   all-of K n [] f h = tt
   all-of K n (x ∷ xs) f h = (f n x (omega arith) (h .0), all-of K (suc n) xs (λ k y l. f k y (omega arith)) (h .1))
 
+  pub all-every : (K : A → Type 0) (n : ℕ) (xs : List A) → AllFrom (λ x a. K a → Q x a) n xs → Every K xs → AllFrom Q n xs
+  all-every K n [] f h = tt
+  all-every K n (x ∷ xs) f h = (f .0 (h .0), all-every K (suc n) xs (f .1) (h .1))
+
+  pub all-any : ((k : ℕ) (x : A) → Q k x) → (n : ℕ) (xs : List A) → AllFrom Q n xs
+  all-any f n [] = tt
+  all-any f n (x ∷ xs) = (f n x, all-any f (suc n) xs)
+
 pub every-of : (Q : ℕ → Type 0) (xs : List ℕ) → ((i : ℕ) → In i xs → Q i) → Every Q xs
 every-of Q [] f = tt
 every-of Q (x ∷ xs) f = (f x (in-head x xs), every-of Q xs (λ i h. f i (in-tail i x xs h)))
-
-pub map-two : {A B C D : Type 0} (k : C → D) (f : A → C) (g : B → C) (xs : List A) (ys : List B) → map k (map f xs ++ map g ys) ≡ map (λ x. k (f x)) xs ++ map (λ y. k (g y)) ys
-map-two k f g [] [] = refl
-map-two k f g [] (y ∷ ys) = ap (λ l. k (g y) ∷ l) (map-two k f g [] ys)
-map-two k f g (x ∷ xs) ys = ap (λ l. k (f x) ∷ l) (map-two k f g xs ys)

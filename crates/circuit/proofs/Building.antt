@@ -2,19 +2,21 @@
 use mathlib.Core.Path.{_≡_, refl, sym, ap, subst, subst₂, _∙_}
 use mathlib.Core.Bool.{false}
 use mathlib.Core.List.{List, [], _∷_, _++_, map, append-nil, append-assoc}
-use Prim.Native.Nat.{ℕ, zero, suc, _+_, _≤_, _<_}
+use Prim.Native.Nat.{ℕ, suc, _+_, _≤_, _<_}
 use native.Mathlib.Omega.{arith}
-use lib.ListN.{length, getD, length-append, length-map, List·getD-append}
+use lib.Dec.{ltb}
+use lib.ListN.{length, getD, length-append, length-map, List·getD-append, List·getD-eq-default}
 use lib.Seq.{getD-append-add}
+use borrow.Author.Tests.{ltb-true, ltb-false}
 use Rattle.circuit.specs.Limits.{wireLimit, stageLimit, fewestShares}
 use Rattle.circuit.specs.Lists.{nth}
-use Rattle.circuit.specs.Wires.{Gate, constant, Place, named, inner, Wire, _placed_}
+use Rattle.circuit.specs.Wires.{constant, Place, named, inner, Wire, _placed_}
 use Rattle.circuit.specs.Gadgets.{Part, r, R, B, m, M, u, U, v, V′, w, W, c, s, S, labels, gate, delay, inAND, inREF, index, gadget}
 use Rattle.circuit.specs.Kinds.{Kind, shape}
 use Rattle.circuit.specs.Circuit.{Circuit, size, empty, place, stageShown, stageOf, newStage, made, extend}
-use Rattle.circuit.proofs.Base.{every-of, AllFrom, Has, all-append, all-left, all-right, all-map, all-unmap, all-of}
-use Rattle.circuit.proofs.Numbered.{get-all, all-below, all-at}
-use Rattle.circuit.proofs.Parts.{index-at, label-lt, InAND, and-parts, InREF, fresh, added, ref-parts}
+use Rattle.circuit.proofs.Base.{cases, AllFrom, Has, all-append, all-left, all-right, all-map, all-unmap, all-of, all-any}
+use Rattle.circuit.proofs.Numbered.{get-all, all-below, all-at, at-all, all-default}
+use Rattle.circuit.proofs.Parts.{index-at, InREF, fresh, added, ref-parts}
 use Rattle.circuit.proofs.Sizes.{made-size}
 use Rattle.circuit.specs.Composition.{Frame, Row, Fits, fit-IN, fit-CON, fit-XOR, fit-NOT, fit-REG, fit-AND, fit-REF, fit-OUT, AllFit, done, next, build}
 
@@ -23,48 +25,49 @@ abbrev pub wireAt : Circuit → ℕ → Wire
 wireAt k x = getD (k .wires) x (constant false placed inner 0)
 
 -- the wires of a gadget: its parts, then its outputs
-module _ (Q : ℕ → Wire → Type 0) (d first : ℕ) (a b : ℕ → ℕ) (inside : List Part) (out : ℕ → Part) (start end : ℕ) where
-  abbrev gateIn : Part → Gate
-  gateIn = gate d a b (λ p. first + index p inside)
+module _ (d first : ℕ) (a b : ℕ → ℕ) (inside : List Part) (out : ℕ → Part) (start end : ℕ) where
+  abbrev partOf : Part → Wire
+  partOf p = gate d a b (λ q. first + index q inside) p placed inner (start + delay p)
 
-  pub gadget-all : AllFrom (λ x p. Q x (gateIn p placed inner (start + delay p))) first inside
-      → ((x i : ℕ) → first + length inside ≤ x → i < d → Q x (gateIn (out i) placed named i end))
-      → AllFrom Q first (gadget d first a b inside out start end)
-  unfolding gadget
-  gadget-all inner-all outer =
-      let part : Part → Wire = λ p. gateIn p placed inner (start + delay p) in
-      let output : ℕ → Wire = λ i. gateIn (out i) placed named i end in
-      all-append Q first (map part inside) (map output (labels d)) (all-map Q part first inside inner-all)
-      (subst (λ (n : ℕ). AllFrom Q (first + n) (map output (labels d))) (sym (length-map inside part))
-      (all-map Q output (first + length inside) (labels d)
-      (all-of (λ x i. Q x (output i)) (λ i. i < d) (first + length inside) (labels d) outer (every-of (λ i. i < d) (labels d) (label-lt d)))))
+  abbrev outputOf : ℕ → Wire
+  outputOf i = gate d a b (λ q. first + index q inside) (out i) placed named i end
+
+  module _ (Q : ℕ → Wire → Type 0) where
+    pub gadget-all : AllFrom (λ x p. Q x (partOf p)) first inside → ((x i : ℕ) → first + length inside ≤ x → i < d → Q x (outputOf i))
+        → AllFrom Q first (gadget d first a b inside out start end)
+    unfolding gadget
+    gadget-all parts outputs = all-append Q first (map partOf inside) (map outputOf (labels d)) (all-map Q partOf first inside parts)
+        (at-all Q outputOf _ 0 d (λ i l. outputs _ (0 + i) (omega (arith, length-map inside partOf)) (omega arith)))
+
+    pub gadget-parts : AllFrom Q first (gadget d first a b inside out start end) → AllFrom (λ x p. Q x (partOf p)) first inside
+    unfolding gadget
+    gadget-parts h = all-unmap Q partOf first inside (all-left Q first (map partOf inside) (map outputOf (labels d)) h)
+
+    pub gadget-outputs : AllFrom Q first (gadget d first a b inside out start end) → (i : ℕ) → i < d → Q (first + length inside + i) (outputOf i)
+    unfolding gadget
+    gadget-outputs h i l = subst₂ (λ x j. Q (first + x + i) (outputOf j)) (length-map inside partOf) (omega arith)
+        (all-at Q outputOf (first + length (map partOf inside)) 0 d (all-right Q first (map partOf inside) (map outputOf (labels d)) h) i l)
 
 -- behind other wires, the wire of the number of a part is that part's, and the outputs come after the parts
 module _ (ws : List Wire) (d : ℕ) (a b : ℕ → ℕ) (inside : List Part) (out : ℕ → Part) (start end : ℕ) (z : Wire) where
-  abbrev partOf : Part → Wire
-  partOf p = gate d a b (λ q. length ws + index q inside) p placed inner (start + delay p)
+  abbrev made-by : List Wire
+  made-by = gadget d (length ws) a b inside out start end
 
-  abbrev outputOf : ℕ → Wire
-  outputOf i = gate d a b (λ q. length ws + index q inside) (out i) placed named i end
+  wires-at : AllFrom (λ x wire. getD (ws ++ made-by) x z ≡ wire) (length ws) made-by
+  wires-at = get-all (λ x wire. getD (ws ++ made-by) x z ≡ wire) (length ws) made-by z (λ i l. getD-append-add ws made-by i z)
 
-  abbrev whole : List Wire
-  whole = ws ++ gadget d (length ws) a b inside out start end
+  pub part-at : (p : Part) → Has p inside → getD (ws ++ made-by) (length ws + index p inside) z ≡ partOf d (length ws) a b inside out start end p
+  part-at p h = index-at (λ x q. getD (ws ++ made-by) x z ≡ partOf d (length ws) a b inside out start end q) (length ws) inside p h
+      (gadget-parts d (length ws) a b inside out start end (λ x wire. getD (ws ++ made-by) x z ≡ wire) wires-at)
 
-  wires-at : AllFrom (λ x wire. getD whole x z ≡ wire) (length ws) (gadget d (length ws) a b inside out start end)
-  wires-at = get-all (λ x wire. getD whole x z ≡ wire) (length ws) (gadget d (length ws) a b inside out start end) z
-      (λ i l. getD-append-add ws (gadget d (length ws) a b inside out start end) i z)
+  pub output-at : (i : ℕ) → i < d → getD (ws ++ made-by) (length ws + length inside + i) z ≡ outputOf d (length ws) a b inside out start end i
+  output-at = gadget-outputs d (length ws) a b inside out start end (λ x wire. getD (ws ++ made-by) x z ≡ wire) wires-at
 
-  pub part-at : (p : Part) → Has p inside → getD whole (length ws + index p inside) z ≡ partOf p
-  unfolding gadget
-  part-at p h = index-at (λ x q. getD whole x z ≡ partOf q) (length ws) inside p h
-      (all-unmap (λ x wire. getD whole x z ≡ wire) partOf (length ws) inside
-      (all-left (λ x wire. getD whole x z ≡ wire) (length ws) (map partOf inside) (map outputOf (labels d)) wires-at))
-
-  pub output-at : (i : ℕ) → i < d → getD whole (length ws + length inside + i) z ≡ outputOf i
-  unfolding gadget
-  output-at i l = subst₂ (λ x j. getD whole (length ws + x + i) z ≡ outputOf j) (length-map inside partOf) (omega arith)
-      (all-at (λ x wire. getD whole x z ≡ wire) outputOf (length ws + length (map partOf inside)) 0 d
-      (all-right (λ x wire. getD whole x z ≡ wire) (length ws) (map partOf inside) (map outputOf (labels d)) wires-at) i l)
+-- a wire that is named has been made
+pub named-made : (k : Circuit) (x l t : ℕ) → place k x ≡ named l t → x < size k
+named-made k x l t h = cases (ltb x (size k)) (ltb-true x (size k))
+    (λ e. let z : place k x ≡ inner 0 = ap (λ wire. wire .place) (List·getD-eq-default (k .wires) (constant false placed inner 0) (ltb-false x (size k) e)) in
+    absurd (let y : _≡_ {A = ℕ} 0 1 = cc in omega arith))
 
 -- the places of a frame
 pub place-old : (k : Circuit) (ops : List ℕ) (kind : Kind) (x : ℕ) → x < size k → place (extend k ops kind) x ≡ place k x
@@ -146,30 +149,24 @@ shown-le (named l t) = omega arith
 shown-le (inner t) = omega arith
 
 pub stage-le : (k : Circuit) → Lawful InTime k → (x : ℕ) → stageOf (place k x) ≤ stageLimit
-stage-le k h x = go 0 (k .wires) x h
-  where
-    go : (n : ℕ) (ws : List Wire) (x : ℕ) → AllFrom (InTime k) n ws → stageOf (getD ws x (constant false placed inner 0) .place) ≤ stageLimit
-    go n [] x h = omega arith
-    go n (y ∷ ws) zero h = h .0
-    go n (y ∷ ws) (suc x) h = go (suc n) ws x (h .1)
+stage-le k h x = all-default (λ wire. stageOf (wire .place) ≤ stageLimit) (constant false placed inner 0) (omega arith) 0 (k .wires) x h
 
 pub shown-limit : (k : Circuit) → Lawful InTime k → (x : ℕ) → stageShown (place k x) ≤ stageLimit
 shown-limit k h x = omega (arith, shown-le (place k x), stage-le k h x)
 
 intime-new : (k : Circuit) (ops : List ℕ) (kind : Kind) → fewestShares ≤ k .d → Lawful InTime k → Fits k kind ops → AllFrom (InTime (extend k ops kind)) (size k) (made k ops kind)
 unfolding made newStage
-intime-new k _ _ ge h (fit-IN t o) = all-map (InTime k) _ (size k) (labels (k .d))
-    (all-of _ (λ i. i < k .d) (size k) (labels (k .d)) (λ n i l q. o) (every-of (λ i. i < k .d) (labels (k .d)) (label-lt (k .d))))
+intime-new k _ _ ge h (fit-IN t o) = at-all (InTime k) _ (size k) 0 (k .d) (λ i l. o)
 intime-new k _ _ ge h (fit-CON l b t o p q) = (q, tt)
 intime-new k _ _ ge h (fit-XOR x y l t p q) = (shown-limit k h x, tt)
 intime-new k _ _ ge h (fit-NOT x l t p) = (shown-limit k h x, tt)
 intime-new k _ _ ge h (fit-REG x l t p o) = (omega (arith, ap stageShown p), tt)
 intime-new k _ _ ge h (fit-AND ops t len first p q o) =
-    gadget-all (InTime k) (k .d) (size k) _ _ (inAND (k .d)) c _ _
-    (all-of _ (InAND (k .d)) (size k) (inAND (k .d)) (λ x z l i. omega (arith, row-first k ops (1 + k .d) t ge q, delay-le z)) (and-parts (k .d)))
+    gadget-all (k .d) (size k) _ _ (inAND (k .d)) c _ _ (InTime k)
+    (all-any _ (λ x z. omega (arith, row-first k ops (1 + k .d) t ge q, delay-le z)) (size k) (inAND (k .d)))
     (λ x i l g. omega (arith, row-first k ops 1 (suc t) ge p))
 intime-new k _ _ ge h (fit-REF ops t len first p o) =
-    gadget-all (InTime k) (k .d) (size k) _ _ (inREF (k .d)) S _ _
+    gadget-all (k .d) (size k) _ _ (inREF (k .d)) S _ _ (InTime k)
     (all-of _ (InREF (k .d)) (size k) (inREF (k .d)) (λ x z l i. omega (arith, row-first k ops 1 t ge p, delay-ref i)) (ref-parts (k .d)))
     (λ x i l g. omega (arith, row-first k ops 1 t ge p))
 intime-new k _ _ ge h (fit-OUT ops t len p) = tt

@@ -13,11 +13,11 @@ use Rattle.circuit.specs.Lists.{nth}
 use Rattle.circuit.specs.Kinds.{kindOf, shareCount, words}
 use Rattle.circuit.specs.Circuit.{Circuit, size, empty, place, stageOf, extend}
 use Rattle.circuit.specs.Rules.{Judgement, pass, refuse, frameRule, Checked, onward, frames, headRule, checked}
-use Rattle.circuit.proofs.Base.{and-left, and-right, and-both}
+use Rattle.circuit.proofs.Base.{and-left, and-right}
 use Rattle.circuit.proofs.Steps.{frames-pass}
 use Rattle.circuit.specs.Composition.{Frame, AllFit, done, next, build, kindWord, wordsOf}
 use Rattle.circuit.proofs.Building.{Lawful, InTime, build-size, stage-le, intime-step, build-intime}
-use Rattle.circuit.proofs.Judging.{never, need-then, then-need, word-pass, pass-word}
+use Rattle.circuit.proofs.Judging.{never, need-then, word-pass}
 use Rattle.circuit.proofs.Fitting.{kind-known, frame-pass, fit-meets, fit-pass}
 
 -- what the acceptance of a table shows
@@ -61,6 +61,31 @@ walked k f zero (x ∷ xs) ge h =
       circuit-is = ap (λ r. r .circuit) on ∙ w .circuit-is;
     }
 
+-- what a HEAD that passes shows
+pub record Headed (table : List ℕ) (room : ℕ) : Type 0 where
+  pub short : length table ≤ tableLimit
+  pub roomy : notesRoom ≤ room
+  pub two : 2 ≤ length table
+  pub zero : nth table 0 ≡ 0
+  pub least : fewestShares ≤ nth table 1
+  pub most : nth table 1 ≤ mostShares
+
+pub head-pass : (table : List ℕ) (room : ℕ) → headRule table room ≡ pass → Headed table room
+unfolding headRule
+head-pass table room e =
+    let (p1, h2) = need-then (leb (length table) tableLimit) 1 0 0 _ e in
+    let (p2, h3) = need-then (leb notesRoom room) 2 0 0 _ h2 in
+    let (p3, h4) = need-then (leb 2 (length table) && eqb (nth table 0) 0) 3 0 0 _ h3 in
+    let (ge, le) = word-pass (empty 0) 0 [] shareCount 1 (nth table 1) h4 in
+    record {
+      short = leb-true _ _ p1;
+      roomy = leb-true _ _ p2;
+      two = leb-true _ _ (and-left _ _ p3);
+      zero = eqb-true _ _ (and-right (leb 2 (length table)) _ p3);
+      least = ge;
+      most = le;
+    }
+
 headed : (xs ws : List ℕ) → 2 ≤ length xs → nth xs 0 ≡ 0 → drop 2 xs ≡ ws → xs ≡ 0 ∷ nth xs 1 ∷ ws
 headed [] ws l e h = absurd (omega arith)
 headed (x ∷ []) ws l e h = absurd (omega arith)
@@ -68,24 +93,20 @@ headed (x ∷ y ∷ xs) ws l e h = cc
 
 -- soundness
 pub sound : (table : List ℕ) (room : ℕ) → checked table room .judgement ≡ pass → Accepted table room
-unfolding checked headRule
+unfolding checked
 sound table room h =
     let d = nth table 1 in
-    let rest = frames (empty d) 1 0 (drop 2 table) in
-    let (e, on) = onward-pass (headRule table room) (empty 0) rest h in
-    let (p1, h2) = need-then (leb (length table) tableLimit) 1 0 0 _ e in
-    let (p2, h3) = need-then (leb notesRoom room) 2 0 0 _ h2 in
-    let (p3, h4) = need-then (leb 2 (length table) && eqb (nth table 0) 0) 3 0 0 _ h3 in
-    let (ge, le) = word-pass (empty 0) 0 [] shareCount 1 d h4 in
-    let w = walked (empty d) 1 0 (drop 2 table) ge (sym (ap (λ r. r .judgement) on) ∙ h) in
+    let (e, on) = onward-pass (headRule table room) (empty 0) (frames (empty d) 1 0 (drop 2 table)) h in
+    let p = head-pass table room e in
+    let w = walked (empty d) 1 0 (drop 2 table) (p .least) (sym (ap (λ r. r .judgement) on) ∙ h) in
     record {
       d = d;
       fs = w .fs;
-      table-is = headed table (wordsOf (w .fs)) (leb-true 2 (length table) (and-left _ _ p3)) (eqb-true (nth table 0) 0 (and-right (leb 2 (length table)) _ p3)) (w .words-are);
-      least = ge;
-      most = le;
-      short = leb-true (length table) tableLimit p1;
-      roomy = leb-true notesRoom room p2;
+      table-is = headed table (wordsOf (w .fs)) (p .two) (p .zero) (w .words-are);
+      least = p .least;
+      most = p .most;
+      short = p .short;
+      roomy = p .roomy;
       fit = w .fit;
       circuit-is = ap (λ r. r .circuit) on ∙ w .circuit-is;
     }
@@ -109,12 +130,8 @@ pub complete : (d : ℕ) (fs : List Frame) (room : ℕ) → fewestShares ≤ d �
 unfolding checked headRule
 complete d fs room ge le short roomy fit =
     let table : List ℕ = 0 ∷ d ∷ wordsOf fs in
-    let head : headRule table room ≡ pass =
-    then-need _ 1 0 0 _ (le-leb (length table) tableLimit short)
-    (then-need _ 2 0 0 _ (le-leb notesRoom room roomy)
-    (then-need _ 3 0 0 _ (and-both _ _ (le-leb 2 (length table) (omega arith)) refl)
-    (pass-word (empty 0) 0 [] shareCount 1 d (ge, le)))) in
-    rw head (frames-fit (empty d) 1 fs ge tt fit)
+    rw (le-leb (length table) tableLimit short, le-leb notesRoom room roomy, le-leb 2 (length table) (omega arith), le-leb fewestShares d ge, le-leb d mostShares le)
+    (frames-fit (empty d) 1 fs ge tt fit)
 
 -- what holds of the circuit of every accepted table: at most 8,192 wires, and no stage over 255
 pub accepted-size : {table : List ℕ} {room : ℕ} → Accepted table room → size (checked table room .circuit) ≤ wireLimit

@@ -14,12 +14,12 @@ use Rattle.circuit.specs.Wires.{named}
 use Rattle.circuit.specs.Kinds.{Kind, HEAD, IN, CON, XOR, NOT, REG, AND, REF, OUT, kindOf, WordRule, share, before, row, shape, words}
 use Rattle.circuit.specs.Circuit.{Circuit, size, place, stageShown, newStage}
 use Rattle.circuit.specs.Rules.{pass, wordsRule, frameRule}
-use Rattle.circuit.proofs.Base.{and-left, and-right, and-both, all-append, all-left, all-right}
+use Rattle.circuit.proofs.Base.{and-left, and-right, all-append, all-left, all-right}
 use Rattle.circuit.proofs.Numbered.{range-at, all-at, at-all}
 use Rattle.circuit.proofs.Sizes.{labels-map}
 use Rattle.circuit.specs.Composition.{Fits, fit-IN, fit-CON, fit-XOR, fit-NOT, fit-REG, fit-AND, fit-REF, fit-OUT, kindWord}
 use Rattle.circuit.proofs.Building.{row-first, Lawful, InTime, shown-limit}
-use Rattle.circuit.proofs.Judging.{then-pass, pass-then, need-then, then-need, need-pass, pass-need, Meets, AllMeet, words-pass, pass-words}
+use Rattle.circuit.proofs.Judging.{then-pass, need-then, need-pass, Meets, AllMeet, words-pass, pass-words}
 
 -- the kind words
 pub known : (w : ℕ) → w ≤ 8 → kindWord (kindOf w) ≡ w
@@ -39,16 +39,16 @@ kind-known REF = refl
 kind-known OUT = refl
 
 -- lists of one, two and three words
-one-word : (xs : List ℕ) → length xs ≡ 1 → xs ≡ nth xs 0 ∷ []
+pub one-word : (xs : List ℕ) → length xs ≡ 1 → xs ≡ nth xs 0 ∷ []
 one-word [] e = absurd (omega arith)
 one-word (x ∷ []) e = refl
 one-word (x ∷ y ∷ xs) e = absurd (omega arith)
 
-two-words : (xs : List ℕ) → length xs ≡ 2 → xs ≡ nth xs 0 ∷ nth xs 1 ∷ []
+pub two-words : (xs : List ℕ) → length xs ≡ 2 → xs ≡ nth xs 0 ∷ nth xs 1 ∷ []
 two-words [] e = absurd (omega arith)
 two-words (x ∷ xs) e = ap (λ l. x ∷ l) (one-word xs (omega arith))
 
-three-words : (xs : List ℕ) → length xs ≡ 3 → xs ≡ nth xs 0 ∷ nth xs 1 ∷ nth xs 2 ∷ []
+pub three-words : (xs : List ℕ) → length xs ≡ 3 → xs ≡ nth xs 0 ∷ nth xs 1 ∷ nth xs 2 ∷ []
 three-words [] e = absurd (omega arith)
 three-words (x ∷ xs) e = ap (λ l. x ∷ l) (two-words xs (omega arith))
 
@@ -187,9 +187,13 @@ unfolding frameRule
 fit-pass k f kind ops rest ge h fits few =
     let g = fit-meets k kind ops ge h fits in
     let whole : words (k .d) kind ≤ length (ops ++ rest) = omega (arith, length-append ops rest, g .count) in
-    rw (kind-known kind, take-at ops rest (words (k .d) kind) (g .count))
-    (then-need _ 5 f 0 _ (and-both _ _ (le-leb 1 (kindWord kind) (g .known .0)) (le-leb (kindWord kind) 8 (g .known .1)))
-    (then-need _ 6 f 0 _ (le-leb (words (k .d) kind) (length (ops ++ rest)) whole)
-    (pass-then (wordsRule k f ops 1 (shape (k .d) kind .rules) ops) _ (pass-words k f ops 1 0 (shape (k .d) kind .rules) (omega (arith, g .count)) (g .meets))
-    (then-need _ 13 f 0 _ (le-leb (newStage k ops kind) stageLimit (g .stage))
-    (pass-need _ 14 f 0 (le-leb (size k + shape (k .d) kind .wires) wireLimit few))))))
+    rw (
+      kind-known kind,
+      take-at ops rest (words (k .d) kind) (g .count),
+      le-leb 1 (kindWord kind) (g .known .0),
+      le-leb (kindWord kind) 8 (g .known .1),
+      le-leb (words (k .d) kind) (length (ops ++ rest)) whole,
+      pass-words k f ops 1 0 (shape (k .d) kind .rules) (omega (arith, g .count)) (g .meets),
+      le-leb (newStage k ops kind) stageLimit (g .stage),
+      le-leb (size k + shape (k .d) kind .wires) wireLimit few,
+    )

@@ -5,16 +5,17 @@ use mathlib.Core.List.{List, [], _∷_}
 use Prim.Native.Nat.{ℕ, suc, _+_, _≤_, _<_}
 use native.Mathlib.Omega.{arith}
 use lib.Dec.{leb, ltb, eqb}
-use lib.ListN.{length, drop, List·getD-eq-default}
+use lib.ListN.{length, drop}
 use lib.Seq.{drop-cons}
-use borrow.Author.Tests.{ltb-true, ltb-false, leb-true, eqb-true, lt-ltb, le-leb, eq-eqb}
+use borrow.Author.Tests.{ltb-true, leb-true, eqb-true, lt-ltb, le-leb, eq-eqb}
 use Rattle.circuit.specs.Limits.{stageLimit, fewestShares, mostShares}
 use Rattle.circuit.specs.Lists.{nth}
-use Rattle.circuit.specs.Wires.{Place, named, inner, constant, _placed_}
+use Rattle.circuit.specs.Wires.{Place, named, inner}
 use Rattle.circuit.specs.Kinds.{WordRule, shareCount, label, value, stage, random, like, share, before}
 use Rattle.circuit.specs.Circuit.{Circuit, size, place, labelOf, stageShown}
 use Rattle.circuit.specs.Rules.{Judgement, pass, refuse, need, _then_, isNamed, wireRule, wordRule, wordsRule}
-use Rattle.circuit.proofs.Base.{cases, and-left, and-right, and-both, AllFrom}
+use Rattle.circuit.proofs.Building.{named-made}
+use Rattle.circuit.proofs.Base.{and-left, and-right, AllFrom}
 
 pub never : {A : Type 0} (rule frame word : ℕ) → refuse rule frame word ≡ pass → A
 never rule frame word h = absurd (let z : _≡_ {A = ℕ} 0 1 = cc in omega arith)
@@ -24,28 +25,13 @@ pub then-pass : (i j : Judgement) → (i then j) ≡ pass → (i ≡ pass) × (j
 then-pass pass j h = (refl, h)
 then-pass (refuse rule frame word) j h = never rule frame word h
 
-pub pass-then : (i j : Judgement) → i ≡ pass → j ≡ pass → (i then j) ≡ pass
-pass-then i j p q = rw p q
-
 pub need-pass : (b : Bool) (rule frame word : ℕ) → need b rule frame word ≡ pass → b ≡ true
 need-pass true rule frame word h = refl
 need-pass false rule frame word h = never rule frame word h
 
-pub pass-need : (b : Bool) (rule frame word : ℕ) → b ≡ true → need b rule frame word ≡ pass
-pass-need b rule frame word h = rw h
-
 -- a test, then the rest
 pub need-then : (b : Bool) (rule frame word : ℕ) (j : Judgement) → (need b rule frame word then j) ≡ pass → (b ≡ true) × (j ≡ pass)
 need-then b rule frame word j h = let (p, q) = then-pass (need b rule frame word) j h in (need-pass b rule frame word p, q)
-
-pub then-need : (b : Bool) (rule frame word : ℕ) (j : Judgement) → b ≡ true → j ≡ pass → (need b rule frame word then j) ≡ pass
-then-need b rule frame word j p q = rw (p, q)
-
--- a wire that is named has been made
-pub named-made : (k : Circuit) (x l t : ℕ) → place k x ≡ named l t → x < size k
-named-made k x l t h = cases (ltb x (size k)) (ltb-true x (size k))
-    (λ e. let z : place k x ≡ inner 0 = ap (λ wire. wire .place) (List·getD-eq-default (k .wires) (constant false placed inner 0) (ltb-false x (size k) e)) in
-    absurd (let y : _≡_ {A = ℕ} 0 1 = cc in omega arith))
 
 named-place : (p : Place) → isNamed p ≡ true → p ≡ named (labelOf p) (stageShown p)
 named-place (named l t) h = refl
@@ -97,11 +83,11 @@ module _ (k : Circuit) (f : ℕ) (ops : List ℕ) where
       (stageShown (place k x), e, eqb-true (suc (stageShown (place k x))) (stageShown (place k (nth ops p))) s)
 
   pub pass-word : (r : WordRule) (w x : ℕ) → Meets k ops r x → wordRule k f ops r w x ≡ pass
-  pass-word shareCount w x h = pass-need _ 4 f w (and-both _ _ (le-leb fewestShares x (h .0)) (le-leb x mostShares (h .1)))
-  pass-word label w x h = pass-need _ 7 f w (lt-ltb x (k .d) h)
-  pass-word value w x h = pass-need _ 7 f w (le-leb x 1 h)
-  pass-word stage w x h = pass-need _ 7 f w (le-leb x stageLimit h)
-  pass-word random w x h = pass-need _ 12 f w (eq-eqb x (k .randoms) h)
+  pass-word shareCount w x h = rw (le-leb fewestShares x (h .0), le-leb x mostShares (h .1))
+  pass-word label w x h = rw (lt-ltb x (k .d) h)
+  pass-word value w x h = rw (le-leb x 1 h)
+  pass-word stage w x h = rw (le-leb x stageLimit h)
+  pass-word random w x h = rw (eq-eqb x (k .randoms) h)
   pass-word (like p) w x h = pass-wire (labelOf (place k (nth ops p))) (stageShown (place k (nth ops p))) w x _ h (eq-eqb _ _ (ap stageShown h))
   pass-word (share i p) w x h = pass-wire i (stageShown (place k (nth ops p))) w x _ h (eq-eqb _ _ (ap stageShown h))
   pass-word (before i p) w x h = pass-wire i (h .0) w x _ (h .1) (eq-eqb _ _ (ap (λ q. suc (stageShown q)) (h .1) ∙ h .2))
@@ -117,4 +103,4 @@ module _ (k : Circuit) (f : ℕ) (ops : List ℕ) where
   pub pass-words : (w n : ℕ) (rs : List WordRule) → n + length rs ≤ length ops → AllMeet k ops n rs → wordsRule k f ops w rs (drop n ops) ≡ pass
   unfolding wordsRule
   pass-words w n [] l h = refl
-  pass-words w n (r ∷ rs) l h = rw (drop-cons ops n 0 (omega arith)) (pass-then _ _ (pass-word r w (nth ops n) (h .0)) (pass-words (suc w) (suc n) rs (omega arith) (h .1)))
+  pass-words w n (r ∷ rs) l h = rw (drop-cons ops n 0 (omega arith), pass-word r w (nth ops n) (h .0)) (pass-words (suc w) (suc n) rs (omega arith) (h .1))

@@ -30,6 +30,12 @@ module _ {A : Type 0} (Q : ℕ → A → Type 0) where
     get-all (suc n) xs z (λ i l. subst (λ (m : ℕ). Q m (getD xs i z)) (omega arith) (h (suc i) (omega arith))),
   )
 
+-- a property of every element, and of the element that stands for those that are not there
+pub all-default : {A : Type 0} (Q : A → Type 0) (z : A) → Q z → (n : ℕ) (xs : List A) (i : ℕ) → AllFrom (λ x. Q) n xs → Q (getD xs i z)
+all-default Q z o n [] i h = o
+all-default Q z o n (x ∷ xs) zero h = h .0
+all-default Q z o n (x ∷ xs) (suc i) h = all-default Q z o (suc n) xs i (h .1)
+
 -- a property of each element of a list that is given by number
 module _ {A : Type 0} (Q : ℕ → A → Type 0) (g : ℕ → A) where
   pub all-at : (n m c : ℕ) → AllFrom Q n (map g (range m c)) → (i : ℕ) → i < c → Q (n + i) (g (m + i))

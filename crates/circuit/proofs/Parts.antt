@@ -8,9 +8,11 @@ use native.Mathlib.Omega.{arith}
 use native.Mathlib.Decide.{ℕ-discrete}
 use lib.Dec.{eqb, ltb}
 use lib.ListN.{length}
+use borrow.Author.Tests.{not-true}
 use Rattle.circuit.specs.Lists.{concatMap}
-use Rattle.circuit.specs.Gadgets.{Part, r, R, B, m, M, u, U, v, V′, w, W, c, s, S, same, labels, above, others, sorted, inAND, inREF, index}
-use Rattle.circuit.proofs.Base.{cases, not-true, eqb-sym, ltb-ne, ltb-other, In, in-head, in-tail, in-range, range-in, in-keep, filter-in, Has, has-left, has-right, has-each, has-map, Every, every-append, every-map, every-each, AllFrom, all-imp}
+use Rattle.circuit.specs.Gadgets.{Part, r, R, B, m, M, u, U, v, V′, w, W, s, same, labels, above, others, sorted, inAND, inREF, index}
+use Rattle.circuit.proofs.Numbered.{get-all}
+use Rattle.circuit.proofs.Base.{cases, eqb-sym, ltb-ne, ltb-other, In, in-head, in-tail, in-range, range-in, in-keep, filter-in, Has, has-left, has-right, has-each, has-map, Every, every-append, every-map, every-each, every-of, AllFrom, all-imp}
 
 -- the wire at the index of a part is that part's
 pub index-at : (Q : ℕ → Part → Type 0) (n : ℕ) (ps : List Part) (p : Part) → Has p ps → AllFrom Q n ps → Q (n + index p ps) p
@@ -24,14 +26,7 @@ index-at Q n (q ∷ ps) p h k = go (same ℕ-discrete p q) h (λ g. index-at Q (
     go (no e) (inr g) rec = subst (λ (x : ℕ). Q x p) (omega arith) (rec g)
 
 pub index-lt : (ps : List Part) (p : Part) → Has p ps → index p ps < length ps
-unfolding index
-index-lt [] p h = absurd h
-index-lt (q ∷ ps) p h = go (same ℕ-discrete p q) h (λ g. index-lt ps p g)
-  where
-    go : (D : Dec (p ≡ q)) → Has p (q ∷ ps) → (Has p ps → index p ps < length ps) → (elim D [ yes _ ↦ 0 | no _ ↦ suc (index p ps) ]) < suc (length ps)
-    go (yes e) g rec = omega arith
-    go (no e) (inl g) rec = absurd (e g)
-    go (no e) (inr g) rec = omega (arith, rec g)
+index-lt ps p h = omega (arith, index-at (λ x q. x < length ps) 0 ps p h (get-all (λ x q. x < length ps) 0 ps p (λ i l. omega arith)))
 
 index-first : (n : ℕ) (ps : List Part) → AllFrom (λ x p. n + index p ps ≤ x) n ps
 unfolding index
@@ -95,6 +90,9 @@ other {d} {i} {j} o = record { fst = o .snd; snd = o .fst; apart = eqb-sym j i �
 
 pub label-lt : (d i : ℕ) → In i (labels d) → i < d
 label-lt d i h = omega (arith, range-in i 0 d h)
+
+pub labels-lt : (d : ℕ) → Every (λ i. i < d) (labels d)
+labels-lt d = every-of (λ i. i < d) (labels d) (label-lt d)
 
 pub in-labels : (d i : ℕ) → i < d → In i (labels d)
 in-labels d i h = in-range i 0 d (omega arith) (omega arith)
@@ -189,6 +187,15 @@ module _ (d : ℕ) where
   and-has (is-V i j o) = right (V′ i j) (has3 (V′ i j) i j o (inr (inr (inr (inl refl)))))
   and-has (is-w i j o) = right (w i j) (has3 (w i j) i j o (inr (inr (inr (inr (inl refl))))))
   and-has (is-W i j o) = right (W i j) (has3 (W i j) i j o (inr (inr (inr (inr (inr (inl refl)))))))
+
+-- the parts that an output c(i) adds up
+pub output-every : (Q : ℕ → Type 0) (wire : Part → ℕ) {d i : ℕ} → i < d → Q (wire (M i)) → ((j : ℕ) → Pair d i j → Q (wire (U i j))) → ((j : ℕ) → Pair d i j → Q (wire (W i j)))
+    → Every Q (wire (M i) ∷ (map (λ j. wire (U i j)) (others d i) ++ map (λ j. wire (W i j)) (others d i)))
+output-every Q wire {d} {i} l h us ws = (
+  h,
+  every-append Q (map (λ j. wire (U i j)) (others d i)) (map (λ j. wire (W i j)) (others d i))
+      (every-map Q (λ j. wire (U i j)) (others d i) (λ j z. us j (others-pair d i j l z))) (every-map Q (λ j. wire (W i j)) (others d i) (λ j z. ws j (others-pair d i j l z))),
+)
 
 -- the parts that REF makes inside
 pub data InREF (d : ℕ) : Part → Type 0 where

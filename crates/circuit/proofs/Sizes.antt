@@ -6,13 +6,13 @@ use Prim.Native.Nat.{ℕ, zero, suc, _+_, _*_, _-_, _≤_, _<_}
 use native.Mathlib.Omega.{arith}
 use lib.Dec.{eqb, ltb}
 use lib.ListN.{length, length-append, length-map}
-use borrow.Author.Tests.{eqb-true, lt-ltb, ltb-true}
+use borrow.Author.Tests.{eqb-true, lt-ltb, ltb-true, ltb-false}
 use Rattle.circuit.specs.Lists.{range, filter, concatMap}
 use Rattle.circuit.specs.Wires.{Gate, named, inner, _placed_}
 use Rattle.circuit.specs.Gadgets.{Part, r, s, labels, above, others, gate, delay, inAND, inREF, index, gadget}
 use Rattle.circuit.specs.Kinds.{Kind, HEAD, IN, CON, XOR, NOT, REG, AND, REF, OUT, pairs, shape}
 use Rattle.circuit.specs.Circuit.{Circuit, made}
-use Rattle.circuit.proofs.Base.{cases, ne-lt, lt-ne, ltb-other}
+use Rattle.circuit.proofs.Base.{cases, ne-lt, lt-ne}
 use Rattle.circuit.proofs.Parts.{cell1, cell2, cell3, sec1, sec2, sec3, fresh1}
 
 -- numbers that are kept
@@ -28,8 +28,7 @@ above-length : (i n k : ℕ) → n ≤ suc i → i < n + k → length (filter (l
 above-length i n zero h l = omega arith
 above-length i n (suc k) h l = cases (ltb i n)
     (λ e. rw e (omega (arith, ltb-true i n e, filter-all (ltb i) (suc n) k (λ j q. lt-ltb i j (omega (arith, ltb-true i n e))))))
-    (λ e. rw e (cases (eqb i n) (λ z. let y = eqb-true i n z in omega (arith, above-length i (suc n) k (omega arith) (omega arith)))
-    (λ z. let y = ltb-true n i (ltb-other i n z e) in omega (arith, above-length i (suc n) k (omega arith) (omega arith)))))
+    (λ e. let y = ltb-false i n e in rw e (omega (arith, above-length i (suc n) k (omega arith) (omega arith))))
 
 others-length : (i n k : ℕ) → n ≤ i → i < n + k → suc (length (filter (λ j. not (eqb i j)) (range n k))) ≡ k
 others-length i n zero h l = absurd (omega arith)

@@ -12,8 +12,7 @@ use Rattle.circuit.specs.Kinds.{Kind, HEAD, IN, CON, XOR, NOT, REG, AND, REF, O
 use Rattle.circuit.specs.Circuit.{Circuit, size, isSet, newStage, made, extend}
 use Rattle.circuit.specs.Composition.{Frame, Fits, fit-IN, fit-CON, fit-XOR, fit-NOT, fit-REG, fit-AND, fit-REF, fit-OUT, build}
 use Rattle.circuit.proofs.Base.{no-flip, AllFrom}
-use Rattle.circuit.proofs.Building.{size-extend}
-use Rattle.circuit.proofs.Judging.{named-made}
+use Rattle.circuit.proofs.Building.{named-made, size-extend}
 use Rattle.circuit.proofs.Numbered.{all-at, get-all}
 use Rattle.circuit.proofs.Sizes.{made-size}
 use Rattle.frames.specs.Walk.{kindCode, frameCode}

@@ -1,23 +1,21 @@
 -- AND: every probed wire, and every output with a label among the share indices behind, looks the same.
 use mathlib.Core.Path.{_≡_, refl, sym, ap, ap₂, _∙_}
-use mathlib.Core.Bool.{Bool, true, false, not, _&&_, true≢false}
-use mathlib.Core.List.{List, [], _++_, map}
-use mathlib.Core.Logic.{inl, inr}
-use Prim.Native.Nat.{ℕ, _+_, _≤_, _<_}
+use mathlib.Core.Bool.{Bool, true, false, not, _&&_}
+use mathlib.Core.List.{List, map}
+use Prim.Native.Nat.{ℕ, _≤_, _<_}
 use native.Mathlib.Omega.{arith}
-use lib.ListN.{length}
 use lib.Dec.{ltb}
-use Rattle.circuit.specs.Lists.{_⊕_, concatMap}
-use Rattle.circuit.specs.Wires.{named, inner}
-use Rattle.circuit.specs.Gadgets.{Part, r, R, B, m, M, u, U, v, V′, w, W, c, labels, above, others, sorted, delay, inAND}
-use Rattle.circuit.proofs.Base.{no-flip, cases, ltb-other, In, Has, has-left, every-append, every-map, AllFrom}
-use Rattle.circuit.proofs.Parts.{index-lt, Before, before-append, before-each, More, Ready, Pair, other, label-lt, above-pair, others-pair, InAND, is-r, is-R, is-B, is-m, is-M, is-u, is-U, is-v, is-V, is-w, is-W, and-parts, and-has, cell1, cell2, cell3, sec1, sec2, sec3, has1, sorted-at}
+use Rattle.circuit.specs.Lists.{_⊕_}
+use Rattle.circuit.specs.Wires.{reg}
+use Rattle.circuit.specs.Gadgets.{Part, r, R, m, u, U, v, V′, w, W, c, labels, sorted, inAND}
+use Rattle.circuit.proofs.Base.{no-flip, cases, ltb-other, In, AllFrom, all-of, all-any}
+use Rattle.circuit.proofs.Parts.{Pair, other, output-every, InAND, is-r, is-R, is-B, is-m, is-M, is-u, is-U, is-v, is-V, is-w, is-W, and-parts, and-has, sorted-at}
 use Rattle.secrecy.proofs.Roles.{Role, lone, pair, role}
 use Rattle.secrecy.proofs.Taken.{seen-both}
-use Rattle.secrecy.proofs.Coupled.{Values, undecided, Shift, Agree, EarlyStep}
-use Rattle.secrecy.proofs.Same.{Two, Same, settle, carry}
+use Rattle.secrecy.proofs.Coupled.{Values, Shift, Decided}
+use Rattle.secrecy.proofs.Same.{Two, Fact, Same, stop-same, carry}
 use Rattle.secrecy.proofs.Flips.{delta, delta-swap, delta-none, delta-half, delta-u, delta-w, delta-agree}
-use Rattle.secrecy.proofs.Sites.{Site, number, gateOf, entry, lift, Known, Good, entriesAt, out, ins, out-ins, touched, ProbedRole, PartFact, OutFact, look, good, early-at}
+use Rattle.secrecy.proofs.Sites.{Site, number, Known, Good, entriesAt, entries-all, out, ins, out-ins, touched, ProbedRole, PartFact, OutFact, look, good}
 
 -- an AND of d shares, from the wire `first` on
 module _ (isProbed : ℕ → Bool) (d first : ℕ) (a b : ℕ → ℕ) (start end : ℕ) (behind : List ℕ) where
@@ -62,18 +60,19 @@ module _ (isProbed : ℕ → Bool) (d first : ℕ) (a b : ℕ → ℕ) (start en
     fact : {p : Part} → InAND d p → Seen (wire p) p
     fact {p} o = look site T flips known p (and-has d o)
 
-    -- r and R
-    r-same : (x i j : ℕ) → Seen x (r i j) → D i j ≡ false → Same T x
-    r-same x i j h e = settle h (sym (h .bits .flipped refl ∙ ap (λ z. f x ⊕ z) e ∙ no-flip (f x))) (λ z. absurd (true≢false z))
+    -- a register of a wire that looks the same
+    held : {x y : ℕ} {δ : Shift} → Fact T (reg y) δ x → Same T y → Same T x
+    held h s = carry h refl refl (s, tt)
 
-    R-same : (x i j : ℕ) → Pair d i j → ltb i j ≡ true → Seen x (R i j) → D i j ≡ false → Same T x
-    R-same x i j o l h e = carry h refl refl (r-same (wire (r i j)) i j (fact (is-r i j o l)) e, tt)
+    -- r and R
+    r-same : {x : ℕ} (i j : ℕ) → Seen x (r i j) → D i j ≡ false → Same T x
+    r-same {x} i j h e = stop-same h refl (sym (h .bits .flipped refl ∙ ap (λ z. f x ⊕ z) e ∙ no-flip (f x)))
 
     rs : (i j : ℕ) → Pair d i j → D i j ≡ false → Same T (ρ i j)
-    rs i j o = sorted-at (λ i j p. D i j ≡ false → Same T (wire p)) r d i j o (λ i j o l. r-same (wire (r i j)) i j (fact (is-r i j o l))) (λ x h e. h (swap j i f f′ ∙ e))
+    rs i j o = sorted-at (λ i j p. D i j ≡ false → Same T (wire p)) r d i j o (λ i j o l. r-same i j (fact (is-r i j o l))) (λ x h e. h (swap j i f f′ ∙ e))
 
     Rs : (i j : ℕ) → Pair d i j → D i j ≡ false → Same T (wire (sorted R i j))
-    Rs i j o = sorted-at (λ i j p. D i j ≡ false → Same T (wire p)) R d i j o (λ i j o l. R-same (wire (R i j)) i j o l (fact (is-R i j o l))) (λ x h e. h (swap j i f f′ ∙ e))
+    Rs i j o = sorted-at (λ i j p. D i j ≡ false → Same T (wire p)) R d i j o (λ i j o l e. held (fact (is-R i j o l)) (r-same i j (fact (is-r i j o l)) e)) (λ x h e. h (swap j i f f′ ∙ e))
 
     ρ-flip : (i j : ℕ) → Pair d i j → f′ (ρ i j) ≡ (f (ρ i j) ⊕ D i j)
     ρ-flip i j o = sorted-at (λ i j p. f′ (wire p) ≡ (f (wire p) ⊕ D i j)) r d i j o (λ i j o l. (fact (is-r i j o l)) .bits .flipped refl) (λ x h. h ∙ ap (λ z. f (wire x) ⊕ z) (swap j i f f′))
@@ -84,106 +83,72 @@ module _ (isProbed : ℕ → Bool) (d first : ℕ) (a b : ℕ → ℕ) (start en
     R-right : (i j : ℕ) → Pair d i j → f′ (wire (sorted R i j)) ≡ f′ (ρ i j)
     R-right i j o = cases (ltb i j) (λ l. rw l ((fact (is-R i j o l)) .bits .right refl)) (λ l. rw l ((fact (is-R j i (other o) (ltb-other i j (o .apart) l))) .bits .right refl))
 
-    -- B, m and M
-    B-same : (x i : ℕ) → i < d → Seen x (B i) → In i (ins site) → Same T x
-    B-same x i l h q = carry h refl refl (sb i l q, tt)
+    -- m, u and v, probed
+    m-same : {x i : ℕ} → i < d → Seen x (m i) → In i (ins site) → Same T x
+    m-same {i = i} l h q = carry h refl refl (sa i l q, (held (fact (is-B i l)) (sb i l q), tt))
 
-    m-same : (x i : ℕ) → i < d → Seen x (m i) → In i (ins site) → Same T x
-    m-same x i l h q = carry h refl refl (sa i l q, (B-same (wire (B i)) i l (fact (is-B i l)) q, tt))
+    u-same : {x i j : ℕ} → Pair d i j → Seen x (u i j) → ProbedRole site (pair false i j) → Same T x
+    u-same {i = i} {j = j} o h t = carry h refl refl (sa i (o .fst) (t .one), (Rs i j o (quiet f f′ i j t), tt))
 
-    M-same : (x i : ℕ) → i < d → Seen x (M i) → In i (ins site) → Same T x
-    M-same x i l h q = carry h refl refl (m-same (wire (m i)) i l (fact (is-m i l)) q, tt)
+    v-same : {x i j : ℕ} → Pair d i j → Seen x (v i j) → ProbedRole site (pair false j i) → Same T x
+    v-same {i = i} {j = j} o h t = carry h refl refl (sb j (o .snd) (t .one), (rs i j o (swap i j f f′ ∙ quiet f f′ j i t), tt))
 
-    -- u, U, v and V, probed
-    u-same : (x i j : ℕ) → Pair d i j → Seen x (u i j) → ProbedRole site (pair false i j) → Same T x
-    u-same x i j o h t = carry h refl refl (sa i (o .fst) (t .one), (Rs i j o (quiet f f′ i j t), tt))
+    -- w, probed: V is restored
+    V-left : (i j : ℕ) → Pair d i j → f (wire (V′ i j)) ≡ (f (b j) ⊕ f (ρ i j))
+    V-left i j o = fact (is-V i j o) .bits .left refl ∙ fact (is-v i j o) .bits .left refl ∙ ap (λ z. f (b j) ⊕ z) (no-flip (f (ρ i j)))
 
-    U-same : (x i j : ℕ) → Pair d i j → Seen x (U i j) → ProbedRole site (pair false i j) → Same T x
-    U-same x i j o h t = carry h refl refl (u-same (wire (u i j)) i j o (fact (is-u i j o)) t, tt)
+    V-right : (i j : ℕ) → Pair d i j → f′ (wire (V′ i j)) ≡ (f′ (b j) ⊕ (f (ρ i j) ⊕ D i j))
+    V-right i j o = fact (is-V i j o) .bits .right refl ∙ fact (is-v i j o) .bits .right refl ∙ ap (λ z. f′ (b j) ⊕ z) (no-flip (f′ (ρ i j)) ∙ ρ-flip i j o)
 
-    v-same : (x i j : ℕ) → Pair d i j → Seen x (v i j) → ProbedRole site (pair false j i) → Same T x
-    v-same x i j o h t = carry h refl refl (sb j (o .snd) (t .one), (rs i j o (swap i j f f′ ∙ quiet f f′ j i t), tt))
+    V-half : (i j : ℕ) → Pair d i j → ProbedRole site (pair true i j) → Same T (wire (V′ i j))
+    V-half i j o t = stop-same (fact (is-V i j o)) refl (V-left i j o
+        ∙ delta-half (ins site) (out site) (touched site true) a b f f′ i j (f (ρ i j)) (λ q. (sb j (o .snd) q) .valued) (t .one) (t .two) (t .hit) ∙ sym (V-right i j o))
 
-    V-same : (x i j : ℕ) → Pair d i j → Seen x (V′ i j) → ProbedRole site (pair false j i) → Same T x
-    V-same x i j o h t = carry h refl refl (v-same (wire (v i j)) i j o (fact (is-v i j o)) t, tt)
-
-    -- w and W, probed: V is restored
-    V-left : (x i j : ℕ) → Pair d i j → Seen x (V′ i j) → f x ≡ (f (b j) ⊕ f (ρ i j))
-    V-left x i j o h = h .bits .left refl ∙ (fact (is-v i j o)) .bits .left refl ∙ ap (λ z. f (b j) ⊕ z) (no-flip (f (ρ i j)))
-
-    V-right : (x i j : ℕ) → Pair d i j → Seen x (V′ i j) → f′ x ≡ (f′ (b j) ⊕ (f (ρ i j) ⊕ D i j))
-    V-right x i j o h = h .bits .right refl ∙ (fact (is-v i j o)) .bits .right refl ∙ ap (λ z. f′ (b j) ⊕ z) (no-flip (f′ (ρ i j)) ∙ ρ-flip i j o)
-
-    V-half : (x i j : ℕ) → Pair d i j → Seen x (V′ i j) → ProbedRole site (pair true i j) → Same T x
-    V-half x i j o h t = settle h
-        (V-left x i j o h ∙ delta-half (ins site) (out site) (touched site true) a b f f′ i j (f (ρ i j)) (λ q. (sb j (o .snd) q) .valued) (t .one) (t .two) (t .hit) ∙ sym (V-right x i j o h))
-        (λ z. absurd (true≢false z))
-
-    w-same : (x i j : ℕ) → Pair d i j → Seen x (w i j) → ProbedRole site (pair true i j) → Same T x
-    w-same x i j o h t = carry h refl refl (sa i (o .fst) (t .one), (V-half (wire (V′ i j)) i j o (fact (is-V i j o)) t, tt))
-
-    W-same : (x i j : ℕ) → Pair d i j → Seen x (W i j) → ProbedRole site (pair true i j) → Same T x
-    W-same x i j o h t = carry h refl refl (w-same (wire (w i j)) i j o (fact (is-w i j o)) t, tt)
+    w-same : {x i j : ℕ} → Pair d i j → Seen x (w i j) → ProbedRole site (pair true i j) → Same T x
+    w-same {i = i} {j = j} o h t = carry h refl refl (sa i (o .fst) (t .one), (V-half i j o t, tt))
 
     -- the registers that a seen output adds up
     U-out : (i j : ℕ) → Pair d i j → In i (ins site) → In i (out site) → Same T (wire (U i j))
     U-out i j o q k =
         let h = fact (is-U i j o) in
         let g = fact (is-u i j o) in
-        settle h (h .bits .left refl ∙ g .bits .left refl ∙ ap (λ z. not (f (a i)) && z) (R-left i j o)
+        stop-same h refl (h .bits .left refl ∙ g .bits .left refl ∙ ap (λ z. not (f (a i)) && z) (R-left i j o)
         ∙ delta-u (ins site) (out site) (touched site true) a b f f′ i j (f (ρ i j)) q k
         ∙ ap₂ (λ y z. not y && z) ((sa i (o .fst) q) .valued) (sym (ρ-flip i j o) ∙ sym (R-right i j o)) ∙ sym (g .bits .right refl) ∙ sym (h .bits .right refl))
-        (λ z. absurd (true≢false z))
 
     W-out : (i j : ℕ) → Pair d i j → In i (ins site) → In i (out site) → Same T (wire (W i j))
     W-out i j o q k =
         let h = fact (is-W i j o) in
         let g = fact (is-w i j o) in
-        let e = fact (is-V i j o) in
-        settle h (h .bits .left refl ∙ g .bits .left refl ∙ ap (λ z. f (a i) && z) (V-left (wire (V′ i j)) i j o e)
+        stop-same h refl (h .bits .left refl ∙ g .bits .left refl ∙ ap (λ z. f (a i) && z) (V-left i j o)
         ∙ delta-w (ins site) (out site) (touched site true) a b f f′ i j (f (ρ i j)) (λ l. (sb j (o .snd) l) .valued) q k
-        ∙ ap₂ (λ y z. y && z) ((sa i (o .fst) q) .valued) (sym (V-right (wire (V′ i j)) i j o e)) ∙ sym (g .bits .right refl) ∙ sym (h .bits .right refl))
-        (λ z. absurd (true≢false z))
+        ∙ ap₂ (λ y z. y && z) ((sa i (o .fst) q) .valued) (sym (V-right i j o)) ∙ sym (g .bits .right refl) ∙ sym (h .bits .right refl))
 
     -- an output in `out`
     c-same : (x i : ℕ) → i < d → OutFact site T flips x i → In i (out site) → Same T x
-    c-same x i l h k =
-        let q = out-ins site i k in
-        let us = map (λ j. wire (U i j)) (others d i) in
-        let ws = map (λ j. wire (W i j)) (others d i) in
-        carry h refl refl (
-          M-same (wire (M i)) i l (fact (is-M i l)) q,
-          every-append (Same T) us ws
-              (every-map (Same T) (λ j. wire (U i j)) (others d i) (λ j z. U-out i j (others-pair d i j l z) q k))
-              (every-map (Same T) (λ j. wire (W i j)) (others d i) (λ j z. W-out i j (others-pair d i j l z) q k)),
-        )
+    c-same x i l h k = let q = out-ins site i k in
+        carry h refl refl (output-every (Same T) wire l (held (fact (is-M i l)) (m-same l (fact (is-m i l)) q)) (λ j o. U-out i j o q k) (λ j o. W-out i j o q k))
 
     -- a probed inner wire, whichever it is
     inner-same : (x : ℕ) (p : Part) → InAND d p → Seen x p → ProbedRole site (role p) → Same T x
-    inner-same x _ (is-r i j o l) h t = r-same x i j h (quiet f f′ i j t)
-    inner-same x _ (is-R i j o l) h t = R-same x i j o l h (quiet f f′ i j t)
-    inner-same x _ (is-B i l) h t = B-same x i l h t
-    inner-same x _ (is-m i l) h t = m-same x i l h t
-    inner-same x _ (is-M i l) h t = M-same x i l h t
-    inner-same x _ (is-u i j o) h t = u-same x i j o h t
-    inner-same x _ (is-U i j o) h t = U-same x i j o h t
-    inner-same x _ (is-v i j o) h t = v-same x i j o h t
-    inner-same x _ (is-V i j o) h t = V-same x i j o h t
-    inner-same x _ (is-w i j o) h t = w-same x i j o h t
-    inner-same x _ (is-W i j o) h t = W-same x i j o h t
+    inner-same x _ (is-r i j o l) h t = r-same i j h (quiet f f′ i j t)
+    inner-same x _ (is-R i j o l) h t = held h (r-same i j (fact (is-r i j o l)) (quiet f f′ i j t))
+    inner-same x _ (is-B i l) h t = held h (sb i l t)
+    inner-same x _ (is-m i l) h t = m-same l h t
+    inner-same x _ (is-M i l) h t = held h (m-same l (fact (is-m i l)) t)
+    inner-same x _ (is-u i j o) h t = u-same o h t
+    inner-same x _ (is-U i j o) h t = held h (u-same o (fact (is-u i j o)) t)
+    inner-same x _ (is-v i j o) h t = v-same o h t
+    inner-same x _ (is-V i j o) h t = held h (v-same o (fact (is-v i j o)) t)
+    inner-same x _ (is-w i j o) h t = w-same o h t
+    inner-same x _ (is-W i j o) h t = held h (w-same o (fact (is-w i j o)) t)
 
     pub and-good : AllFrom (Good T isProbed behind) first (entriesAt site)
     and-good = good site T flips (InAND d) (and-parts d) inner-same c-same known
 
-  -- every part is made behind those it uses, and flips are decided by the wires a and b
+  -- flips are decided by the wires a and b
   module _ (la : (i : ℕ) → i < d → a i < first) (lb : (i : ℕ) → i < d → b i < first) where
-    abbrev E : ℕ → Part → Type 0
-    E x p = EarlyStep x (lift flips (entry (gateOf site p) (inner (start + delay p)) (role p)))
-
-    abbrev Q : List Part → Part → Type 0
-    Q = Ready E first (inAND d)
-
-    pairs : (i j x : ℕ) → first ≤ x → Pair d i j → (f g f′ g′ : Values) → Agree x f g → Agree x f′ g′ → flip i j f f′ ≡ flip i j g g′
+    pairs : (i j x : ℕ) → first ≤ x → Pair d i j → Decided x (flip i j)
     pairs i j x l o f g f′ g′ h h′ =
         let ai = la i (o .fst) in
         let aj = la j (o .snd) in
@@ -191,65 +156,18 @@ module _ (isProbed : ℕ → Bool) (d first : ℕ) (a b : ℕ → ℕ) (start en
         let bj = lb j (o .snd) in
         delta-agree (ins site) (out site) (touched site true) a b i j f g f′ g′ (h (a i) (omega arith)) (h (a j) (omega arith)) (h (b i) (omega arith)) (h (b j) (omega arith)) (h′ (b i) (omega arith)) (h′ (b j) (omega arith))
 
-    made1 : Before Q [] (sec1 d)
-    made1 = before-each Q [] (labels d) (λ i. concatMap (above d i) (cell1 i)) (λ i h pre k. before-each Q pre (above d i) (cell1 i) (λ j h′ more k′.
-        let (o, l) = above-pair d i j h h′ in (
-          (λ x n g. record { low = tt; decided = pairs i j x n o }),
-          ((λ x n g. record { low = (g (r i j) (inl refl), tt); decided = pairs i j x n o }), tt),
-        )))
+    inner-decided : (x : ℕ) (p : Part) → first ≤ x → InAND d p → Decided x (flips (role p))
+    inner-decided x _ n (is-r i j o l) = pairs i j x n o
+    inner-decided x _ n (is-R i j o l) = pairs i j x n o
+    inner-decided x _ n (is-B i l) = λ f g f′ g′ h h′. refl
+    inner-decided x _ n (is-m i l) = λ f g f′ g′ h h′. refl
+    inner-decided x _ n (is-M i l) = λ f g f′ g′ h h′. refl
+    inner-decided x _ n (is-u i j o) = pairs i j x n o
+    inner-decided x _ n (is-U i j o) = pairs i j x n o
+    inner-decided x _ n (is-v i j o) = pairs j i x n (other o)
+    inner-decided x _ n (is-V i j o) = pairs j i x n (other o)
+    inner-decided x _ n (is-w i j o) = pairs i j x n o
+    inner-decided x _ n (is-W i j o) = pairs i j x n o
 
-    made2 : (pre : List Part) → Before Q pre (sec2 d)
-    made2 pre = before-each Q pre (labels d) cell2 (λ i h more k.
-        let l = label-lt d i h in (
-          (λ x n g. record { low = (omega (arith, lb i l), tt); decided = undecided x }),
-          (
-            (λ x n g. record { low = (omega (arith, la i l), (g (B i) (inl refl), tt)); decided = undecided x }),
-            ((λ x n g. record { low = (g (m i) (inl refl), tt); decided = undecided x }), tt),
-          ),
-        ))
-
-    made3 : (pre : List Part) → More Q (sec1 d) pre → Before Q pre (sec3 d)
-    made3 pre up = before-each Q pre (labels d) (λ i. concatMap (others d i) (cell3 i)) (λ i h more k. before-each Q more (others d i) (cell3 i) (λ j h′ most k′.
-        let o = others-pair d i j (label-lt d i h) h′ in
-        let hr : Has (sorted r i j) most = k′ (sorted r i j) (k (sorted r i j) (up (sorted r i j) (sorted-at (λ i j p. Has p (sec1 d)) r d i j o (λ i j o l. has1 d (r i j) i j o l (inl refl)) (λ x z. z)))) in
-        let hR : Has (sorted R i j) most = k′ (sorted R i j) (k (sorted R i j) (up (sorted R i j) (sorted-at (λ i j p. Has p (sec1 d)) R d i j o (λ i j o l. has1 d (R i j) i j o l (inr (inl refl))) (λ x z. z)))) in (
-          (λ x n g. record { low = (omega (arith, la i (o .fst)), (g (sorted R i j) hR, tt)); decided = pairs i j x n o }),
-          (
-            (λ x n g. record { low = (g (u i j) (inl refl), tt); decided = pairs i j x n o }),
-            (
-              (λ x n g. record { low = (omega (arith, lb j (o .snd)), (g (sorted r i j) (inr (inr hr)), tt)); decided = pairs j i x n (other o) }),
-              (
-                (λ x n g. record { low = (g (v i j) (inl refl), tt); decided = pairs j i x n (other o) }),
-                (
-                  (λ x n g. record { low = (omega (arith, la i (o .fst)), (g (V′ i j) (inl refl), tt)); decided = pairs i j x n o }),
-                  ((λ x n g. record { low = (g (w i j) (inl refl), tt); decided = pairs i j x n o }), tt),
-                ),
-              ),
-            ),
-          ),
-        )))
-
-    inner-early : Before Q [] (inAND d)
-    unfolding inAND
-    inner-early = before-append Q [] (sec1 d ++ sec2 d) (sec3 d)
-        (before-append Q [] (sec1 d) (sec2 d) made1 (λ more f g. made2 more))
-        (λ more f g. made3 more (λ q z. g q (has-left q (sec1 d) (sec2 d) z)))
-
-    low : {p : Part} (x : ℕ) → first + length (inAND d) ≤ x → InAND d p → number site p < x
-    low {p} x n o = omega (arith, index-lt (inAND d) p (and-has d o))
-
-    output-early : (x i : ℕ) → first + length (inAND d) ≤ x → i < d → EarlyStep x (lift flips (entry (gateOf site (c i)) (named i end) (lone i)))
-    output-early x i n l =
-        let L : ℕ → Type 0 = λ y. y < x in
-        record {
-          low = (
-            low x n (is-M i l),
-            every-append L (map (λ j. number site (U i j)) (others d i)) (map (λ j. number site (W i j)) (others d i))
-                (every-map L (λ j. number site (U i j)) (others d i) (λ j z. low x n (is-U i j (others-pair d i j l z))))
-                (every-map L (λ j. number site (W i j)) (others d i) (λ j z. low x n (is-W i j (others-pair d i j l z)))),
-          );
-          decided = undecided x;
-        }
-
-    pub and-early : AllFrom (λ x e. EarlyStep x (lift flips e)) first (entriesAt site)
-    and-early = early-at site flips inner-early output-early
+    pub and-decided : AllFrom (λ x e. Decided x (flips (e .role))) first (entriesAt site)
+    and-decided = entries-all site (λ x e. Decided x (flips (e .role))) (all-of _ (InAND d) first (inAND d) inner-decided (and-parts d)) (all-any _ (λ x i f g f′ g′ h h′. refl) _ (labels d))

@@ -1,17 +1,18 @@
 -- Two evaluations side by side: the second tape is the first with bits flipped, each flip decided by the values so far.
 use mathlib.Core.Path.{_≡_, refl, sym, ap, ap₂, _∙_}
-use mathlib.Core.Bool.{Bool, true, false, cond, not, _&&_, true≢false}
+use mathlib.Core.Bool.{Bool, true, false, not, _&&_, true≢false}
 use mathlib.Core.List.{List, [], _∷_, _++_, map}
 use Prim.Native.Nat.{ℕ, suc, _+_, _<_}
 use native.Mathlib.Omega.{arith}
 use lib.ListN.{length, length-append, List·getD-append}
 use lib.Seq.{getD-append-seam}
-use Rattle.circuit.specs.Lists.{_⊕_, concatMap}
+use Rattle.circuit.specs.Lists.{_⊕_}
 use Rattle.circuit.specs.Wires.{Gate, input, constant, random, reg, inverse, sum, product, andNot, Wire}
-use Rattle.circuit.proofs.Base.{Every, every-imp, AllFrom}
-use Rattle.semantics.specs.Values.{at, xorSum, value, isRandom, valuesFrom}
-use Rattle.semantics.specs.Probes.{isStop, operands, reads, readBy, stopsFrom}
+use Rattle.circuit.proofs.Base.{Every, every-imp, every-in, AllFrom}
+use Rattle.semantics.specs.Values.{at, value, isRandom, valuesFrom}
+use Rattle.semantics.specs.Probes.{operands}
 use Rattle.secrecy.proofs.Sums.{sumBits, sum-swap}
+use Rattle.secrecy.proofs.Totals.{xorSum-ext}
 use Rattle.semantics.proofs.Randoms.{randomsIn}
 
 -- the values of wires by their numbers
@@ -77,54 +78,42 @@ Agree x f w = (y : ℕ) → y < x → f y ≡ w y
 abbrev pub Low : ℕ → Gate → Type 0
 Low x g = Every (λ y. y < x) (operands g)
 
+-- a flip that is decided by the values below x
+abbrev pub Decided : ℕ → Shift → Type 0
+Decided x δ = (f w f′ w′ : Values) → Agree x f w → Agree x f′ w′ → δ f f′ ≡ δ w w′
+
 -- a step at the wire x: its operands are earlier wires, and its flip is decided by earlier values
 pub record EarlyStep (x : ℕ) (s : Step) : Type 0 where
   pub low : Low x (s .wire .gate)
-  pub decided : (f w f′ w′ : Values) → Agree x f w → Agree x f′ w′ → s .shift f f′ ≡ s .shift w w′
+  pub decided : Decided x (s .shift)
 
--- a bit that is never flipped
-pub undecided : (x : ℕ) (f w f′ w′ : Values) → Agree x f w → Agree x f′ w′ → false ≡ false
-undecided x f w f′ w′ h h′ = refl
-
--- values that agree on the operands; the shares agree too, or are not asked
-abbrev pub isInput : Gate → Bool
-isInput (input n) = true
-isInput (constant b) = false
-isInput random = false
-isInput (reg x) = false
-isInput (inverse x) = false
-isInput (sum xs) = false
-isInput (product x y) = false
-isInput (andNot x y) = false
-
-xorSum-same : (f w : Values) (xs : List ℕ) → Every (λ y. f y ≡ w y) xs → xorSum xs f ≡ xorSum xs w
-xorSum-same f w [] h = refl
-xorSum-same f w (x ∷ xs) h = ap₂ (λ p q. p ⊕ q) (h .0) (xorSum-same f w xs (h .1))
-
-pub value-same : (g : Gate) (f w : Values) (sh sh′ : List Bool) → (isInput g ≡ true → sh ≡ sh′) → Every (λ y. f y ≡ w y) (operands g) → value g f sh [] ≡ value g w sh′ []
-value-same (input n) f w sh sh′ e h = ap (λ l. at l n) (e refl)
-value-same (constant b) f w sh sh′ e h = refl
-value-same random f w sh sh′ e h = refl
-value-same (reg x) f w sh sh′ e h = h .0
-value-same (inverse x) f w sh sh′ e h = ap not (h .0)
-value-same (sum xs) f w sh sh′ e h = xorSum-same f w xs h
-value-same (product x y) f w sh sh′ e h = ap₂ (λ p q. p && q) (h .0) (h .1 .0)
-value-same (andNot x y) f w sh sh′ e h = ap₂ (λ p q. not p && q) (h .0) (h .1 .0)
+-- values that agree on the operands
+pub value-same : (g : Gate) (f w : Values) (sh t : List Bool) → Every (λ y. f y ≡ w y) (operands g) → value g f sh t ≡ value g w sh t
+value-same (input n) f w sh t h = refl
+value-same (constant b) f w sh t h = refl
+value-same random f w sh t h = refl
+value-same (reg x) f w sh t h = h .0
+value-same (inverse x) f w sh t h = ap not (h .0)
+value-same (sum xs) f w sh t h = xorSum-ext f w xs (every-in (λ y. f y ≡ w y) xs h)
+value-same (product x y) f w sh t h = ap₂ (λ p q. p && q) (h .0) (h .1 .0)
+value-same (andNot x y) f w sh t h = ap₂ (λ p q. not p && q) (h .0) (h .1 .0)
 
 -- the values at the end: each wire's bits are to the final values what they were to the values below it
 module _ (sh sh′ : List Bool) where
   abbrev pub Settled : List Bool → List Bool → ℕ → Step → Type 0
   Settled g g′ x s = Bits sh sh′ (s .wire .gate) (s .shift) (at g) (at g′) (at g x) (at g′ x)
 
-  run-left : (ss : List Step) (v v′ g g′ : List Bool) → Run sh sh′ ss v v′ g g′ → Agree (length v) (at v) (at g)
-  run-left [] v v′ g g′ r y h = rw (r .0)
-  run-left (s ∷ ss) v v′ g g′ r y h = sym (List·getD-append v (r .0 ∷ []) false y h)
-      ∙ run-left ss (v ++ (r .0 ∷ [])) (v′ ++ (r .1 ∷ [])) g g′ (r .3) y (simp length-append (omega arith))
+  -- values that grow by a bit: those below stay, and the bit stands behind them
+  grown : (v : List Bool) (b : Bool) (g : List Bool) → Agree (length (v ++ (b ∷ []))) (at (v ++ (b ∷ []))) (at g) → Agree (length v) (at v) (at g) × (at g (length v) ≡ b)
+  grown v b g h = (
+    (λ y l. sym (List·getD-append v (b ∷ []) false y l) ∙ h y (simp length-append (omega arith))),
+    sym (h (length v) (simp length-append (omega arith))) ∙ getD-append-seam v b [] false,
+  )
 
-  run-right : (ss : List Step) (v v′ g g′ : List Bool) → Run sh sh′ ss v v′ g g′ → Agree (length v′) (at v′) (at g′)
-  run-right [] v v′ g g′ r y h = rw (r .1)
-  run-right (s ∷ ss) v v′ g g′ r y h = sym (List·getD-append v′ (r .1 ∷ []) false y h)
-      ∙ run-right ss (v ++ (r .0 ∷ [])) (v′ ++ (r .1 ∷ [])) g g′ (r .3) y (simp length-append (omega arith))
+  run-kept : (ss : List Step) (v v′ g g′ : List Bool) → Run sh sh′ ss v v′ g g′ → Agree (length v) (at v) (at g) × Agree (length v′) (at v′) (at g′)
+  run-kept [] v v′ g g′ r = ((λ y l. rw (r .0)), (λ y l. rw (r .1)))
+  run-kept (s ∷ ss) v v′ g g′ r = let (h, h′) = run-kept ss (v ++ (r .0 ∷ [])) (v′ ++ (r .1 ∷ [])) g g′ (r .3) in
+      (grown v (r .0) g h .0, grown v′ (r .1) g′ h′ .0)
 
   bits-agree : (x : ℕ) (s : Step) (f w f′ w′ : Values) (b b′ : Bool) → EarlyStep x s → Agree x f w → Agree x f′ w′
       → Bits sh sh′ (s .wire .gate) (s .shift) f f′ b b′ → Bits sh sh′ (s .wire .gate) (s .shift) w w′ b b′
@@ -132,8 +121,8 @@ module _ (sh sh′ : List Bool) where
       let g = s .wire .gate in
       let low : (k k′ : Values) → Agree x k k′ → Every (λ y. k y ≡ k′ y) (operands g) = λ k k′ q. every-imp (λ y. y < x) (λ y. k y ≡ k′ y) (operands g) (λ y l. q y l) (e .low) in
       record {
-        left = λ k. h .left k ∙ value-same g f w sh sh (λ i. refl) (low f w a);
-        right = λ k. h .right k ∙ value-same g f′ w′ sh′ sh′ (λ i. refl) (low f′ w′ a′);
+        left = λ k. h .left k ∙ value-same g f w sh [] (low f w a);
+        right = λ k. h .right k ∙ value-same g f′ w′ sh′ [] (low f′ w′ a′);
         flipped = λ k. h .flipped k ∙ ap (λ z. b ⊕ z) (e .decided f w f′ w′ a a′);
       }
 
@@ -141,34 +130,10 @@ module _ (sh sh′ : List Bool) where
       → Run sh sh′ ss v v′ g g′ → AllFrom (Settled g g′) (length v) ss
   settled [] v v′ g g′ l e r = tt
   settled (s ∷ ss) v v′ g g′ l e r =
-      let b : Bool = r .0 in
-      let b′ : Bool = r .1 in
-      let p : at g (length v) ≡ r .0 = sym (run-left ss (v ++ (b ∷ [])) (v′ ++ (b′ ∷ [])) g g′ (r .3) (length v) (simp length-append (omega arith))) ∙ getD-append-seam v b [] false in
-      let q : at g′ (length v) ≡ r .1 = ap (at g′) (sym l) ∙ sym (run-right ss (v ++ (b ∷ [])) (v′ ++ (b′ ∷ [])) g g′ (r .3) (length v′) (simp length-append (omega arith))) ∙ getD-append-seam v′ b′ [] false in
+      let (h, h′) = run-kept ss (v ++ (r .0 ∷ [])) (v′ ++ (r .1 ∷ [])) g g′ (r .3) in
+      let (below, here) = grown v (r .0) g h in
+      let (below′, here′) = grown v′ (r .1) g′ h′ in
       let z : length (v ++ (r .0 ∷ [])) ≡ suc (length v) = simp length-append (omega arith) in (
-        bits-agree (length v) s (at v) (at g) (at v′) (at g′) (at g (length v)) (at g′ (length v)) (e .0)
-            (run-left (s ∷ ss) v v′ g g′ r) (rw (← l) (run-right (s ∷ ss) v v′ g g′ r)) (rw (p, q) (r .2)),
-        rw z at (settled ss (v ++ (b ∷ [])) (v′ ++ (b′ ∷ [])) g g′ (simp length-append (omega arith)) (rw z (e .1)) (r .3)),
+        bits-agree (length v) s (at v) (at g) (at v′) (at g′) (at g (length v)) (at g′ (length v)) (e .0) below (rw (← l) below′) (rw (here, ← l, here′) (r .2)),
+        rw z at (settled ss (v ++ (r .0 ∷ [])) (v′ ++ (r .1 ∷ [])) g g′ (simp length-append (omega arith)) (rw z (e .1)) (r .3)),
       )
-
--- the same of what probes read
-concatMap-agree : (x : ℕ) (xs : List ℕ) (f w : ℕ → List ℕ) → Every (λ y. y < x) xs → Agree x f w → concatMap xs f ≡ concatMap xs w
-concatMap-agree x [] f w h a = refl
-concatMap-agree x (y ∷ xs) f w h a = ap₂ (λ p q. p ++ q) (a y (h .0)) (concatMap-agree x xs f w (h .1) a)
-
-stops-left : (ws : List Wire) (rs : List (List ℕ)) → Agree (length rs) (readBy rs) (readBy (stopsFrom rs ws))
-stops-left [] rs y h = refl
-stops-left (w ∷ ws) rs y h = let n = reads (length rs) (w .gate) (readBy rs) in
-    sym (List·getD-append rs (n ∷ []) [] y h) ∙ stops-left ws (rs ++ (n ∷ [])) y (simp length-append (omega arith))
-
-pub stops-settled : (ws : List Wire) (rs : List (List ℕ)) → AllFrom (λ x w. Low x (w .gate)) (length rs) ws
-    → AllFrom (λ x w. readBy (stopsFrom rs ws) x ≡ reads x (w .gate) (readBy (stopsFrom rs ws))) (length rs) ws
-stops-settled [] rs h = tt
-stops-settled (w ∷ ws) rs h =
-    let g = w .gate in
-    let n = reads (length rs) g (readBy rs) in
-    let z : length (rs ++ (n ∷ [])) ≡ suc (length rs) = simp length-append (omega arith) in (
-      sym (stops-left ws (rs ++ (n ∷ [])) (length rs) (omega arith)) ∙ getD-append-seam rs n [] []
-          ∙ ap (λ l. cond (isStop g) (length rs ∷ []) l) (concatMap-agree (length rs) (operands g) (readBy rs) (readBy (stopsFrom rs (w ∷ ws))) (h .0) (stops-left (w ∷ ws) rs)),
-      rw z at (stops-settled ws (rs ++ (n ∷ [])) (rw z (h .1))),
-    )

@@ -16,6 +16,7 @@ use Rattle.circuit.specs.Rules.{pass, wordsRule, frameRule, frames, headRule, c
 use Rattle.circuit.specs.Composition.{Frame, Row, fit-IN, fit-AND, fit-OUT, AllFit, done, next, build, frame}
 use Rattle.semantics.specs.Probes.{stops, sheet}
 use Rattle.semantics.specs.Counts.{pairsFor, EqualCounts}
+use Rattle.semantics.proofs.Earlier.{build-early}
 use Rattle.secrecy.proofs.Theorems.{equal-counts-of}
 
 -- circuit A: its table and its frames
@@ -61,7 +62,7 @@ fitsA =
 
 -- one probe on A, wherever it stands, tells nothing of the secret bits
 secretA : (probe : ℕ) → EqualCounts (checked tableA notesRoom .circuit) (probe ∷ [])
-secretA probe = rw circuitA (equal-counts-of 2 framesA fitsA (probe ∷ []))
+secretA probe = rw circuitA (equal-counts-of 2 framesA fitsA (build-early 2 framesA (omega arith) fitsA) (probe ∷ []))
 
 -- the reading in which wires 0 and 1 are read, and both are 1
 abbrev ones : List ℕ

@@ -1,36 +1,27 @@
 -- The frames: every probed wire, and every named wire whose label is among the share indices behind, looks the same.
 use mathlib.Core.Path.{_≡_, refl, sym, ap, subst, _∙_}
-use mathlib.Core.Bool.{Bool, true, false}
-use mathlib.Core.List.{List, [], _∷_, map}
-use Prim.Native.Nat.{ℕ, zero, suc, _+_, _*_, _<_}
+use mathlib.Core.Bool.{Bool, true}
+use mathlib.Core.List.{List, [], _∷_, map, map-map}
+use Prim.Native.Nat.{ℕ, suc, _+_, _*_, _<_}
 use native.Mathlib.Omega.{arith}
-use lib.ListN.{length, getD}
 use Rattle.circuit.specs.Lists.{nth}
-use Rattle.circuit.specs.Wires.{Gate, input, constant, reg, inverse, sum, Place, named, inner, Wire, _placed_}
+use Rattle.circuit.specs.Wires.{Gate, input, constant, reg, inverse, sum, named, Wire}
 use Rattle.circuit.specs.Gadgets.{labels}
 use Rattle.circuit.specs.Kinds.{Kind, HEAD, IN, CON, XOR, NOT, REG, AND, REF, OUT}
 use Rattle.circuit.specs.Circuit.{Circuit, size, place, labelOf, stageShown, isSet, newStage, made}
-use Rattle.circuit.proofs.Base.{In, in-head, every-of, AllFrom, all-zip, all-map, all-unmap, all-of, map-two}
-use Rattle.circuit.proofs.Parts.{label-lt}
+use Rattle.circuit.proofs.Base.{In, in-head, AllFrom, all-zip, all-map, all-unmap, all-every}
+use Rattle.circuit.proofs.Parts.{labels-lt}
 use Rattle.circuit.specs.Composition.{Fits, fit-IN, fit-CON, fit-XOR, fit-NOT, fit-REG, fit-AND, fit-REF, fit-OUT}
+use Rattle.circuit.proofs.Numbered.{all-get}
+use Rattle.circuit.proofs.Building.{named-made}
 use Rattle.semantics.specs.Values.{at}
 use Rattle.secrecy.proofs.Roles.{Role, lone}
 use Rattle.secrecy.proofs.Taken.{taken, taken-sub, chosen, Chosen}
-use Rattle.secrecy.proofs.Coupled.{undecided, Shift, EarlyStep}
+use Rattle.secrecy.proofs.Coupled.{Shift, Decided}
 use Rattle.secrecy.proofs.Same.{Two, Same, settle, carry}
-use Rattle.secrecy.proofs.Sites.{Site, Entry, entry, entryWire, entryRole, lift, Known, Good, hidden, entriesAt, wires-at, ins-eq}
-use Rattle.secrecy.proofs.And.{site, flips, and-good, and-early}
-use Rattle.secrecy.proofs.Ref.{still, refsite, ref-good, ref-early}
-
--- the place of a wire on a list; inner, where there is no such wire
-abbrev pub placeIn : List Wire → ℕ → Place
-placeIn ws x = getD ws x (constant false placed inner 0) .place
-
--- a named wire is on the list
-named-lt : (ws : List Wire) (x l t : ℕ) → placeIn ws x ≡ named l t → x < length ws
-named-lt [] x l t h = hidden h
-named-lt (v ∷ ws) zero l t h = omega arith
-named-lt (v ∷ ws) (suc x) l t h = omega (arith, named-lt ws x l t h)
+use Rattle.secrecy.proofs.Sites.{Site, Entry, entry, entryWire, entryRole, Known, Good, entriesAt, wires-at, ins-eq}
+use Rattle.secrecy.proofs.And.{site, flips, and-good, and-decided}
+use Rattle.secrecy.proofs.Ref.{still, still-decided, refsite, ref-good}
 
 -- the wires of a frame with their roles, where P are probed and the share indices `behind` stand behind it
 module _ (isProbed : ℕ → Bool) (behind : List ℕ) (k : Circuit) where
@@ -83,7 +74,7 @@ module _ (isProbed : ℕ → Bool) (behind : List ℕ) (k : Circuit) where
   pub frame-wires : (ops : List ℕ) (kind : Kind) → map entryWire (entries ops kind) ≡ made k ops kind
   unfolding entries made newStage
   frame-wires ops HEAD = refl
-  frame-wires ops IN = map-two entryWire (inEntry ops) (inEntry ops) [] (labels (k .d))
+  frame-wires ops IN = map-map entryWire (inEntry ops) (labels (k .d))
   frame-wires ops CON = refl
   frame-wires ops XOR = refl
   frame-wires ops NOT = refl
@@ -101,8 +92,14 @@ module _ (isProbed : ℕ → Bool) (behind : List ℕ) (k : Circuit) where
     G = Good T isProbed behind
 
     -- what is known before a frame: wires named with labels in J look the same, and so do shares with labels in J
+    abbrev pub Shown : List ℕ → ℕ → Wire → Type 0
+    Shown J x wire = (l t : ℕ) → wire .place ≡ named l t → In l J → Same T x
+
     abbrev pub Holds : List ℕ → Type 0
-    Holds J = (x l t : ℕ) → place k x ≡ named l t → In l J → Same T x
+    Holds J = AllFrom (Shown J) 0 (k .wires)
+
+    pub held : (J : List ℕ) → Holds J → (x l t : ℕ) → place k x ≡ named l t → In l J → Same T x
+    held J h x l t p i = subst (Same T) (omega arith) (all-get (Shown J) 0 (k .wires) _ h x (named-made k x l t p) l t p i)
 
     abbrev pub Shares : List ℕ → Type 0
     Shares J = (n i : ℕ) → i < k .d → In i J → at (T .sh) (n * k .d + i) ≡ at (T .sh′) (n * k .d + i)
@@ -125,13 +122,12 @@ module _ (isProbed : ℕ → Bool) (behind : List ℕ) (k : Circuit) where
         let C : ℕ → ℕ → Type 0 = λ x i. isProbed x ≡ true → In i J in
         let cs : AllFrom C n is = all-unmap (λ x e. isProbed x ≡ true → Chosen behind J (entryRole e)) (inEntry ops) n is (all-unmap (λ x o. isProbed x ≡ true → Chosen behind J o) entryRole n es (chosen isProbed behind n (map entryRole es))) in
         let one : (x i : ℕ) → i < k .d → F x i → In i J → Same T x = λ x i l f q. settle f (f .bits .left refl ∙ sh (k .inputs) i l q ∙ sym (f .bits .right refl)) (λ z. tt) in
-        let both = all-zip F C (λ x i. F x i × C x i) (λ x i f g. (f, g)) n is (all-unmap (Known T still) (inEntry ops) n is h) cs in
-        let lt = all-of (λ x i. i < k .d) (λ i. i < k .d) n is (λ x i l o. o) (every-of (λ i. i < k .d) is (label-lt (k .d))) in
-        all-map G (inEntry ops) n is (all-zip (λ x i. i < k .d) (λ x i. F x i × C x i) (λ x i. G x (inEntry ops i))
-        (λ x i l f. record { probed = λ p. one x i l (f .0) (f .1 p); shown = λ j y z q. one x i l (f .0) (taken-sub isProbed behind n (map entryRole es) i (let e : j ≡ i = cc in rw e at q)) }) n is lt both)
+        all-map G (inEntry ops) n is (all-every (λ x i. G x (inEntry ops i)) (λ i. i < k .d) n is (all-zip F C (λ x i. i < k .d → G x (inEntry ops i))
+        (λ x i f c l. record { probed = λ p. one x i l f (c p); shown = λ j y z q. one x i l f (taken-sub isProbed behind n (map entryRole es) i (let e : j ≡ i = cc in rw e at q)) })
+        n is (all-unmap (Known T still) (inEntry ops) n is h) cs) (labels-lt (k .d)))
 
-    pub frame-good : {kind : Kind} {ops : List ℕ} → Fits k kind ops → Shares (before ops kind) → Holds (before ops kind)
-        → AllFrom (Known T (frameFlips ops kind)) (size k) (entries ops kind) → AllFrom G (size k) (entries ops kind)
+    pub frame-good : {kind : Kind} {ops : List ℕ} → Fits k kind ops → Shares (before ops kind)
+        → ((x l t : ℕ) → place k x ≡ named l t → In l (before ops kind) → Same T x) → AllFrom (Known T (frameFlips ops kind)) (size k) (entries ops kind) → AllFrom G (size k) (entries ops kind)
     unfolding entries frameFlips
     frame-good (fit-IN t e) sh i h = inputs-good (t ∷ []) sh h
     frame-good (fit-CON l b t o e f) sh i h = single (constant (isSet b)) l (newStage k (l ∷ b ∷ t ∷ []) CON) (λ q. carry (h .0) refl refl tt)
@@ -150,16 +146,15 @@ module _ (isProbed : ℕ → Bool) (behind : List ℕ) (k : Circuit) where
         ref-good isProbed (k .d) (size k) (wireA ops) (stageAt ops 1) (newStage k ops REF) behind T h (λ j l z. i (wireA ops j) j t (p j l) (rw e z))
     frame-good (fit-OUT ops t n p) sh i h = tt
 
-  -- operands are earlier
-  pub frame-early : {kind : Kind} {ops : List ℕ} → Fits k kind ops → AllFrom (λ x e. EarlyStep x (lift (frameFlips ops kind) e)) (size k) (entries ops kind)
+  -- no flip but AND's, which is decided by the wires a and b
+  pub frame-decided : {kind : Kind} {ops : List ℕ} → Fits k kind ops → AllFrom (λ x e. Decided x (frameFlips ops kind (e .role))) (size k) (entries ops kind)
   unfolding entries frameFlips
-  frame-early (fit-IN t e) = all-map (λ x e. EarlyStep x (lift still e)) (inEntry (t ∷ [])) (size k) (labels (k .d))
-      (all-of (λ x i. EarlyStep x (lift still (inEntry (t ∷ []) i))) (λ i. i < k .d) (size k) (labels (k .d)) (λ x i l o. record { low = tt; decided = undecided x }) (every-of (λ i. i < k .d) (labels (k .d)) (label-lt (k .d))))
-  frame-early (fit-CON l b t o e f) = (record { low = tt; decided = undecided (size k) }, tt)
-  frame-early (fit-XOR x y l t p q) = (record { low = (named-lt (k .wires) x l t p, (named-lt (k .wires) y l t q, tt)); decided = undecided (size k) }, tt)
-  frame-early (fit-NOT x l t p) = (record { low = (named-lt (k .wires) x l t p, tt); decided = undecided (size k) }, tt)
-  frame-early (fit-REG x l t p e) = (record { low = (named-lt (k .wires) x l t p, tt); decided = undecided (size k) }, tt)
-  frame-early (fit-AND ops t n z p q s) = and-early isProbed (k .d) (size k) (wireA ops) (wireB ops) (stageAt ops (1 + k .d)) (newStage k ops AND) behind
-      (λ i l. named-lt (k .wires) (wireA ops i) i (suc t) (p i l)) (λ i l. named-lt (k .wires) (wireB ops i) i t (q i l))
-  frame-early (fit-REF ops t n z p s) = ref-early isProbed (k .d) (size k) (wireA ops) (stageAt ops 1) (newStage k ops REF) behind (λ i l. named-lt (k .wires) (wireA ops i) i t (p i l))
-  frame-early (fit-OUT ops t n p) = tt
+  frame-decided (fit-IN t e) = still-decided (size k) (entries (t ∷ []) IN)
+  frame-decided (fit-CON l b t o e f) = still-decided (size k) (entries (l ∷ b ∷ t ∷ []) CON)
+  frame-decided (fit-XOR x y l t p q) = still-decided (size k) (entries (x ∷ y ∷ []) XOR)
+  frame-decided (fit-NOT x l t p) = still-decided (size k) (entries (x ∷ []) NOT)
+  frame-decided (fit-REG x l t p e) = still-decided (size k) (entries (x ∷ []) REG)
+  frame-decided (fit-AND ops t n z p q s) = and-decided isProbed (k .d) (size k) (wireA ops) (wireB ops) (stageAt ops (1 + k .d)) (newStage k ops AND) behind
+      (λ i l. named-made k (wireA ops i) i (suc t) (p i l)) (λ i l. named-made k (wireB ops i) i t (q i l))
+  frame-decided (fit-REF ops t n z p s) = still-decided (size k) (entries ops REF)
+  frame-decided (fit-OUT ops t n p) = tt

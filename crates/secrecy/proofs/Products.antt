@@ -8,17 +8,19 @@ use lib.Dec.{eqb, ltb}
 use lib.ListN.{length}
 use borrow.Author.Tests.{ltb-true}
 use Rattle.circuit.specs.Lists.{_⊕_, nth}
-use Rattle.circuit.specs.Wires.{Gate}
-use Rattle.circuit.specs.Gadgets.{Part, r, R, B, m, M, u, U, v, V′, w, W, c, s, S, labels, others, sorted, inAND, inREF, index}
-use Rattle.circuit.specs.Kinds.{Kind, AND, REF}
+use Rattle.circuit.specs.Wires.{Gate, Wire}
+use Rattle.circuit.specs.Gadgets.{Part, r, R, B, m, M, u, U, v, V′, w, W, c, s, S, labels, others, sorted, gate, inAND, inREF, index}
+use Rattle.circuit.specs.Kinds.{AND, REF}
 use Rattle.circuit.specs.Circuit.{Circuit, size, place, stageShown, newStage, empty, made}
 use Rattle.circuit.proofs.Base.{cases, no-flip, ltb-other, AllFrom}
-use Rattle.circuit.proofs.Parts.{index-at, Pair, other, label-lt, others-pair, InAND, is-R, is-B, is-m, is-M, is-u, is-U, is-v, is-V, is-w, is-W, and-has, added, ref-has}
-use Rattle.circuit.specs.Composition.{Frame, AllFit, build, frame}
+use Rattle.circuit.proofs.Parts.{index-at, Pair, other, label-lt, others-pair, InAND, is-R, is-B, is-m, is-M, is-u, is-U, is-v, is-V, is-w, is-W, and-has, added as is-s, ref-has}
+use Rattle.circuit.proofs.Building.{build-shares, gadget-parts, gadget-outputs}
+use Rattle.circuit.specs.Composition.{Frame, build, frame}
 use Rattle.semantics.specs.Values.{at, xorSum, value, isRandom, valuesOf}
-use Rattle.secrecy.proofs.Coupled.{Values}
-use Rattle.secrecy.proofs.Totals.{xorSum-ext, xorSum-append, xorSum-map, output, multiplied, refreshed}
-use Rattle.secrecy.proofs.Equations.{Meets, gateAt, made-meets, inner-meets, outer-meets}
+use Rattle.secrecy.specs.Gadgets.{added, output}
+use Rattle.secrecy.proofs.Coupled.{Values, Low}
+use Rattle.secrecy.proofs.Totals.{xorSum-ext, xorSum-append, xorSum-map, output as shared, multiplied, refreshed}
+use Rattle.secrecy.proofs.Equations.{Meets, made-meets}
 
 -- r(i,j) and r(j,i) are one wire
 sorted-swap : (p : ℕ → ℕ → Part) (i j : ℕ) → eqb i j ≡ false → sorted p i j ≡ sorted p j i
@@ -33,7 +35,7 @@ module _ (d first : ℕ) (a b : ℕ → ℕ) (f : Values) (sh : List Bool) where
   wire p = first + index p (inAND d)
 
   abbrev gateOf : Part → Gate
-  gateOf = gateAt d first a b (inAND d) c 0 0 f sh
+  gateOf = gate d a b wire
 
   abbrev ρ : ℕ → ℕ → Bool
   ρ i j = f (wire (sorted r i j))
@@ -60,7 +62,7 @@ module _ (d first : ℕ) (a b : ℕ → ℕ) (f : Values) (sh : List Bool) where
         ∙ ap (λ z. f (a i) && z) (is (V′ i j) (is-V i j o) refl ∙ is (v i j) (is-v i j o) refl ∙ ap (λ z. f (b j) ⊕ z) (no-flip (ρ i j)))
 
     -- the output i, from the bits a, b and r
-    c-is : (i : ℕ) → i < d → f (first + length (inAND d) + i) ≡ output d ρ ρ-swap (λ i. f (a i)) (λ i. f (b i)) i
+    c-is : (i : ℕ) → i < d → f (first + length (inAND d) + i) ≡ shared d ρ ρ-swap (λ i. f (a i)) (λ i. f (b i)) i
     c-is i l =
         let us = map (λ j. wire (U i j)) (others d i) in
         let ws = map (λ j. wire (W i j)) (others d i) in
@@ -68,9 +70,9 @@ module _ (d first : ℕ) (a b : ℕ → ℕ) (f : Values) (sh : List Bool) where
         (xorSum-map f (λ j. wire (U i j)) (others d i) ∙ xorSum-ext _ (λ j. not (f (a i)) && ρ i j) (others d i) (λ j k. U-is i j (others-pair d i j l k)))
         (xorSum-map f (λ j. wire (W i j)) (others d i) ∙ xorSum-ext _ (λ j. f (a i) && (f (b j) ⊕ ρ i j)) (others d i) (λ j k. W-is i j (others-pair d i j l k))))
 
-    and-adds : xorSum (labels d) (λ i. f (first + length (inAND d) + i)) ≡ (xorSum (labels d) (λ i. f (a i)) && xorSum (labels d) (λ i. f (b i)))
-    and-adds = xorSum-ext _ (output d ρ ρ-swap (λ i. f (a i)) (λ i. f (b i))) (labels d) (λ i h. c-is i (label-lt d i h))
-        ∙ multiplied d ρ ρ-swap (λ i. f (a i)) (λ i. f (b i))
+    and-adds : xorSum (map (λ i. first + length (inAND d) + i) (labels d)) f ≡ (xorSum (map a (labels d)) f && xorSum (map b (labels d)) f)
+    and-adds = rw (xorSum-map f (λ i. first + length (inAND d) + i) (labels d), xorSum-map f a (labels d), xorSum-map f b (labels d))
+        (xorSum-ext _ (shared d ρ ρ-swap (λ i. f (a i)) (λ i. f (b i))) (labels d) (λ i h. c-is i (label-lt d i h)) ∙ multiplied d ρ ρ-swap (λ i. f (a i)) (λ i. f (b i)))
 
 -- REF, from the wire `first` on, whose wires meet their equations
 module _ (d first : ℕ) (a : ℕ → ℕ) (f : Values) (sh : List Bool) where
@@ -79,49 +81,48 @@ module _ (d first : ℕ) (a : ℕ → ℕ) (f : Values) (sh : List Bool) where
   refWire p = first + index p (inREF d)
 
   abbrev refGate : Part → Gate
-  refGate = gateAt d first a a (inREF d) S 0 0 f sh
+  refGate = gate d a a refWire
 
   abbrev fresh : ℕ → ℕ → Bool
   fresh i j = f (refWire (sorted r i j))
 
   module _ (inside : AllFrom (λ x p. Meets f sh x (refGate p)) first (inREF d)) (outs : (i : ℕ) → i < d → Meets f sh (first + length (inREF d) + i) (refGate (S i))) where
     S-is : (i : ℕ) → i < d → f (first + length (inREF d) + i) ≡ (f (a i) ⊕ xorSum (others d i) (fresh i))
-    S-is i l = outs i l refl ∙ index-at (λ x p. Meets f sh x (refGate p)) first (inREF d) (s i) (ref-has d (added i l)) inside refl
+    S-is i l = outs i l refl ∙ index-at (λ x p. Meets f sh x (refGate p)) first (inREF d) (s i) (ref-has d (is-s i l)) inside refl
         ∙ ap (λ z. f (a i) ⊕ z) (xorSum-map f (λ j. refWire (sorted r i j)) (others d i))
 
-    ref-adds : xorSum (labels d) (λ i. f (first + length (inREF d) + i)) ≡ xorSum (labels d) (λ i. f (a i))
-    ref-adds = xorSum-ext _ (λ i. f (a i) ⊕ xorSum (others d i) (fresh i)) (labels d) (λ i h. S-is i (label-lt d i h))
-        ∙ refreshed d fresh (λ i j e. ap (λ p. f (refWire p)) (sorted-swap r i j e)) (λ i. f (a i))
+    ref-adds : xorSum (map (λ i. first + length (inREF d) + i) (labels d)) f ≡ xorSum (map a (labels d)) f
+    ref-adds = rw (xorSum-map f (λ i. first + length (inREF d) + i) (labels d), xorSum-map f a (labels d))
+        (xorSum-ext _ (λ i. f (a i) ⊕ xorSum (others d i) (fresh i)) (labels d) (λ i h. S-is i (label-lt d i h))
+        ∙ refreshed d fresh (λ i j e. ap (λ p. f (refWire p)) (sorted-swap r i j e)) (λ i. f (a i)))
 
--- a frame in a circuit, k the circuit before it
-module _ (d : ℕ) (fs : List Frame) (ops : List ℕ) (gs : List Frame) (shares tape : List Bool) where
+-- a frame in a circuit whose gates take earlier wires: fs are its frames, k the circuit before this one
+module _ (d : ℕ) (fs before after : List Frame) (ops : List ℕ) (shares tape : List Bool) (ordered : AllFrom (λ x w. Low x (w .gate)) 0 (build (empty d) fs .wires)) where
   abbrev k : Circuit
-  k = build (empty d) fs
+  k = build (empty d) before
 
-  pub and-product : AllFit (empty d) (fs ++ (frame AND ops ∷ gs))
-      → let f : Values = at (valuesOf (build (empty d) (fs ++ (frame AND ops ∷ gs)) .wires) shares tape) in
-      xorSum (labels (k .d)) (λ i. f (size k + length (inAND (k .d)) + i))
-      ≡ (xorSum (labels (k .d)) (λ i. f (nth ops (1 + i))) && xorSum (labels (k .d)) (λ i. f (nth ops (1 + k .d + i))))
+  abbrev values : List Bool
+  values = valuesOf (build (empty d) fs .wires) shares tape
+
+  abbrev a : ℕ → ℕ
+  a i = nth ops (1 + i)
+
+  abbrev Q : ℕ → Wire → Type 0
+  Q x wire = Meets (at values) shares x (wire .gate)
+
+  pub product-of : fs ≡ before ++ (frame AND ops ∷ after) → added d (output d before (inAND d)) values ≡ (added d a values && added d (λ i. nth ops (1 + d + i)) values)
   unfolding made
-  and-product fit =
-      let f : Values = at (valuesOf (build (empty d) (fs ++ (frame AND ops ∷ gs)) .wires) shares tape) in
-      let a : ℕ → ℕ = λ i. nth ops (1 + i) in
+  product-of e =
       let b : ℕ → ℕ = λ i. nth ops (1 + k .d + i) in
-      let start = stageShown (place k (nth ops (1 + k .d))) in
-      let meets = made-meets d fs (frame AND ops) gs fit shares tape in
-      and-adds (k .d) (size k) a b f shares
-      (inner-meets (k .d) (size k) a b (inAND (k .d)) c start (newStage k ops AND) f shares meets)
-      (outer-meets (k .d) (size k) a b (inAND (k .d)) c start (newStage k ops AND) f shares meets)
+      let meets = made-meets d before (frame AND ops) after e ordered shares tape in
+      rw (build-shares (empty d) before) at (and-adds (k .d) (size k) a b (at values) shares
+      (gadget-parts (k .d) (size k) a b (inAND (k .d)) c (stageShown (place k (nth ops (1 + k .d)))) (newStage k ops AND) Q meets)
+      (gadget-outputs (k .d) (size k) a b (inAND (k .d)) c (stageShown (place k (nth ops (1 + k .d)))) (newStage k ops AND) Q meets))
 
-  pub ref-sum : AllFit (empty d) (fs ++ (frame REF ops ∷ gs))
-      → let f : Values = at (valuesOf (build (empty d) (fs ++ (frame REF ops ∷ gs)) .wires) shares tape) in
-      xorSum (labels (k .d)) (λ i. f (size k + length (inREF (k .d)) + i)) ≡ xorSum (labels (k .d)) (λ i. f (nth ops (1 + i)))
+  pub refresh-of : fs ≡ before ++ (frame REF ops ∷ after) → added d (output d before (inREF d)) values ≡ added d a values
   unfolding made
-  ref-sum fit =
-      let f : Values = at (valuesOf (build (empty d) (fs ++ (frame REF ops ∷ gs)) .wires) shares tape) in
-      let a : ℕ → ℕ = λ i. nth ops (1 + i) in
-      let start = stageShown (place k (nth ops 1)) in
-      let meets = made-meets d fs (frame REF ops) gs fit shares tape in
-      ref-adds (k .d) (size k) a f shares
-      (inner-meets (k .d) (size k) a a (inREF (k .d)) S start (newStage k ops REF) f shares meets)
-      (outer-meets (k .d) (size k) a a (inREF (k .d)) S start (newStage k ops REF) f shares meets)
+  refresh-of e =
+      let meets = made-meets d before (frame REF ops) after e ordered shares tape in
+      rw (build-shares (empty d) before) at (ref-adds (k .d) (size k) a (at values) shares
+      (gadget-parts (k .d) (size k) a a (inREF (k .d)) S (stageShown (place k (nth ops 1))) (newStage k ops REF) Q meets)
+      (gadget-outputs (k .d) (size k) a a (inREF (k .d)) S (stageShown (place k (nth ops 1))) (newStage k ops REF) Q meets))

@@ -1,24 +1,22 @@
 -- REF: every probed wire, and every output with a label among the share indices behind, looks the same; no bit is flipped.
 use mathlib.Core.Path.{refl, sym, _∙_}
-use mathlib.Core.Bool.{Bool, false, true≢false}
-use mathlib.Core.List.{List, [], _∷_, map}
-use mathlib.Core.Logic.{inr}
-use Prim.Native.Nat.{ℕ, _+_, _≤_, _<_}
-use native.Mathlib.Omega.{arith}
-use lib.ListN.{length}
-use Rattle.circuit.specs.Lists.{concatMap}
-use Rattle.circuit.specs.Wires.{named, inner}
-use Rattle.circuit.specs.Gadgets.{Part, r, s, S, labels, above, others, sorted, delay, inREF}
-use Rattle.circuit.proofs.Base.{no-flip, In, in-head, in-tail, Has, every-map, AllFrom}
-use Rattle.circuit.proofs.Parts.{index-lt, Before, before-append, before-each, More, Ready, label-lt, others-pair, InREF, fresh, added, fresh1, fresh-has, ref-parts, ref-has, sorted-at}
-use Rattle.secrecy.proofs.Roles.{Role, lone, role}
-use Rattle.secrecy.proofs.Coupled.{undecided, Shift, EarlyStep}
-use Rattle.secrecy.proofs.Same.{Two, Same, settle, carry}
-use Rattle.secrecy.proofs.Sites.{Site, number, gateOf, entry, lift, Known, Good, entriesAt, out, ins, out-ins, ProbedRole, PartFact, OutFact, look, good, early-at}
+use mathlib.Core.Bool.{Bool, false}
+use mathlib.Core.List.{List}
+use Prim.Native.Nat.{ℕ, _<_}
+use Rattle.circuit.specs.Gadgets.{Part, r, s, S, others, sorted, inREF}
+use Rattle.circuit.proofs.Base.{no-flip, In, every-map, AllFrom, all-any}
+use Rattle.circuit.proofs.Parts.{others-pair, InREF, fresh, added, ref-parts, ref-has, sorted-at}
+use Rattle.secrecy.proofs.Roles.{Role, role}
+use Rattle.secrecy.proofs.Coupled.{Shift, Decided}
+use Rattle.secrecy.proofs.Same.{Two, Same, stop-same, carry}
+use Rattle.secrecy.proofs.Sites.{Site, Entry, number, Known, Good, entriesAt, out, ins, out-ins, ProbedRole, PartFact, OutFact, look, good}
 
 -- no bit is flipped
 abbrev pub still : Role → Shift
 still o f f′ = false
+
+pub still-decided : (n : ℕ) (es : List Entry) → AllFrom (λ x e. Decided x (still (e .role))) n es
+still-decided = all-any _ (λ x e f g f′ g′ h h′. refl)
 
 -- a REF of d shares, from the wire `first` on
 module _ (isProbed : ℕ → Bool) (d first : ℕ) (a : ℕ → ℕ) (start end : ℕ) (behind : List ℕ) where
@@ -37,7 +35,7 @@ module _ (isProbed : ℕ → Bool) (d first : ℕ) (a : ℕ → ℕ) (start end 
     fact {p} o = look refsite T still known p (ref-has d o)
 
     r-same : (x i j : ℕ) → Seen x (r i j) → Same T x
-    r-same x i j h = settle h (sym (h .bits .flipped refl ∙ no-flip (f x))) (λ z. absurd (true≢false z))
+    r-same x i j h = stop-same h refl (sym (h .bits .flipped refl ∙ no-flip (f x)))
 
     s-same : (x i : ℕ) → i < d → Seen x (s i) → In i (ins refsite) → Same T x
     s-same x i l h q = carry h refl refl (
@@ -55,37 +53,3 @@ module _ (isProbed : ℕ → Bool) (d first : ℕ) (a : ℕ → ℕ) (start end 
 
     pub ref-good : AllFrom (Good T isProbed behind) first (entriesAt refsite)
     ref-good = good refsite T still (InREF d) (ref-parts d) inner-same S-same known
-
-  -- every part is made behind those it uses
-  module _ (la : (i : ℕ) → i < d → a i < first) where
-    abbrev Q : List Part → Part → Type 0
-    Q = Ready (λ x p. EarlyStep x (lift still (entry (gateOf refsite p) (inner (start + delay p)) (role p)))) first (inREF d)
-
-    made1 : Before Q [] (fresh1 d)
-    made1 = before-each Q [] (labels d) (λ i. concatMap (above d i) (λ j. r i j ∷ [])) (λ i h pre k. before-each Q pre (above d i) (λ j. r i j ∷ []) (λ j h′ more k′.
-        ((λ x n g. record { low = tt; decided = undecided x }), tt)))
-
-    made2 : (is : List ℕ) (pre : List Part) → ((i : ℕ) → In i is → i < d) → More Q (fresh1 d) pre → Before Q pre (map s is)
-    made2 [] pre k up = tt
-    made2 (i ∷ is) pre k up =
-        let l = k i (in-head i is) in (
-          (λ x n g. record {
-            low = (
-              omega (arith, la i l),
-              every-map (λ y. y < x) (λ j. number refsite (sorted r i j)) (others d i)
-                  (λ j z. g (sorted r i j) (up (sorted r i j) (sorted-at (λ i j p. Has p (fresh1 d)) r d i j (others-pair d i j l z) (λ i j o l. fresh-has d i j o l) (λ x h. h)))),
-            );
-            decided = undecided x;
-          }),
-          made2 is (s i ∷ pre) (λ j z. k j (in-tail j i is z)) (λ q z. inr (up q z)),
-        )
-
-    inner-early : Before Q [] (inREF d)
-    unfolding inREF
-    inner-early = before-append Q [] (fresh1 d) (map s (labels d)) made1 (λ more f g. made2 (labels d) more (label-lt d) g)
-
-    output-early : (x i : ℕ) → first + length (inREF d) ≤ x → i < d → EarlyStep x (lift still (entry (gateOf refsite (S i)) (named i end) (lone i)))
-    output-early x i n l = record { low = (omega (arith, index-lt (inREF d) (s i) (ref-has d (added i l))), tt); decided = undecided x }
-
-    pub ref-early : AllFrom (λ x e. EarlyStep x (lift still e)) first (entriesAt refsite)
-    ref-early = early-at refsite still inner-early output-early

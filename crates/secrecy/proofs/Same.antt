@@ -1,16 +1,15 @@
 -- Wires that look the same in two evaluations: the wire's value, and the values of the stops that a probe on it reads.
-use mathlib.Core.Path.{_≡_, sym, subst, _∙_}
-use mathlib.Core.Bool.{Bool, false, cond, false≢true}
-use mathlib.Core.List.{List, [], _∷_}
+use mathlib.Core.Path.{_≡_, sym, _∙_}
+use mathlib.Core.Bool.{Bool, true, false, false≢true}
+use mathlib.Core.List.{List, []}
 use Prim.Native.Nat.{ℕ}
 use lib.Dec.{eqb}
 use borrow.Author.Tests.{eqb-true}
-use Rattle.circuit.specs.Lists.{concatMap}
 use Rattle.circuit.specs.Wires.{Gate}
 use Rattle.circuit.proofs.Base.{cases, clash, or-cases, In, in-each, Every, every-imp, every-in}
-use Rattle.semantics.specs.Values.{isRandom}
+use Rattle.semantics.specs.Values.{value, isRandom}
 use Rattle.semantics.specs.Probes.{isStop, operands, reads}
-use Rattle.secrecy.proofs.Coupled.{Values, Shift, Bits, isInput, value-same}
+use Rattle.secrecy.proofs.Coupled.{Values, Shift, Bits, value-same}
 
 -- two evaluations, and what probes read
 pub record Two : Type 0 where
@@ -35,16 +34,15 @@ pub settle : {T : Two} {g : Gate} {δ : Shift} {x : ℕ} → Fact T g δ x → T
 settle {T} {g} {δ} {x} h e ops = record {
   valued = e;
   stopped = λ s i. cases (isStop g)
-      (λ k. let i′ : In s (cond (isStop g) (x ∷ []) (concatMap (operands g) (T .stops))) = subst (In s) (h .reading) i in
-      let z : s ≡ x = or-cases (eqb s x) false (rw k at i′) (eqb-true s x) (λ q. absurd (false≢true q)) in rw z e)
-      (λ k. let i′ : In s (cond (isStop g) (x ∷ []) (concatMap (operands g) (T .stops))) = subst (In s) (h .reading) i in
-      in-each s (T .stops) (operands g) (rw k at i′) (λ y p q. (every-in (Same T) (operands g) (ops k) y p) .stopped s q));
+      (λ k. let z : s ≡ x = or-cases (eqb s x) false (rw (h .reading, k) at i) (eqb-true s x) (λ q. absurd (false≢true q)) in rw z e)
+      (λ k. in-each s (T .stops) (operands g) (rw (h .reading, k) at i) (λ y p q. (every-in (Same T) (operands g) (ops k) y p) .stopped s q));
 }
 
-plain-gate : (g : Gate) → isInput g ≡ false → isRandom g ≡ false → (T : Two) (δ : Shift) (x : ℕ) → Fact T g δ x → Every (Same T) (operands g) → T .f x ≡ T .f′ x
-plain-gate g s k T δ x h ops = h .bits .left k
-    ∙ value-same g (T .f) (T .f′) (T .sh) (T .sh′) (λ e. clash e s) (every-imp (Same T) (λ y. T .f y ≡ T .f′ y) (operands g) (λ y q. q .valued) ops) ∙ sym (h .bits .right k)
+-- a stop with the same value
+pub stop-same : {T : Two} {g : Gate} {δ : Shift} {x : ℕ} → Fact T g δ x → isStop g ≡ true → T .f x ≡ T .f′ x → Same T x
+stop-same h k e = settle h e (clash k)
 
--- a gate over wires that look the same
-pub carry : {T : Two} {g : Gate} {δ : Shift} {x : ℕ} → Fact T g δ x → isInput g ≡ false → isRandom g ≡ false → Every (Same T) (operands g) → Same T x
-carry {T} {g} {δ} {x} h s k ops = settle h (plain-gate g s k T δ x h ops) (λ e. ops)
+-- a gate that takes no share, over wires that look the same
+pub carry : {T : Two} {g : Gate} {δ : Shift} {x : ℕ} → Fact T g δ x → value g (T .f) (T .sh) [] ≡ value g (T .f) (T .sh′) [] → isRandom g ≡ false → Every (Same T) (operands g) → Same T x
+carry {T} {g} h e k ops = settle h (h .bits .left k ∙ e
+    ∙ value-same g (T .f) (T .f′) (T .sh′) [] (every-imp (Same T) (λ y. T .f y ≡ T .f′ y) (operands g) (λ y q. q .valued) ops) ∙ sym (h .bits .right k)) (λ z. ops)

@@ -1,19 +1,19 @@
 -- A gadget in its place: what its wires are known to be, and what is wanted of them.
-use mathlib.Core.Path.{_≡_, refl, sym, ap, subst, _∙_}
+use mathlib.Core.Path.{_≡_, refl, ap, _∙_}
 use mathlib.Core.Bool.{Bool, true, false}
-use mathlib.Core.List.{List, [], _++_, map}
+use mathlib.Core.List.{List, _++_, map, map-append, map-map}
 use mathlib.Core.Logic.{_⊎_}
-use Prim.Native.Nat.{ℕ, _+_, _≤_, _<_}
+use Prim.Native.Nat.{ℕ, _+_, _<_}
 use native.Mathlib.Omega.{arith}
 use lib.ListN.{length, length-map}
 use Rattle.circuit.specs.Lists.{mem}
 use Rattle.circuit.specs.Wires.{Gate, Place, named, inner, Wire, _placed_}
 use Rattle.circuit.specs.Gadgets.{Part, labels, gate, delay, index, gadget}
-use Rattle.circuit.proofs.Base.{In, Sub, Has, Every, every-of, AllFrom, all-append, all-left, all-right, all-zip, all-map, all-unmap, all-of, map-two}
-use Rattle.circuit.proofs.Parts.{index-at, label-lt, Before, Ready, ordered}
+use Rattle.circuit.proofs.Base.{In, Sub, Has, Every, AllFrom, all-append, all-left, all-right, all-zip, all-map, all-unmap, all-every}
+use Rattle.circuit.proofs.Parts.{index-at, labels-lt}
 use Rattle.secrecy.proofs.Roles.{Role, lone, pair, role}
 use Rattle.secrecy.proofs.Taken.{taken, taken-sub, taken-append, Chosen, chosen, seen, seen-all}
-use Rattle.secrecy.proofs.Coupled.{Shift, Step, EarlyStep}
+use Rattle.secrecy.proofs.Coupled.{Shift, Step}
 use Rattle.secrecy.proofs.Same.{Two, Fact, Same}
 
 -- a wire and its role
@@ -83,7 +83,7 @@ module _ (here : Site) where
 
   pub wires-at : map entryWire entriesAt ≡ gadget d first a b inside output start end
   unfolding entriesAt gadget
-  wires-at = map-two entryWire innerEntry outerEntry inside (labels d)
+  wires-at = simp (map-append, map-map)
 
   -- the share indices once the outputs are taken, and once the inner parts are taken too
   unfoldable pub out : List ℕ
@@ -94,8 +94,8 @@ module _ (here : Site) where
 
   pub ins-eq : taken isProbed behind first (map entryRole entriesAt) ≡ ins
   unfolding entriesAt ins out
-  ins-eq = ap (taken isProbed behind first) (map-two entryRole innerEntry outerEntry inside (labels d)) ∙ taken-append isProbed behind first (map role inside) (map lone (labels d))
-      ∙ ap (λ n. taken isProbed (taken isProbed behind (first + n) (map lone (labels d))) first (map role inside)) (length-map inside role)
+  ins-eq = simp (map-append, map-map) (taken-append isProbed behind first (map role inside) (map lone (labels d))
+      ∙ ap (λ n. taken isProbed (taken isProbed behind (first + n) (map lone (labels d))) first (map role inside)) (length-map inside role))
 
   pub out-ins : Sub out ins
   unfolding ins
@@ -134,8 +134,19 @@ module _ (here : Site) where
   unfolding out
   outside = all-unmap (λ x o. isProbed x ≡ true → Chosen behind out o) lone (first + length inside) (labels d) (chosen isProbed behind (first + length inside) (map lone (labels d)))
 
-  labels-lt : Every (λ i. i < d) (labels d)
-  labels-lt = every-of (λ i. i < d) (labels d) (label-lt d)
+  -- a property of the wires, of the inner parts and of the outputs
+  module _ (Q : ℕ → Entry → Type 0) where
+    pub entries-all : AllFrom (λ x p. Q x (innerEntry p)) first inside → AllFrom (λ x i. Q x (outerEntry i)) (first + length inside) (labels d) → AllFrom Q first entriesAt
+    unfolding entriesAt
+    entries-all h k = all-append Q first (map innerEntry inside) (map outerEntry (labels d)) (all-map Q innerEntry first inside h) (rw (length-map inside innerEntry) (all-map Q outerEntry _ (labels d) k))
+
+    entries-inner : AllFrom Q first entriesAt → AllFrom (λ x p. Q x (innerEntry p)) first inside
+    unfolding entriesAt
+    entries-inner h = all-unmap Q innerEntry first inside (all-left Q first (map innerEntry inside) (map outerEntry (labels d)) h)
+
+    entries-outer : AllFrom Q first entriesAt → AllFrom (λ x i. Q x (outerEntry i)) (first + length inside) (labels d)
+    unfolding entriesAt
+    entries-outer h = all-unmap Q outerEntry _ (labels d) (rw (length-map inside innerEntry) at (all-right Q first (map innerEntry inside) (map outerEntry (labels d)) h))
 
   module _ (T : Two) (δ : Role → Shift) where
     -- what is known of the wire x, that of a part or of an output
@@ -147,42 +158,20 @@ module _ (here : Site) where
 
     -- what is known of a part, at its number
     pub look : AllFrom (Known T δ) first entriesAt → (p : Part) → Has p inside → PartFact (number p) p
-    unfolding entriesAt
-    look h p k = index-at PartFact first inside p k (all-unmap (Known T δ) innerEntry first inside (all-left (Known T δ) first (map innerEntry inside) (map outerEntry (labels d)) h))
+    look h p k = index-at PartFact first inside p k (entries-inner (Known T δ) h)
 
     -- where every inner part and every output look the same if they must, so does every wire of the gadget
     pub good : (Ok : Part → Type 0) → Every Ok inside
         → ((x : ℕ) (p : Part) → Ok p → PartFact x p → ProbedRole (role p) → Same T x)
         → ((x i : ℕ) → i < d → OutFact x i → In i out → Same T x)
         → AllFrom (Known T δ) first entriesAt → AllFrom (Good T isProbed behind) first entriesAt
-    unfolding entriesAt
     good Ok ok inn outp h =
-        let K = Known T δ in
         let G = Good T isProbed behind in
-        let xs = map innerEntry inside in
-        let ys = map outerEntry (labels d) in
         let n = first + length inside in
-        let e : first + length xs ≡ n = ap (λ k. first + k) (length-map inside innerEntry) in
-        let hx = all-unmap K innerEntry first inside (all-left K first xs ys h) in
-        let hy = all-unmap K outerEntry n (labels d) (subst (λ (k : ℕ). AllFrom K k ys) e (all-right K first xs ys h)) in
-        let both = all-zip PartFact (λ x p. isProbed x ≡ true → ProbedRole (role p)) (λ x p. PartFact x p × (isProbed x ≡ true → ProbedRole (role p))) (λ x p f g. (f, g)) first inside hx told in
-        let okx = all-of (λ x p. Ok p) Ok first inside (λ x p l o. o) ok in
-        let gx = all-zip (λ x p. Ok p) (λ x p. PartFact x p × (isProbed x ≡ true → ProbedRole (role p))) (λ x p. G x (innerEntry p)) (λ x p o f. record { probed = λ q. inn x p o (f .0) (f .1 q); shown = λ l t z i. hidden z }) first inside okx both in
-        let both2 = all-zip OutFact (λ x i. isProbed x ≡ true → In i out) (λ x i. OutFact x i × (isProbed x ≡ true → In i out)) (λ x p f g. (f, g)) n (labels d) hy outside in
-        let oky = all-of (λ x i. i < d) (λ i. i < d) n (labels d) (λ x p l o. o) labels-lt in
-        let gy = all-zip (λ x i. i < d) (λ x i. OutFact x i × (isProbed x ≡ true → In i out)) (λ x i. G x (outerEntry i))
-        (λ x i o f. record { probed = λ q. outp x i o (f .0) (f .1 q); shown = λ l t z k. outp x i o (f .0) (behind-out i (let e : l ≡ i = cc in rw e at k)) }) n (labels d) oky both2 in
-        all-append G first xs ys (all-map G innerEntry first inside gx) (subst (λ (k : ℕ). AllFrom G k ys) (sym e) (all-map G outerEntry n (labels d) gy))
-
-  -- where every part is made behind those it uses, every wire of the gadget is behind those it takes
-  pub early-at : (δ : Role → Shift) → Before (Ready (λ x p. EarlyStep x (lift δ (innerEntry p))) first inside) [] inside
-      → ((x i : ℕ) → first + length inside ≤ x → i < d → EarlyStep x (lift δ (outerEntry i))) → AllFrom (λ x e. EarlyStep x (lift δ e)) first entriesAt
-  unfolding entriesAt
-  early-at δ h k =
-      let E : ℕ → Entry → Type 0 = λ x e. EarlyStep x (lift δ e) in
-      let xs = map innerEntry inside in
-      let n = first + length inside in
-      all-append E first xs (map outerEntry (labels d))
-      (all-map E innerEntry first inside (ordered (λ x p. E x (innerEntry p)) first inside h))
-      (subst (λ (q : ℕ). AllFrom E q (map outerEntry (labels d))) (ap (λ q. first + q) (sym (length-map inside innerEntry)))
-      (all-map E outerEntry n (labels d) (all-of (λ x i. E x (outerEntry i)) (λ i. i < d) n (labels d) k labels-lt)))
+        let Told : ℕ → Part → Type 0 = λ x p. isProbed x ≡ true → ProbedRole (role p) in
+        let Shown : ℕ → ℕ → Type 0 = λ x i. isProbed x ≡ true → In i out in
+        entries-all G
+        (all-every (λ x p. G x (innerEntry p)) Ok first inside (all-zip PartFact Told (λ x p. Ok p → G x (innerEntry p))
+        (λ x p f q o. record { probed = λ z. inn x p o f (q z); shown = λ l t z i. hidden z }) first inside (entries-inner (Known T δ) h) told) ok)
+        (all-every (λ x i. G x (outerEntry i)) (λ i. i < d) n (labels d) (all-zip OutFact Shown (λ x i. i < d → G x (outerEntry i))
+        (λ x i f q o. record { probed = λ z. outp x i o f (q z); shown = λ l t z k. outp x i o f (behind-out i (let e : l ≡ i = cc in rw e at k)) }) n (labels d) (entries-outer (Known T δ) h) outside) (labels-lt d))

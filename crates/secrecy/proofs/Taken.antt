@@ -1,5 +1,5 @@
 -- The probed wires, from the last to the first, take share indices by their roles: at most one each.
-use mathlib.Core.Path.{_≡_, refl, sym, ap, _∙_}
+use mathlib.Core.Path.{_≡_, refl, sym, ap, fun-ext, _∙_}
 use mathlib.Core.Bool.{Bool-discrete, Bool, true, false, cond, _&&_, _||_, false≢true}
 use mathlib.Core.List.{List, [], _∷_, _++_}
 use mathlib.Core.Logic.{_⊎_, inl, inr, ⊎-map}
@@ -132,16 +132,6 @@ module _ (isProbed : ℕ → Bool) where
       (λ b. pick-sub (isProbed n) r (taken c (suc n) rs) q (seen-both p q c (suc n) rs a b)))
 
 -- as many wires are probed as there are different numbers on the list of probes, or fewer
-count-imp : (isProbed Q : ℕ → Bool) → ((x : ℕ) → isProbed x ≡ true → Q x ≡ true) → (n : ℕ) (rs : List Role) → count isProbed n rs ≤ count Q n rs
-count-imp isProbed Q f n [] = omega arith
-count-imp isProbed Q f n (r ∷ rs) = go (isProbed n) (Q n) (f n) (count isProbed (suc n) rs) (count Q (suc n) rs) (count-imp isProbed Q f (suc n) rs)
-  where
-    go : (p q : Bool) → (p ≡ true → q ≡ true) → (x y : ℕ) → x ≤ y → cond p (suc x) x ≤ cond q (suc y) y
-    go true true i x y h = omega arith
-    go true false i x y h = absurd (false≢true (i refl))
-    go false true i x y h = omega arith
-    go false false i x y h = h
-
 count-past : (p : ℕ) (Q : ℕ → Bool) (n : ℕ) (rs : List Role) → p < n → count (λ x. eqb x p || Q x) n rs ≡ count Q n rs
 count-past p Q n [] h = refl
 count-past p Q n (r ∷ rs) h = cases (eqb n p) (λ k. let z = eqb-true n p k in absurd (omega arith)) (λ k. rw (k, count-past p Q (suc n) rs (omega arith)))
@@ -149,23 +139,19 @@ count-past p Q n (r ∷ rs) h = cases (eqb n p) (λ k. let z = eqb-true n p k in
 count-one : (p : ℕ) (Q : ℕ → Bool) (n : ℕ) (rs : List Role) → count (λ x. eqb x p || Q x) n rs ≤ suc (count Q n rs)
 count-one p Q n [] = omega arith
 count-one p Q n (r ∷ rs) = cases (eqb n p)
-    (λ k. let z = eqb-true n p k in rw (k, count-past p Q (suc n) rs (omega arith)) (go (Q n) (count Q (suc n) rs)))
-    (λ k. rw k (more (Q n) (count (λ x. eqb x p || Q x) (suc n) rs) (count Q (suc n) rs) (count-one p Q (suc n) rs)))
-  where
-    go : (q : Bool) (x : ℕ) → suc x ≤ suc (cond q (suc x) x)
-    go true x = omega arith
-    go false x = omega arith
-
-    more : (q : Bool) (x y : ℕ) → x ≤ suc y → cond q (suc x) x ≤ suc (cond q (suc y) y)
-    more true x y h = omega arith
-    more false x y h = h
+    (λ k. let z = eqb-true n p k in rw (k, count-past p Q (suc n) rs (omega arith)) (cases (Q n) (λ q. rw q (omega arith)) (λ q. rw q (omega arith))))
+    (λ k. rw k (let h = count-one p Q (suc n) rs in cases (Q n) (λ q. rw q (omega arith)) (λ q. rw q h)))
 
 count-none : (n : ℕ) (rs : List Role) → count (λ x. false) n rs ≡ 0
 count-none n [] = refl
 count-none n (r ∷ rs) = count-none (suc n) rs
 
+-- a probe that stands on the list already adds nothing
+mem-again : (p : ℕ) (ps : List ℕ) → In p ps → (x : ℕ) → mem x (p ∷ ps) ≡ mem x ps
+mem-again p ps h x = cases (eqb x p) (λ e. let z = eqb-true x p e in rw e (rw z (sym h))) (λ e. rw e)
+
 pub count-different : (ps : List ℕ) (n : ℕ) (rs : List Role) → count (λ x. mem x ps) n rs ≤ countDistinct ps
 count-different [] n rs = omega (arith, count-none n rs)
 count-different (p ∷ ps) n rs = cases (mem p ps)
-    (λ e. rw e (omega (arith, count-different ps n rs, count-imp (λ x. eqb x p || mem x ps) (λ x. mem x ps) (λ x h. or-cases (eqb x p) (mem x ps) h (λ k. rw (eqb-true x p k) e) (λ k. k)) n rs)))
+    (λ e. rw (e, fun-ext (mem-again p ps e)) (count-different ps n rs))
     (λ e. rw e (omega (arith, count-different ps n rs, count-one p (λ x. mem x ps) n rs)))

@@ -1,6 +1,6 @@
 -- Sums modulo 2, and what AND's and REF's bits add up to.
 use mathlib.Core.Path.{_≡_, refl, sym, ap, ap₂, _∙_}
-use mathlib.Core.Bool.{Bool, true, false, not, _&&_}
+use mathlib.Core.Bool.{Bool, true, false, not, _&&_, and-comm}
 use mathlib.Core.List.{List, [], _∷_, _++_, map}
 use Prim.Native.Nat.{ℕ, zero, suc, _+_, _≤_, _<_}
 use native.Mathlib.Omega.{arith}
@@ -19,13 +19,6 @@ xor-middle a b e h = xor-assoc a b (e ⊕ h) ∙ ap (λ z. a ⊕ z) (sym (xor-as
 xor-swap : (a b e : Bool) → (a ⊕ (b ⊕ e)) ≡ (b ⊕ (a ⊕ e))
 xor-swap a b e = sym (xor-assoc a b e) ∙ ap (λ z. z ⊕ e) (xor-comm a b) ∙ xor-assoc b a e
 
-xor-and : (x y a : Bool) → ((x ⊕ y) && a) ≡ ((x && a) ⊕ (y && a))
-xor-and false y a = refl
-xor-and true true true = refl
-xor-and true true false = refl
-xor-and true false true = refl
-xor-and true false false = refl
-
 pub xorSum-ext : (f g : ℕ → Bool) (xs : List ℕ) → ((i : ℕ) → In i xs → f i ≡ g i) → xorSum xs f ≡ xorSum xs g
 xorSum-ext f g [] h = refl
 xorSum-ext f g (x ∷ xs) h = ap₂ (λ p q. p ⊕ q) (h x (in-head x xs)) (xorSum-ext f g xs (λ i k. h i (in-tail i x xs k)))
@@ -43,8 +36,7 @@ xorSum-and true f xs = refl
 xorSum-and false f xs = xorSum-none xs
 
 and-total : (f : ℕ → Bool) (a : Bool) (xs : List ℕ) → xorSum xs (λ i. f i && a) ≡ (xorSum xs f && a)
-and-total f a [] = refl
-and-total f a (x ∷ xs) = ap (λ z. (f x && a) ⊕ z) (and-total f a xs) ∙ sym (xor-and (f x) (xorSum xs f) a)
+and-total f a xs = xorSum-ext _ (λ i. a && f i) xs (λ i h. and-comm (f i) a) ∙ xorSum-and a f xs ∙ and-comm a (xorSum xs f)
 
 pub xorSum-append : (f : ℕ → Bool) (xs ys : List ℕ) → xorSum (xs ++ ys) f ≡ (xorSum xs f ⊕ xorSum ys f)
 xorSum-append f [] ys = refl
@@ -74,11 +66,7 @@ xorSum-others d i f l =
     let ne : ℕ → Bool = λ j. not (eqb i j) in
     ap₂ (λ p q. p ⊕ q) (sym (xorSum-one f i 0 d (omega arith) (omega arith))) (xorSum-keep ne f (labels d))
     ∙ sym (xorSum-xor (λ j. eqb i j && f j) (λ j. ne j && f j) (labels d))
-    ∙ xorSum-ext _ f (labels d) (λ j h. split (eqb i j) (f j))
-  where
-    split : (p q : Bool) → ((p && q) ⊕ (not p && q)) ≡ q
-    split true q = no-flip q
-    split false q = refl
+    ∙ xorSum-ext (λ j. (eqb i j && f j) ⊕ (ne j && f j)) f (labels d) (λ j h. cases (eqb i j) (λ e. rw e (no-flip (f j))) (λ e. rw e))
 
 -- a symmetric sum over all i and j ≠ i is 0
 xorSum-symmetric : (t : ℕ → ℕ → Bool) → ((i : ℕ) → t i i ≡ false) → ((i j : ℕ) → t i j ≡ t j i) → (n k : ℕ) → xorSum (range n k) (λ i. xorSum (range n k) (t i)) ≡ false
@@ -108,12 +96,8 @@ module _ (d : ℕ) (t : ℕ → ℕ → Bool) (same : (i j : ℕ) → eqb i j �
     output i = (x i && y i) ⊕ (xorSum (others d i) (λ j. not (x i) && t i j) ⊕ xorSum (others d i) (λ j. x i && (y j ⊕ t i j)))
 
     gather : (p q z : Bool) → ((not p && z) ⊕ (p && (q ⊕ z))) ≡ (z ⊕ (p && q))
-    gather true true true = refl
-    gather true true false = refl
-    gather true false true = refl
-    gather true false false = refl
-    gather false q true = refl
-    gather false q false = refl
+    gather true q z = xor-comm q z
+    gather false q z = refl
 
     row : (i : ℕ) → i < d → output i ≡ (xorSum (others d i) (t i) ⊕ (x i && xorSum (labels d) y))
     row i l =

@@ -1,5 +1,5 @@
 -- In a circuit of frames that fit, every gate takes earlier wires only.
-use mathlib.Core.Path.{refl, subst, _≡_}
+use mathlib.Core.Path.{refl, subst}
 use mathlib.Core.List.{List, [], _∷_, _++_, map}
 use mathlib.Core.Logic.{inl, inr}
 use Prim.Native.Nat.{ℕ, _+_, _≤_, _<_}
@@ -8,19 +8,17 @@ use lib.ListN.{length}
 use Rattle.circuit.specs.Limits.{fewestShares}
 use Rattle.circuit.specs.Lists.{nth, concatMap}
 use Rattle.circuit.specs.Wires.{Gate, Wire}
-use Rattle.circuit.specs.Gadgets.{Part, r, R, B, m, u, U, v, V′, w, W, c, s, S, labels, above, others, sorted, gate, inAND, inREF, index, gadget}
+use Rattle.circuit.specs.Gadgets.{Part, r, R, B, m, u, v, V′, w, c, s, S, labels, above, others, sorted, gate, inAND, inREF, index, gadget}
 use Rattle.circuit.specs.Kinds.{Kind}
 use Rattle.circuit.specs.Circuit.{Circuit, size, empty, made}
 use Rattle.circuit.specs.Rules.{checked}
-use Rattle.circuit.proofs.Base.{In, in-head, in-tail, Has, has-left, Every, every-append, every-map, every-of, AllFrom, all-map, all-of}
-use Rattle.circuit.proofs.Numbered.{all-get}
-use Rattle.circuit.proofs.Parts.{index-lt, Before, before-append, before-each, More, Ready, ordered, label-lt, others-pair, InAND, is-M, is-U, is-W, and-has, cell1, cell2, cell3, sec1, sec2, sec3, has1, added, fresh1, fresh-has, ref-has, sorted-at}
+use Rattle.circuit.proofs.Base.{In, in-head, in-tail, Has, has-left, Every, every-map, AllFrom}
+use Rattle.circuit.proofs.Numbered.{all-get, at-all}
+use Rattle.circuit.proofs.Parts.{index-lt, Before, before-append, before-each, More, Ready, ordered, label-lt, others-pair, output-every, InAND, is-M, is-U, is-W, and-has, cell1, cell2, cell3, sec1, sec2, sec3, has1, added, fresh1, fresh-has, ref-has, sorted-at}
 use Rattle.circuit.specs.Composition.{Frame, Fits, fit-IN, fit-CON, fit-XOR, fit-NOT, fit-REG, fit-AND, fit-REF, fit-OUT, AllFit, build}
-use Rattle.circuit.proofs.Building.{wireAt, gadget-all, Lawful, build-all}
-use Rattle.circuit.proofs.Judging.{named-made}
+use Rattle.circuit.proofs.Building.{named-made, wireAt, gadget-all, Lawful, build-all}
 use Rattle.circuit.proofs.Exact.{Accepted}
 use Rattle.semantics.specs.Probes.{operands}
-use Rattle.semantics.proofs.Randoms.{randomsIn, build-randoms}
 
 -- the gate of wire x takes wires before x
 abbrev pub OperandsBefore : ℕ → Gate → Type 0
@@ -74,16 +72,10 @@ module _ (d first : ℕ) (a b : ℕ → ℕ) (la : (i : ℕ) → i < d → a i <
   low {p} x n o = omega (arith, index-lt (inAND d) p (and-has d o))
 
   and-output : (x i : ℕ) → first + length (inAND d) ≤ x → i < d → OperandsBefore x (gate d a b wireA (c i))
-  and-output x i n l =
-      let L : ℕ → Type 0 = λ y. y < x in (
-        low x n (is-M i l),
-        every-append L (map (λ j. wireA (U i j)) (others d i)) (map (λ j. wireA (W i j)) (others d i))
-            (every-map L (λ j. wireA (U i j)) (others d i) (λ j z. low x n (is-U i j (others-pair d i j l z))))
-            (every-map L (λ j. wireA (W i j)) (others d i) (λ j z. low x n (is-W i j (others-pair d i j l z)))),
-      )
+  and-output x i n l = output-every (λ y. y < x) wireA l (low x n (is-M i l)) (λ j o. low x n (is-U i j o)) (λ j o. low x n (is-W i j o))
 
   pub and-early : AllFrom (λ x wire. OperandsBefore x (wire .gate)) first (gadget d first a b (inAND d) c start end)
-  and-early = gadget-all (λ x wire. OperandsBefore x (wire .gate)) d first a b (inAND d) c start end
+  and-early = gadget-all d first a b (inAND d) c start end (λ x wire. OperandsBefore x (wire .gate))
       (ordered (λ x p. OperandsBefore x (gate d a b wireA p)) first (inAND d) and-inner) and-output
 
   -- REF
@@ -114,7 +106,7 @@ module _ (d first : ℕ) (a b : ℕ → ℕ) (la : (i : ℕ) → i < d → a i <
   ref-inner = before-append QR [] (fresh1 d) (map s (labels d)) drawn (λ more f g. sums (labels d) more (label-lt d) g)
 
   pub ref-early : AllFrom (λ x wire. OperandsBefore x (wire .gate)) first (gadget d first a b (inREF d) S start end)
-  ref-early = gadget-all (λ x wire. OperandsBefore x (wire .gate)) d first a b (inREF d) S start end
+  ref-early = gadget-all d first a b (inREF d) S start end (λ x wire. OperandsBefore x (wire .gate))
       (ordered (λ x p. OperandsBefore x (gate d a b wireR p)) first (inREF d) ref-inner)
       (λ x i n l. (omega (arith, index-lt (inREF d) (s i) (ref-has d (added i l))), tt))
 
@@ -124,8 +116,7 @@ EarlyIn k x wire = OperandsBefore x (wire .gate)
 
 pub early-new : (k : Circuit) (ops : List ℕ) (kind : Kind) → Fits k kind ops → AllFrom (λ x wire. OperandsBefore x (wire .gate)) (size k) (made k ops kind)
 unfolding made
-early-new k _ _ (fit-IN t o) = all-map (EarlyIn k) _ (size k) (labels (k .d))
-    (all-of _ (λ i. i < k .d) (size k) (labels (k .d)) (λ n i l q. tt) (every-of (λ i. i < k .d) (labels (k .d)) (label-lt (k .d))))
+early-new k _ _ (fit-IN t o) = at-all (EarlyIn k) _ (size k) 0 (k .d) (λ i l. tt)
 early-new k _ _ (fit-CON l b t o p q) = (tt, tt)
 early-new k _ _ (fit-XOR x y l t p q) = ((named-made k x l t p, (named-made k y l t q, tt)), tt)
 early-new k _ _ (fit-NOT x l t p) = ((named-made k x l t p, tt), tt)
@@ -152,7 +143,3 @@ accepted-early a = rw (a .circuit-is) (build-early (a .d) (a .fs) (a .least) (a 
 pub accepted-earlier : {table : List ℕ} {room : ℕ} → Accepted table room
     → (n : ℕ) → n < size (checked table room .circuit) → OperandsBefore n (wireAt (checked table room .circuit) n .gate)
 accepted-earlier a = rw (a .circuit-is) (earlier (a .d) (a .fs) (a .least) (a .fit))
-
--- an accepted circuit has as many random gates as it counts
-pub accepted-randoms : {table : List ℕ} {room : ℕ} → Accepted table room → randomsIn (checked table room .circuit .wires) ≡ checked table room .circuit .randoms
-accepted-randoms a = rw (a .circuit-is) (build-randoms (empty (a .d)) (a .fs) refl)

@@ -2,6 +2,7 @@
 pub mod StarredCases
 pub mod Values
 pub mod Randoms
+pub mod Stops
 pub mod Earlier
 pub mod Stages
 pub mod Reading

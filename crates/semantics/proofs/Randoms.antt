@@ -1,7 +1,7 @@
 -- How many random bits each kind takes: the numbers of document 01's table.
 use mathlib.Core.Path.{_≡_, refl, ap, ap₂, _∙_}
 use mathlib.Core.Bool.{false, cond}
-use mathlib.Core.List.{List, [], _∷_, _++_, map}
+use mathlib.Core.List.{List, [], _∷_, _++_, map, map-append}
 use Prim.Native.Nat.{ℕ, suc, _+_}
 use native.Mathlib.Omega.{arith}
 use Rattle.circuit.specs.Wires.{Gate, Wire, named, inner, _placed_}
@@ -21,10 +21,6 @@ randomsIn (x ∷ xs) = cond (isRandom (x .gate)) (suc (randomsIn xs)) (randomsIn
 pub randoms-append : (xs ys : List Wire) → randomsIn (xs ++ ys) ≡ randomsIn xs + randomsIn ys
 randoms-append [] ys = omega arith
 randoms-append (x ∷ xs) ys = cases (isRandom (x .gate)) (λ e. rw e (omega (arith, randoms-append xs ys))) (λ e. rw e (randoms-append xs ys))
-
-map-append : {A B : Type 0} (f : A → B) (xs ys : List A) → map f (xs ++ ys) ≡ map f xs ++ map f ys
-map-append f [] ys = refl
-map-append f (x ∷ xs) ys = ap (λ l. f x ∷ l) (map-append f xs ys)
 
 -- wires none of which is random
 dry : {A : Type 0} (f : A → Wire) → ((i : A) → isRandom (f i .gate) ≡ false) → (is : List A) → randomsIn (map f is) ≡ 0

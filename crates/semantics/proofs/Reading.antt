@@ -5,8 +5,7 @@ use mathlib.Core.List.{List, [], _∷_, _++_, map}
 use Prim.Native.Nat.{ℕ, zero, suc, _+_, _≤_, _<_}
 use native.Mathlib.Omega.{arith}
 use lib.Dec.{eqb}
-use lib.ListN.{length, getD, replicate, length-append, List·getD-append}
-use lib.Seq.{getD-append-seam}
+use lib.ListN.{length, getD, replicate, length-append}
 use borrow.Author.Tests.{eqb-true}
 use Rattle.circuit.specs.Limits.{wireLimit, fewestShares}
 use Rattle.circuit.specs.Lists.{nth, mem, range, concatMap}
@@ -14,13 +13,15 @@ use Rattle.circuit.specs.Wires.{Gate, constant, sum, inner, Wire, _placed_}
 use Rattle.circuit.specs.Gadgets.{Part, M, U, W, c, others, gate, inAND, index}
 use Rattle.circuit.specs.Kinds.{AND}
 use Rattle.circuit.specs.Circuit.{Circuit, size, empty, made, extend}
-use Rattle.circuit.proofs.Base.{cases, or-cases, or-left, In, in-tail, in-append, in-each, Sub, Every, every-append, every-map, every-imp, AllFrom, all-append}
-use Rattle.circuit.proofs.Parts.{index-lt, others-pair, InAND, is-M, is-U, is-W, and-has}
+use Rattle.circuit.proofs.Base.{cases, or-cases, or-left, In, in-tail, in-append, in-each, Sub, Every, AllFrom, all-append}
+use Rattle.circuit.proofs.Numbered.{all-get}
+use Rattle.circuit.proofs.Parts.{index-lt, output-every, InAND, is-M, is-U, is-W, and-has}
 use Rattle.circuit.proofs.Sizes.{gadget-size}
 use Rattle.circuit.specs.Composition.{Frame, Fits, AllFit, next, build}
 use Rattle.circuit.proofs.Building.{Lawful, build-more, build-append, build-shares, fit-split, part-at, output-at}
 use Rattle.semantics.specs.Values.{at, byte, valuesOf}
 use Rattle.semantics.specs.Probes.{isStop, operands, reads, readBy, stopsFrom, stops, sheet, readingOf}
+use Rattle.semantics.proofs.Stops.{found-kept, stops-append, stops-length, stops-settled}
 use Rattle.semantics.proofs.Earlier.{OperandsBefore, EarlyIn, early-new, build-early}
 
 -- two tests that pass together
@@ -50,54 +51,9 @@ mem-twice s xs = same-test _ _ (λ h. in-append s xs (xs ++ []) h (λ z. z) (λ 
 abbrev pub probe : List Wire → ℕ → List ℕ
 probe ws n = readBy (stopsFrom [] ws) n
 
--- what is found is kept
-found-kept : (found : List (List ℕ)) (ws : List Wire) (y : ℕ) → y < length found → readBy (stopsFrom found ws) y ≡ readBy found y
-found-kept found [] y l = refl
-found-kept found (x ∷ ws) y l =
-    let r = reads (length found) (x .gate) (readBy found) in
-    found-kept (found ++ (r ∷ [])) ws y (omega (arith, length-append found (r ∷ []))) ∙ List·getD-append found (r ∷ []) [] y l
-
-stops-append : (found : List (List ℕ)) (ws more : List Wire) → stopsFrom found (ws ++ more) ≡ stopsFrom (stopsFrom found ws) more
-stops-append found [] more = refl
-stops-append found (x ∷ ws) more = stops-append (found ++ (reads (length found) (x .gate) (readBy found) ∷ [])) ws more
-
-stops-length : (found : List (List ℕ)) (ws : List Wire) → length (stopsFrom found ws) ≡ length found + length ws
-stops-length found [] = omega arith
-stops-length found (x ∷ ws) =
-    let r = reads (length found) (x .gate) (readBy found) in
-    omega (arith, stops-length (found ++ (r ∷ [])) ws, length-append found (r ∷ []))
-
 -- later wires change nothing
 pub probe-kept : (ws more : List Wire) (n : ℕ) → n < length ws → probe (ws ++ more) n ≡ probe ws n
 probe-kept ws more n l = ap (λ found. readBy found n) (stops-append [] ws more) ∙ found-kept (stopsFrom [] ws) more n (omega (arith, stops-length [] ws))
-
--- a gate's reading depends on the readings of its operands alone
-concatMap-same : (f g : ℕ → List ℕ) (xs : List ℕ) → Every (λ y. f y ≡ g y) xs → concatMap xs f ≡ concatMap xs g
-concatMap-same f g [] h = refl
-concatMap-same f g (x ∷ xs) h = ap₂ (λ a b. a ++ b) (h .0) (concatMap-same f g xs (h .1))
-
-reads-same : (n : ℕ) (g : Gate) (f f′ : ℕ → List ℕ) → Every (λ y. f y ≡ f′ y) (operands g) → reads n g f ≡ reads n g f′
-reads-same n g f f′ h = ap (λ l. cond (isStop g) (n ∷ []) l) (concatMap-same f f′ (operands g) h)
-
--- the reading of each wire, from the readings of earlier wires
-module _ (z : Wire) where
-  read-from : (found : List (List ℕ)) (ws : List Wire) → AllFrom (λ x wire. OperandsBefore x (wire .gate)) (length found) ws → (i : ℕ) → i < length ws
-      → readBy (stopsFrom found ws) (length found + i) ≡ reads (length found + i) (getD ws i z .gate) (readBy (stopsFrom found ws))
-  read-from found [] h i l = absurd (omega arith)
-  read-from found (x ∷ ws) h zero l =
-      let r = reads (length found) (x .gate) (readBy found) in
-      let all = stopsFrom (found ++ (r ∷ [])) ws in
-      let one = length-append found (r ∷ []) in
-      subst (λ (n : ℕ). readBy all n ≡ reads n (x .gate) (readBy all)) (omega arith)
-      (found-kept (found ++ (r ∷ [])) ws (length found) (omega arith) ∙ getD-append-seam found r [] []
-      ∙ reads-same (length found) (x .gate) (readBy found) (readBy all)
-      (every-imp (λ y. y < length found) _ (operands (x .gate)) (λ y l. sym (found-kept found (x ∷ ws) y l)) (h .0)))
-  read-from found (x ∷ ws) h (suc i) l =
-      let r = reads (length found) (x .gate) (readBy found) in
-      let all = stopsFrom (found ++ (r ∷ [])) ws in
-      let one = length-append found (r ∷ []) in
-      subst (λ (n : ℕ). readBy all n ≡ reads n (getD ws i z .gate) (readBy all)) (omega arith)
-      (read-from (found ++ (r ∷ [])) ws (subst (λ (n : ℕ). AllFrom (λ x wire. OperandsBefore x (wire .gate)) n ws) (omega arith) (h .1)) i (omega arith))
 
 -- wires whose gates take earlier wires only
 module _ (ws : List Wire) (early : AllFrom (λ x wire. OperandsBefore x (wire .gate)) 0 ws) (z : Wire) where
@@ -105,7 +61,8 @@ module _ (ws : List Wire) (early : AllFrom (λ x wire. OperandsBefore x (wire .g
   gateAt n = getD ws n z .gate
 
   pub probe-reads : (n : ℕ) → n < length ws → probe ws n ≡ reads n (gateAt n) (probe ws)
-  probe-reads n l = subst (λ (m : ℕ). probe ws m ≡ reads m (gateAt n) (probe ws)) (omega arith) (read-from z [] ws early n l)
+  probe-reads n l = subst (λ (m : ℕ). probe ws m ≡ reads m (gateAt n) (probe ws)) (omega arith)
+      (all-get (λ x wire. probe ws x ≡ reads x (wire .gate) (probe ws)) 0 ws z (stops-settled [] ws early) n l)
 
   -- a probe on a stop reads that wire alone
   pub stop-reads : (n : ℕ) → n < length ws → isStop (gateAt n) ≡ true → probe ws n ≡ n ∷ []
@@ -167,16 +124,11 @@ module _ (k : Circuit) (ops : List ℕ) (early : Lawful EarlyIn k) (fits : Fits 
 
   and-reads : (i : ℕ) → i < d → probe behind (size k + length (inAND d) + i) ≡ outputStops d (size k) i
   and-reads i l =
-      let Q : ℕ → Type 0 = λ y. probe behind y ≡ y ∷ [] in
       let e = output-gate i l in
       gate-reads behind early-behind nothing (size k + length (inAND d) + i) (omega (arith, behind-size)) (ap isStop e)
       ∙ ap (λ g. concatMap (operands g) (probe behind)) e
-      ∙ selves (probe behind) (outputStops d (size k) i) (
-        register-reads (is-M i l) refl,
-        every-append Q (map (λ j. wire (U i j)) (others d i)) (map (λ j. wire (W i j)) (others d i))
-            (every-map Q (λ j. wire (U i j)) (others d i) (λ j z. register-reads (is-U i j (others-pair d i j l z)) refl))
-            (every-map Q (λ j. wire (W i j)) (others d i) (λ j z. register-reads (is-W i j (others-pair d i j l z)) refl)),
-      )
+      ∙ selves (probe behind) (outputStops d (size k) i) (output-every (λ y. probe behind y ≡ y ∷ []) wire l
+      (register-reads (is-M i l) refl) (λ j o. register-reads (is-U i j o) refl) (λ j o. register-reads (is-W i j o) refl))
 
   -- whatever frames come after it
   later-reads : (fs : List Frame) (i : ℕ) → i < d → probe (build (extend k ops AND) fs .wires) (size k + length (inAND d) + i) ≡ outputStops d (size k) i

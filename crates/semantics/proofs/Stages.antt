@@ -1,22 +1,21 @@
 -- In a circuit of frames that fit, a register stands one stage after its operand, and every other gate at each of its operands' stage.
 use mathlib.Core.Path.{_≡_, refl, sym, ap, _∙_}
 use mathlib.Core.Bool.{false}
-use mathlib.Core.List.{List, [], _∷_, map}
+use mathlib.Core.List.{List, [], _∷_}
 use Prim.Native.Nat.{ℕ, suc, _+_, _≤_, _<_}
 use native.Mathlib.Omega.{arith}
 use Rattle.circuit.specs.Limits.{fewestShares}
 use Rattle.circuit.specs.Lists.{nth}
 use Rattle.circuit.specs.Wires.{Gate, input, constant, random, reg, inverse, sum, product, andNot, named, inner, Wire, _placed_}
-use Rattle.circuit.specs.Gadgets.{Part, r, R, U, W, c, s, S, labels, others, sorted, gate, delay, inAND, inREF, index}
+use Rattle.circuit.specs.Gadgets.{Part, r, R, c, s, S, others, sorted, gate, delay, inAND, inREF, index}
 use Rattle.circuit.specs.Kinds.{Kind, AND, REF}
 use Rattle.circuit.specs.Circuit.{Circuit, size, empty, place, stageShown, stageOf, newStage, made, extend}
 use Rattle.circuit.specs.Rules.{checked}
-use Rattle.circuit.proofs.Base.{Every, every-append, every-map, every-imp, every-of, AllFrom, all-map, all-of, all-imp, all-zip}
-use Rattle.circuit.proofs.Numbered.{all-get}
-use Rattle.circuit.proofs.Parts.{label-lt, others-pair, InAND, is-r, is-R, is-B, is-m, is-M, is-u, is-U, is-v, is-V, is-w, is-W, and-parts, and-has, InREF, fresh, added, ref-parts, ref-has, sorted-at}
+use Rattle.circuit.proofs.Base.{Every, every-map, every-imp, AllFrom, all-of, all-imp, all-zip}
+use Rattle.circuit.proofs.Numbered.{all-get, at-all}
+use Rattle.circuit.proofs.Parts.{others-pair, output-every, InAND, is-r, is-R, is-B, is-m, is-M, is-u, is-U, is-v, is-V, is-w, is-W, and-parts, and-has, InREF, fresh, added, ref-parts, ref-has, sorted-at}
 use Rattle.circuit.specs.Composition.{Frame, Fits, fit-IN, fit-CON, fit-XOR, fit-NOT, fit-REG, fit-AND, fit-REF, fit-OUT, AllFit, build}
-use Rattle.circuit.proofs.Building.{wireAt, gadget-all, part-at, place-old, row-first, Lawful, build-all}
-use Rattle.circuit.proofs.Judging.{named-made}
+use Rattle.circuit.proofs.Building.{named-made, wireAt, gadget-all, part-at, place-old, row-first, Lawful, build-all}
 use Rattle.circuit.proofs.Exact.{Accepted}
 use Rattle.semantics.specs.Probes.{operands}
 use Rattle.semantics.proofs.Earlier.{OperandsBefore, early-new}
@@ -61,13 +60,8 @@ module _ (d : ℕ) (a b : ℕ → ℕ) (wire : Part → ℕ) (stage : ℕ → �
     and-inner (is-W i j o) = (omega (arith, known _ (is-w i j o)), tt)
 
     and-output : (end i : ℕ) → end ≡ start + 2 → i < d → Follows stage end (gate d a b wire (c i))
-    and-output end i e l =
-        let Q : ℕ → Type 0 = λ y. end ≡ 0 + stage y in (
-          omega (arith, known _ (is-M i l)),
-          every-append Q (map (λ j. wire (U i j)) (others d i)) (map (λ j. wire (W i j)) (others d i))
-              (every-map Q (λ j. wire (U i j)) (others d i) (λ j z. omega (arith, known _ (is-U i j (others-pair d i j l z)))))
-              (every-map Q (λ j. wire (W i j)) (others d i) (λ j z. omega (arith, known _ (is-W i j (others-pair d i j l z))))),
-        )
+    and-output end i e l = output-every (λ y. end ≡ 0 + stage y) wire l (omega (arith, known _ (is-M i l)))
+        (λ j o. omega (arith, known _ (is-U i j o))) (λ j o. omega (arith, known _ (is-W i j o)))
 
   -- REF: its wires stand at `start`
   module _ (sa : (i : ℕ) → i < d → stage (a i) ≡ start) (known : (p : Part) → InREF d p → stage (wire p) ≡ start + delay p) where
@@ -95,8 +89,7 @@ old-stage k ops kind x l t h = ap stageOf (place-old k ops kind x (named-made k 
 
 follows-new : (k : Circuit) (ops : List ℕ) (kind : Kind) → fewestShares ≤ k .d → Fits k kind ops → AllFrom (FollowsIn (extend k ops kind)) (size k) (made k ops kind)
 unfolding made newStage
-follows-new k ops kind ge (fit-IN t o) = all-map (FollowsIn (extend k ops kind)) _ (size k) (labels (k .d))
-    (all-of _ (λ i. i < k .d) (size k) (labels (k .d)) (λ n i l q. tt) (every-of (λ i. i < k .d) (labels (k .d)) (label-lt (k .d))))
+follows-new k ops kind ge (fit-IN t o) = at-all (FollowsIn (extend k ops kind)) _ (size k) 0 (k .d) (λ i l. tt)
 follows-new k ops kind ge (fit-CON l b t o p q) = (tt, tt)
 follows-new k ops kind ge (fit-XOR x y l t p q) =
     let s = ap stageShown p in ((omega (arith, old-stage k ops kind x l t p), (omega (arith, old-stage k ops kind y l t q), tt)), tt)
@@ -114,7 +107,7 @@ follows-new k _ _ ge (fit-AND ops t len first p q o) =
     let sb : (i : ℕ) → i < k .d → stage (b i) ≡ start = λ i l. omega (arith, old-stage k ops AND (b i) i t (q i l)) in
     let known : (z : Part) → InAND (k .d) z → stage (wire z) ≡ start + delay z = λ z i.
     ap (λ x. stageOf (x .place)) (part-at (k .wires) (k .d) a b (inAND (k .d)) c start end (constant false placed inner 0) z (and-has (k .d) i)) in
-    gadget-all (FollowsIn (extend k ops AND)) (k .d) (size k) a b (inAND (k .d)) c start end
+    gadget-all (k .d) (size k) a b (inAND (k .d)) c start end (FollowsIn (extend k ops AND))
     (all-of _ (InAND (k .d)) (size k) (inAND (k .d)) (λ x z l i. and-inner (k .d) a b wire stage start sa sb known i) (and-parts (k .d)))
     (λ x i n l. and-output (k .d) a b wire stage start sa sb known end i (omega (arith, row-first k ops 1 (suc t) ge p)) l)
 follows-new k _ _ ge (fit-REF ops t len first p o) =
@@ -126,7 +119,7 @@ follows-new k _ _ ge (fit-REF ops t len first p o) =
     let sa : (i : ℕ) → i < k .d → stage (a i) ≡ start = λ i l. omega (arith, old-stage k ops REF (a i) i t (p i l)) in
     let known : (z : Part) → InREF (k .d) z → stage (wire z) ≡ start + delay z = λ z i.
     ap (λ x. stageOf (x .place)) (part-at (k .wires) (k .d) a a (inREF (k .d)) S start (suc start) (constant false placed inner 0) z (ref-has (k .d) i)) in
-    gadget-all (FollowsIn (extend k ops REF)) (k .d) (size k) a a (inREF (k .d)) S start (suc start)
+    gadget-all (k .d) (size k) a a (inREF (k .d)) S start (suc start) (FollowsIn (extend k ops REF))
     (all-of _ (InREF (k .d)) (size k) (inREF (k .d)) (λ x z l i. ref-inner (k .d) a a wire stage start sa known i) (ref-parts (k .d)))
     (λ x i n l. ref-output (k .d) a a wire stage start sa known (suc start) i refl l)
 follows-new k _ _ ge (fit-OUT ops t len p) = tt

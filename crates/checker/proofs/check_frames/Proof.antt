@@ -14,7 +14,7 @@ use Rattle.frames.specs.Walk.{stepAt}
 use Rattle.checker.specs.declared.forms.Spot.{Spot}
 use Rattle.checker.specs.declared.frame.Tally.{Tally}
 use Rattle.checker.specs.declared.Verdict.the-variants.{Refused}
-use Rattle.checker.proofs.Checking.{Walking, headed, start, step-refused}
+use Rattle.checker.proofs.Checking.{Walking, headed, start, met as at-step}
 use Rattle.checker.proofs.Placing.{refused-rule}
 use Rattle.checker.proofs.Ways.{Promised, refused-by, Loop, goes, ended, refused-end, accepted-end, way-end, way-refused, frame-of, broken-kept, way-broken, turn, less-left, bounded, same-length as kept}
 use Rattle.checker.proofs.check_frames.Statement.{statement}
@@ -64,7 +64,7 @@ loop-again-2 c =
     let s = c .before .before .before in
     let w = walking s in
     let e = sym (c .before .step2 .given .1) ∙ s .step .ensures in
-    stopped _ (kept w) (step-refused (table s) _ _ _ e .1) (way-refused w _ e)
+    stopped _ (kept w) (at-step (table s) _ _ e .1) (way-refused w _ e)
 
 loop-less-3 : tie.Need-loop-less-3 Inv-loop μ-loop
 loop-less-3 c =

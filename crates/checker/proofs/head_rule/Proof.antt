@@ -1,4 +1,4 @@
--- `checker::head_rule` meets its contract.
+-- The tests in the order of rules 1 to 4: each way out has passed those before it.
 use borrow.Author.Needs.{needs}
 use borrow.Author.Tests.{le-leb, lt-leb, eq-eqb, ne-eqb}
 use Rattle.checker.proofs.head_rule.Statement.{statement}

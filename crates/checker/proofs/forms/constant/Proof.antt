@@ -1,6 +1,5 @@
 -- Rule 7 of the label, the value and the stage, in their order; behind them the wire is put.
 use mathlib.Core.Path.{refl}
-use native.Mathlib.Omega.{arith}
 use borrow.Author.Needs.{needs}
 use borrow.Author.Tests.{lt-ltb, le-ltb, le-leb, lt-leb}
 use Rattle.checker.proofs.forms.constant.Statement.{statement}

@@ -1,9 +1,6 @@
 -- By what the look-up finds; a named wire is like itself.
-use mathlib.Core.Path.{_≡_, refl, sym, _∙_}
-use native.Mathlib.Omega.{arith}
+use mathlib.Core.Path.{refl}
 use borrow.Author.Needs.{needs}
-use Rattle.checker.specs.declared.notes.Found.the-variants.{Named}
-use Rattle.checker.specs.Internal.Notes.{noted}
 use Rattle.checker.proofs.Lookups.{like-self}
 use Rattle.checker.proofs.forms.copy.Statement.{statement}
 use Rattle.checker.proofs.forms.copy.Tie as tie

@@ -1,13 +1,12 @@
 -- The first random, then the rows a and b, each told once by the stage of a's first wire; where they name no rule the wires
 -- are put.
 use mathlib.Core.Path.{_≡_, refl, sym, ap, _∙_}
-use Prim.Native.Nat.{ℕ, _+_, _-_}
+use Prim.Native.Nat.{_+_, _-_}
 use native.Mathlib.Omega.{arith}
 use lib.ListN.{length, take, drop, length-drop}
 use lib.Seq.{take-all, drop-drop}
 use borrow.Author.Needs.{needs}
 use borrow.Author.Tests.{eq-eqb, ne-eqb}
-use Rattle.checker.specs.declared.forms.Spot.{Spot}
 use Rattle.checker.specs.Internal.Notes.{noted}
 use Rattle.checker.specs.Internal.Adding.{rowBroken}
 use Rattle.checker.proofs.Judged.{refused, passed, refused-first, passed-first}

@@ -1,5 +1,4 @@
 -- The row's spot, and where it names no rule the stage put.
-use mathlib.Core.Path.{sym, ap, _∙_}
 use borrow.Author.Needs.{needs}
 use Rattle.checker.proofs.Judged.{refused, passed}
 use Rattle.checker.proofs.forms.row.Statement.{statement}

@@ -1,6 +1,5 @@
 -- A stage past the last is rule 7; behind that the wires are put.
 use mathlib.Core.Path.{refl}
-use native.Mathlib.Omega.{arith}
 use borrow.Author.Needs.{needs}
 use borrow.Author.Tests.{le-leb, lt-leb}
 use Rattle.checker.proofs.forms.stage.Statement.{statement}

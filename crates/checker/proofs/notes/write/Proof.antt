@@ -1,4 +1,4 @@
--- `checker::notes::write` meets its contract.
+-- The words of the inner wires, then those of the named ones behind them, are the words of all.
 use mathlib.Core.Path.{ap, _∙_}
 use Prim.Native.Nat.{_+_, _*_}
 use lib.Seq.{sets}

@@ -1,4 +1,4 @@
--- `checker::notes::write_inner` meets its contract.
+-- The loop's invariant: the words still to write, written from i on, give what all words written from the start give.
 use mathlib.Core.Path.{_≡_, sym, ap, _∙_}
 use Prim.Native.Nat.{_+_, _*_, _-_, _≤_}
 use native.Mathlib.Omega.{arith}
@@ -20,11 +20,8 @@ abbrev μ-loop : tie.MeasureT-loop
 
 loop-holds : tie.Need-loop-holds Inv-loop μ-loop
 loop-holds c =
-    let n = c .args .notes .now in
-    let from = c .args .from in
-    let count = c .args .count in
-    let e : 2 * count ≡ 2 * from + 2 * count - 2 * from = omega arith in
-    (search needs, search needs, search needs, search needs, ap (sets n (2 * from)) (inner-marks count ∙ ap marks e))
+    let e : 2 * c .args .count ≡ 2 * c .args .from + 2 * c .args .count - 2 * c .args .from = omega arith in
+    (search needs, search needs, search needs, search needs, ap (sets (c .args .notes .now) (2 * c .args .from)) (inner-marks (c .args .count) ∙ ap marks e))
 
 loop-again : tie.Need-loop-again Inv-loop μ-loop
 loop-again c = (
