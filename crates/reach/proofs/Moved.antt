@@ -1,7 +1,7 @@
 -- Marks moved on, wire by wire from the last to the first.
 use mathlib.Core.Path.{_≡_, refl, sym, ap, ap₂, subst, subst₂, _∙_}
 use mathlib.Core.Bool.{Bool, true, false, cond, false≢true}
-use mathlib.Core.List.{List, [], _∷_, _++_, map}
+use mathlib.Core.List.{List, [], _∷_, _++_, map, map-append}
 use Prim.Native.Nat.{ℕ, zero, suc, _+_, _-_, _*_, _≤_, _<_}
 use native.Mathlib.Omega.{arith}
 use lib.Dec.{ltb, eqb}
@@ -17,7 +17,7 @@ use Rattle.semantics.specs.Probes.{isStop, operands}
 use Rattle.gadgets.specs.Internal.Places.{slotOf, crossStart, pairAt, crossAt, productAt, outAt, maskAt, sumAt, heldAt}
 use Rattle.gadgets.specs.Internal.Gates.{gateAt, ProductGates, CrossGates, CrossRowGates, CrossAllGates, ProductsGates, OutGates, AndGates, RefGates}
 use Rattle.gadgets.proofs.Bits.{set-low}
-use Rattle.gadgets.proofs.Ranges.{others-is, others-split, map-append}
+use Rattle.gadgets.proofs.Ranges.{others-is, others-split}
 use Rattle.gadgets.proofs.Slots.{slot-low, slot-high, slot-next, slots-up, row-ends, row-room}
 use Rattle.reach.specs.Internal.Marks.{markAll, propagated, sixApart, outWires, Moving, Moves}
 use Rattle.reach.proofs.Reaching.{moving-gate, moving-stop}
