@@ -1,6 +1,6 @@
 -- The loop's invariant: the random bits of the share i and each below j are added.
 use mathlib.Core.Path.{_≡_}
-use Prim.Native.Nat.{_+_, _-_, _<_}
+use Prim.Native.Nat.{_-_, _<_}
 use native.Mathlib.Omega.{arith}
 use borrow.Author.Needs.{needs}
 use Rattle.simulation.proofs.gadget.add_masks.Statement.{statement}
