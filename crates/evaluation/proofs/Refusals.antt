@@ -3,6 +3,7 @@ use mathlib.Core.Path.{_≡_, refl, sym, ap, _∙_}
 use mathlib.Core.Bool.{cond}
 use mathlib.Core.List.{List, [], _∷_}
 use Prim.Native.Nat.{ℕ, suc, _+_, _≤_, _<_}
+use native.Mathlib.Nat.{add-zero}
 use native.Mathlib.Omega.{arith}
 use lib.ListN.{length, drop, drop-of-length-le}
 use borrow.Author.Tests.{lt-ltb, le-ltb, le-leb, lt-leb}
@@ -18,12 +19,12 @@ abbrev pub Passed : (ℕ → List ℕ → Judgement) → List ℕ → ℕ → Ty
 Passed rule xs i = (n : ℕ) → rule n xs ≡ rule (n + i) (drop i xs)
 
 pub passed-start : (rule : ℕ → List ℕ → Judgement) (xs : List ℕ) → Passed rule xs 0
-passed-start rule xs n = let e : n ≡ n + 0 = omega arith in ap (λ m. rule m xs) e
+passed-start rule xs n = simp add-zero
 
 onward : (rule : ℕ → List ℕ → Judgement) (xs : List ℕ) (i : ℕ) → Passed rule xs i → i < length xs → ((n : ℕ) → rule n (nth xs i ∷ drop (i + 1) xs) ≡ rule (suc n) (drop (i + 1) xs)) → Passed rule xs (i + 1)
 onward rule xs i h l f n =
-    let e : suc (n + i) ≡ n + (i + 1) = omega arith in
-    h n ∙ ap (rule (n + i)) (drop-turn xs i l) ∙ f (n + i) ∙ ap (λ m. rule m (drop (i + 1) xs)) e
+    let e : n + (i + 1) ≡ suc (n + i) = omega arith in
+    rw (e, h n, drop-turn xs i l) (f (n + i))
 
 pub byte-turn : (xs : List ℕ) (i : ℕ) → Passed bytesRule xs i → i < length xs → nth xs i ≤ 1 → Passed bytesRule xs (i + 1)
 unfolding bytesRule
