@@ -33,18 +33,9 @@ propagate-cross-requires : tie.Need-propagate-cross-requires Inv-loop μ-loop
 propagate-cross-requires c κs =
     let t = c .before .before .before .before in
     let p = start t .pre in
-    omega (
-      arith,
-      site t,
-      p .3,
-      p .7 (start t .args .i) (p .1),
-      p .8 (t .before .loop .j - 1) (below t),
-      t .before .loop .inv .2 .size,
-      t .before .before .word-a .ensures,
-      c .before .before .before .word-b .ensures,
-      c .before .before .pair-at .ensures .0,
-      c .cross-at .ensures .0,
-    )
+    let one = p .7 (start t .args .i) (p .1) in
+    let two = p .8 (t .before .loop .j - 1) (below t) in
+    omega (arith, site t, p .3, t .before .loop .inv .2 .size, t .before .before .word-a .ensures, c .before .before .before .word-b .ensures, c .before .before .pair-at .ensures .0, c .cross-at .ensures .0)
 
 loop-again : tie.Need-loop-again Inv-loop μ-loop
 loop-again c =
