@@ -26,7 +26,9 @@ first-missing-spec =
     (λ c. (search needs, λ k e. passed-start (probesRule k) (c .args .probes .now)))
     (λ c. search needs) (λ c. search needs)
     (λ c. record { fits = omega (arith, c .shared-slice-known .given (c .before .before .loop .i)) })
-    (λ c. let h = c .before .before .before in record { is = λ k e. ask-found (probes-ask k) (h .before .args .probes .now) (h .loop .i) (h .loop .inv .1 k e) (c .before .before .loop-test .taken) (rw e (le-ltb _ _ (c .if1 .taken))) })
+    (λ c. let h = c .before .before .before in
+    record { is = λ k e. ask-found (probes-ask k) (h .before .args .probes .now) (h .loop .i) (h .loop .inv .1 k e) (c .before .before .loop-test .taken) (rw e (le-ltb _ _ (c .if1 .taken))) })
     (λ c. search needs) (λ c. search needs)
-    (λ c. let h = c .before .before .before in (omega arith, λ k e. ask-turn (probes-ask k) (h .before .args .probes .now) (h .loop .i) (h .loop .inv .1 k e) (c .before .before .loop-test .taken) (rw e (lt-ltb _ _ (c .if1 .left)))))
+    (λ c. let h = c .before .before .before in
+    (omega arith, λ k e. ask-turn (probes-ask k) (h .before .args .probes .now) (h .loop .i) (h .loop .inv .1 k e) (c .before .before .loop-test .taken) (rw e (lt-ltb _ _ (c .if1 .left)))))
     (λ c. record { is = λ k e. ask-end (probes-ask k) (c .before .before .args .probes .now) (c .before .loop .i) (c .before .loop .inv .1 k e) (c .loop-test .left) }))

@@ -25,7 +25,9 @@ first-over-spec =
     (λ c. overwrite-none (c .before .before .before .args .bytes .now) (λ x l. omega (arith, c .before .largest .ensures .is x (omega arith) (omega arith))))
     (λ c. (omega arith, passed-start bytesRule (c .before .before .before .args .bytes .now)))
     (λ c. search needs)
-    (λ c. let h = c .before .before .before in record { is = ask-found bytes-ask (h .before .before .before .before .args .bytes .now) (h .loop .i) (h .loop .inv .1) (c .before .before .loop-test .taken) (lt-leb _ _ (c .if2 .taken)) })
+    (λ c. let h = c .before .before .before in
+    record { is = ask-found bytes-ask (h .before .before .before .before .args .bytes .now) (h .loop .i) (h .loop .inv .1) (c .before .before .loop-test .taken) (lt-leb _ _ (c .if2 .taken)) })
     (λ c. search needs) (λ c. search needs)
-    (λ c. let h = c .before .before .before in (omega arith, ask-turn bytes-ask (h .before .before .before .before .args .bytes .now) (h .loop .i) (h .loop .inv .1) (c .before .before .loop-test .taken) (le-leb _ _ (c .if2 .left))))
+    (λ c. let h = c .before .before .before in
+    (omega arith, ask-turn bytes-ask (h .before .before .before .before .args .bytes .now) (h .loop .i) (h .loop .inv .1) (c .before .before .loop-test .taken) (le-leb _ _ (c .if2 .left))))
     (λ c. record { is = ask-end bytes-ask (c .before .before .before .before .before .args .bytes .now) (c .before .loop .i) (c .before .loop .inv .1) (c .loop-test .left) }))
