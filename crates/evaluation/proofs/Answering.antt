@@ -3,6 +3,7 @@ use mathlib.Core.Path.{_≡_, refl, sym, ap, ap₂, subst, _∙_}
 use mathlib.Core.Bool.{Bool, true, false, false≢true}
 use mathlib.Core.List.{List, [], _∷_, _++_}
 use Prim.Native.Nat.{ℕ, zero, suc, _+_, _*_, _≤_, _<_, min}
+use native.Mathlib.Nat.{add-zero, add-suc, suc-add}
 use native.Mathlib.Omega.{arith}
 use lib.Dec.{leb, ltb, eqb}
 use lib.ListN.{length}
@@ -69,11 +70,8 @@ then-none (refuse a b c) = refl
 
 bytes-append : (n : ℕ) (xs ys : List ℕ) → bytesRule n (xs ++ ys) ≡ (bytesRule n xs then bytesRule (n + length xs) ys)
 unfolding bytesRule
-bytes-append n [] ys = let e : n ≡ n + 0 = omega arith in ap (λ m. bytesRule m ys) e
-bytes-append n (x ∷ xs) ys =
-    let e : suc n + length xs ≡ n + suc (length xs) = omega arith in
-    ap (λ j. need (leb x 1) 18 0 n then j) (bytes-append (suc n) xs ys ∙ ap (λ m. bytesRule (suc n) xs then bytesRule m ys) e)
-    ∙ sym (then-assoc (need (leb x 1) 18 0 n) (bytesRule (suc n) xs) (bytesRule (n + suc (length xs)) ys))
+bytes-append n [] ys = simp add-zero
+bytes-append n (x ∷ xs) ys = rw (add-suc n (length xs), ← suc-add n (length xs), then-assoc (need (leb x 1) 18 0 n)) (ap (λ j. need (leb x 1) 18 0 n then j) (bytes-append (suc n) xs ys))
 
 -- bytes that pass are bits, and probes that pass are on wires
 bits-pass : (i : ℕ) (xs : List ℕ) → bytesRule i xs ≡ pass → Bits xs

@@ -1,14 +1,16 @@
 -- Rules 18 and 19, byte by byte and probe by probe.
 use mathlib.Core.Path.{_≡_, refl, sym, ap, _∙_}
-use mathlib.Core.Bool.{cond}
+use mathlib.Core.Bool.{Bool, true, false, cond}
 use mathlib.Core.List.{List, [], _∷_}
 use Prim.Native.Nat.{ℕ, suc, _+_, _≤_, _<_}
+use native.Mathlib.Nat.{add-zero}
 use native.Mathlib.Omega.{arith}
+use lib.Dec.{leb, ltb}
 use lib.ListN.{length, drop, drop-of-length-le}
-use borrow.Author.Tests.{lt-ltb, le-ltb, le-leb, lt-leb}
+use borrow.Author.Tests.{lt-ltb, le-ltb, le-leb}
 use Rattle.circuit.specs.Lists.{nth}
 use Rattle.circuit.specs.Circuit.{Circuit, size}
-use Rattle.circuit.specs.Rules.{Judgement, pass, refuse}
+use Rattle.circuit.specs.Rules.{Judgement, pass, refuse, need, _then_}
 use Rattle.semantics.specs.Calls.{bytesRule, probesRule}
 use Rattle.evaluation.specs.Internal.Refusing.{refusal, OverFirst}
 use Rattle.reach.proofs.Marking.{drop-turn}
@@ -18,37 +20,30 @@ abbrev pub Passed : (ℕ → List ℕ → Judgement) → List ℕ → ℕ → Ty
 Passed rule xs i = (n : ℕ) → rule n xs ≡ rule (n + i) (drop i xs)
 
 pub passed-start : (rule : ℕ → List ℕ → Judgement) (xs : List ℕ) → Passed rule xs 0
-passed-start rule xs n = let e : n ≡ n + 0 = omega arith in ap (λ m. rule m xs) e
+passed-start rule xs n = simp add-zero
 
-onward : (rule : ℕ → List ℕ → Judgement) (xs : List ℕ) (i : ℕ) → Passed rule xs i → i < length xs → ((n : ℕ) → rule n (nth xs i ∷ drop (i + 1) xs) ≡ rule (suc n) (drop (i + 1) xs)) → Passed rule xs (i + 1)
-onward rule xs i h l f n =
-    let e : suc (n + i) ≡ n + (i + 1) = omega arith in
-    h n ∙ ap (rule (n + i)) (drop-turn xs i l) ∙ f (n + i) ∙ ap (λ m. rule m (drop (i + 1) xs)) e
+-- a rule that asks the same of each element, in order: one that keeps it is passed, and the first that breaks it is named
+pub record Asks (rule : ℕ → List ℕ → Judgement) (number : ℕ) (test : ℕ → Bool) : Type 0 where
+  pub none : (n : ℕ) → rule n [] ≡ pass
+  pub one : (n x : ℕ) (xs : List ℕ) → rule n (x ∷ xs) ≡ (need (test x) number 0 n then rule (suc n) xs)
 
-pub byte-turn : (xs : List ℕ) (i : ℕ) → Passed bytesRule xs i → i < length xs → nth xs i ≤ 1 → Passed bytesRule xs (i + 1)
+pub bytes-ask : Asks bytesRule 18 (λ x. leb x 1)
 unfolding bytesRule
-byte-turn xs i h l k = onward bytesRule xs i h l (λ n. rw (le-leb (nth xs i) 1 k))
+bytes-ask = record { none = λ n. refl; one = λ n x xs. refl }
 
-pub byte-found : (xs : List ℕ) (i : ℕ) → Passed bytesRule xs i → i < length xs → 1 < nth xs i → (n : ℕ) → bytesRule n xs ≡ refusal 18 n xs i
-unfolding bytesRule
-byte-found xs i h l k n = h n ∙ ap (bytesRule (n + i)) (drop-turn xs i l) ∙ rw (lt-leb (nth xs i) 1 k, lt-ltb i (length xs) l)
+pub probes-ask : (k : Circuit) → Asks (probesRule k) 19 (λ x. ltb x (size k))
+unfolding probesRule
+probes-ask k = record { none = λ n. refl; one = λ n x xs. refl }
 
-pub byte-end : (xs : List ℕ) (i : ℕ) → Passed bytesRule xs i → length xs ≤ i → (n : ℕ) → bytesRule n xs ≡ refusal 18 n xs i
-unfolding bytesRule
-byte-end xs i h l n = h n ∙ ap (bytesRule (n + i)) (drop-of-length-le xs l) ∙ rw (le-ltb i (length xs) l)
+module _ {rule : ℕ → List ℕ → Judgement} {number : ℕ} {test : ℕ → Bool} (asks : Asks rule number test) (xs : List ℕ) (i : ℕ) (h : Passed rule xs i) where
+  pub ask-turn : i < length xs → test (nth xs i) ≡ true → Passed rule xs (i + 1)
+  ask-turn l k n = let e : n + (i + 1) ≡ suc (n + i) = omega arith in rw (e, h n, drop-turn xs i l, asks .one (n + i) (nth xs i) (drop (i + 1) xs), k)
 
-module _ (k : Circuit) where
-  pub probe-turn : (xs : List ℕ) (i : ℕ) → Passed (probesRule k) xs i → i < length xs → nth xs i < size k → Passed (probesRule k) xs (i + 1)
-  unfolding probesRule
-  probe-turn xs i h l z = onward (probesRule k) xs i h l (λ n. rw (lt-ltb (nth xs i) (size k) z))
+  pub ask-found : i < length xs → test (nth xs i) ≡ false → (n : ℕ) → rule n xs ≡ refusal number n xs i
+  ask-found l k n = rw (h n, drop-turn xs i l, asks .one (n + i) (nth xs i) (drop (i + 1) xs), k, lt-ltb i (length xs) l)
 
-  pub probe-found : (xs : List ℕ) (i : ℕ) → Passed (probesRule k) xs i → i < length xs → size k ≤ nth xs i → (n : ℕ) → probesRule k n xs ≡ refusal 19 n xs i
-  unfolding probesRule
-  probe-found xs i h l z n = h n ∙ ap (probesRule k (n + i)) (drop-turn xs i l) ∙ rw (le-ltb (nth xs i) (size k) z, lt-ltb i (length xs) l)
-
-  pub probe-end : (xs : List ℕ) (i : ℕ) → Passed (probesRule k) xs i → length xs ≤ i → (n : ℕ) → probesRule k n xs ≡ refusal 19 n xs i
-  unfolding probesRule
-  probe-end xs i h l n = h n ∙ ap (probesRule k (n + i)) (drop-of-length-le xs l) ∙ rw (le-ltb i (length xs) l)
+  pub ask-end : length xs ≤ i → (n : ℕ) → rule n xs ≡ refusal number n xs i
+  ask-end l n = rw (h n, drop-of-length-le xs l, asks .none (n + i), le-ltb i (length xs) l)
 
 -- bytes none of which is over 1 pass
 all-pass : (bytes : List ℕ) (i : ℕ) → ((x : ℕ) → x < length bytes → nth bytes x ≤ 1) → bytesRule i bytes ≡ pass

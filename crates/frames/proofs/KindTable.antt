@@ -1,18 +1,16 @@
 -- The kind table in numbers: how many words each kind has, and that its numbers fit.
 use mathlib.Core.Path.{_≡_, refl, sym, ap, subst}
-use mathlib.Core.List.{List}
 use Prim.Native.Nat.{ℕ, zero, suc, _+_, _*_, _-_, _≤_, _<_}
 use native.Mathlib.Nat.{mul-le-mul}
 use native.Mathlib.Omega.{arith}
 use lib.ListN.{length, length-append}
 use Rattle.circuit.proofs.Sizes.{labels-map}
 use Rattle.circuit.specs.Kinds.{WordRule, share, before, row, Kind, HEAD, IN, CON, XOR, NOT, REG, AND, REF, OUT, kindOf, shape, words}
-use Rattle.circuit.specs.Lists.{nth}
-use Rattle.circuit.specs.Circuit.{Circuit, place, stageShown, newStage}
+use Rattle.circuit.specs.Circuit.{place, newStage}
 use Rattle.frames.specs.declared.kinds.Kind.{Kind as KindCode}
 use Rattle.frames.specs.declared.kinds.Form.{Form}
 use Rattle.frames.specs.declared.kinds.Shape.{Shape as ShapeCode}
-use Rattle.frames.specs.Walk.{formOf, rulesOf, stageMade, Means, kindLine, shapeCode}
+use Rattle.frames.specs.Walk.{formOf, Means, kindLine, shapeCode}
 
 pub row-length : (rule : ℕ → ℕ → WordRule) (place d : ℕ) → length (row rule place d) ≡ d
 row-length rule place d = labels-map d (λ i. rule i place)

@@ -1,17 +1,17 @@
 -- A frame that fits a circuit: what its code rests on, and the gates of its wires.
 use mathlib.Core.Path.{_≡_, refl, sym, ap, subst, _∙_}
-use mathlib.Core.List.{List, [], _∷_, _++_, map, append-assoc}
+use mathlib.Core.List.{List, [], _∷_, _++_, map}
 use Prim.Native.Nat.{ℕ, suc, _+_, _*_, _-_, _≤_, _<_}
 use native.Mathlib.Omega.{arith}
-use lib.ListN.{length, getD, take, drop, length-append, List·getD-append}
-use lib.Seq.{take-at, getD-append-add}
-use Rattle.circuit.specs.Lists.{_⊕_, nth}
+use lib.ListN.{length, getD, length-append, List·getD-append}
+use lib.Seq.{getD-append-add}
+use Rattle.circuit.specs.Lists.{nth}
 use Rattle.circuit.specs.Wires.{Gate, input, constant, reg, inverse, sum, named, Wire, _placed_}
 use Rattle.circuit.specs.Gadgets.{labels}
 use Rattle.circuit.specs.Kinds.{Kind, HEAD, IN, CON, XOR, NOT, REG, AND, REF, OUT, shape}
 use Rattle.circuit.specs.Circuit.{Circuit, size, isSet, newStage, made, extend}
 use Rattle.circuit.specs.Composition.{Frame, Fits, fit-IN, fit-CON, fit-XOR, fit-NOT, fit-REG, fit-AND, fit-REF, fit-OUT, build}
-use Rattle.circuit.proofs.Base.{no-flip, AllFrom}
+use Rattle.circuit.proofs.Base.{AllFrom}
 use Rattle.circuit.proofs.Building.{named-made, size-extend}
 use Rattle.circuit.proofs.Numbered.{all-at, get-all}
 use Rattle.circuit.proofs.Sizes.{made-size}

@@ -1,30 +1,20 @@
 -- How long a line is: the sum of its parts, at most 93 bytes, and within its buffer.
-use mathlib.Core.Path.{_≡_, ap, _∙_}
-use mathlib.Core.List.{List, [], _∷_, _++_}
+use mathlib.Core.Path.{_≡_, ap}
+use mathlib.Core.List.{List, []}
 use Prim.Native.Nat.{ℕ, _+_, _≤_, _<_, _^_}
+use native.Mathlib.Nat.{add-assoc}
 use native.Mathlib.Omega.{arith}
 use lib.ListN.{length, drop, length-append}
-use Rattle.judge.specs.Printed.{decimal, field, line, Written}
+use Rattle.judge.specs.Printed.{field, line, Written}
 use Rattle.judge.proofs.Numbers.{twenty-digits}
 
 module _ (a : List ℕ) (x : ℕ) (b : List ℕ) (y : ℕ) (c : List ℕ) (z : ℕ) where
   pub line-length : length (line a x b y c z) ≡ length (field a x) + length (field b y) + length (field c z) + 1
-  line-length =
-      length-append (field a x ++ field b y ++ field c z) (10 ∷ [])
-      ∙ ap (λ (n : ℕ). n + 1) (length-append (field a x ++ field b y) (field c z) ∙ ap (λ (n : ℕ). n + length (field c z)) (length-append (field a x) (field b y)))
+  line-length = simp (length-append, add-assoc)
 
   -- numbers of 64 bits, and names of 32 bytes in all
   pub short-line : x < 2 ^ 64 → y < 2 ^ 64 → z < 2 ^ 64 → length a + length b + length c ≤ 32 → length (line a x b y c z) ≤ 93
-  short-line hx hy hz h = omega (
-    arith,
-    line-length,
-    length-append a (decimal x),
-    length-append b (decimal y),
-    length-append c (decimal z),
-    twenty-digits x hx,
-    twenty-digits y hy,
-    twenty-digits z hz,
-  )
+  short-line hx hy hz h = rw line-length (simp length-append (omega (arith, twenty-digits x hx, twenty-digits y hy, twenty-digits z hz)))
 
 -- a line that was written is in its buffer
 pub line-inside : (bytes old : List ℕ) (given : ℕ) (new : List ℕ) → Written bytes old given new → given ≤ length new

@@ -1,8 +1,9 @@
 -- Marks moved on, wire by wire from the last to the first.
 use mathlib.Core.Path.{_≡_, refl, sym, ap, ap₂, subst, subst₂, _∙_}
-use mathlib.Core.Bool.{Bool, true, false, cond, false≢true}
-use mathlib.Core.List.{List, [], _∷_, _++_, map}
+use mathlib.Core.Bool.{true, false, false≢true}
+use mathlib.Core.List.{List, [], _∷_, _++_, map, map-append}
 use Prim.Native.Nat.{ℕ, zero, suc, _+_, _-_, _*_, _≤_, _<_}
+use native.Mathlib.Nat.{add-zero, add-suc, zero-add, suc-add}
 use native.Mathlib.Omega.{arith}
 use lib.Dec.{ltb, eqb}
 use lib.ListN.{length, set, length-set}
@@ -14,10 +15,10 @@ use Rattle.circuit.specs.Kinds.{pairs}
 use Rattle.circuit.proofs.Base.{cases, or-cases, or-left, or-right, In}
 use Rattle.circuit.proofs.Sizes.{pairs-twice}
 use Rattle.semantics.specs.Probes.{isStop, operands}
-use Rattle.gadgets.specs.Internal.Places.{slotOf, crossStart, pairAt, crossAt, productAt, outAt, maskAt, sumAt, heldAt}
+use Rattle.gadgets.specs.Internal.Places.{crossStart, pairAt, crossAt, productAt, outAt, maskAt, sumAt, heldAt}
 use Rattle.gadgets.specs.Internal.Gates.{gateAt, ProductGates, CrossGates, CrossRowGates, CrossAllGates, ProductsGates, OutGates, AndGates, RefGates}
 use Rattle.gadgets.proofs.Bits.{set-low}
-use Rattle.gadgets.proofs.Ranges.{others-is, others-split, map-append}
+use Rattle.gadgets.proofs.Ranges.{others-is, others-split}
 use Rattle.gadgets.proofs.Slots.{slot-low, slot-high, slot-next, slots-up, row-ends, row-room}
 use Rattle.reach.specs.Internal.Marks.{markAll, propagated, sixApart, outWires, Moving, Moves}
 use Rattle.reach.proofs.Reaching.{moving-gate, moving-stop}
@@ -27,11 +28,7 @@ mark-length marks [] = refl
 mark-length marks (x ∷ xs) = mark-length (set marks x 1) xs ∙ length-set marks x 1
 
 pub handed-length : (x : ℕ) (wires marks : List ℕ) → length (propagated x wires marks) ≡ length marks
-handed-length x wires marks = go (ltb (nth marks x) 1)
-  where
-    go : (b : Bool) → length (cond b marks (set (markAll marks wires) x 0)) ≡ length marks
-    go true = refl
-    go false = length-set (markAll marks wires) x 0 ∙ mark-length marks wires
+handed-length x wires marks = cases (ltb (nth marks x) 1) (λ e. rw e) (λ e. rw (e, length-set, mark-length marks wires))
 
 pub mark-append : (marks xs ys : List ℕ) → markAll marks (xs ++ ys) ≡ markAll (markAll marks xs) ys
 mark-append marks [] ys = refl
@@ -82,42 +79,24 @@ moves-gate x z marks e k = moves-hand x (operands z) marks (λ g h. ap isStop (k
 -- the wires U and W that an output takes
 six-apart-append : (a m n : ℕ) → sixApart a (m + n) ≡ sixApart a m ++ sixApart (a + 6 * m) n
 unfolding sixApart
-six-apart-append a zero n =
-    let e : 0 + n ≡ n = omega arith in
-    let f : a ≡ a + 6 * 0 = omega arith in
-    ap₂ sixApart f e
+six-apart-append a zero n = simp (zero-add, add-zero)
 six-apart-append a (suc m) n =
-    let e : suc m + n ≡ suc (m + n) = omega arith in
-    let f : a + 6 + 6 * m ≡ a + 6 * suc m = omega arith in
-    ap (sixApart a) e ∙ ap (λ l. a ∷ l) (six-apart-append (a + 6) m n ∙ ap (λ z. sixApart (a + 6) m ++ sixApart z n) f)
+    let e : a + 6 * suc m ≡ a + 6 + 6 * m = omega arith in
+    rw (suc-add, e) (ap (λ l. a ∷ l) (six-apart-append (a + 6) m n))
 
 six-apart-map : (f : ℕ → ℕ) (a m n : ℕ) → ((q : ℕ) → q < n → f (m + q) ≡ a + 6 * q) → map f (range m n) ≡ sixApart a n
 unfolding sixApart
 six-apart-map f a m zero h = refl
 six-apart-map f a m (suc n) h =
-    let e : m ≡ m + 0 = omega arith in
-    let z : a + 6 * 0 ≡ a = omega arith in
-    ap₂ (λ x l. x ∷ l) (ap f e ∙ h 0 (omega arith) ∙ z) (six-apart-map f (a + 6) (suc m) n (λ q l.
-    let i : suc m + q ≡ m + suc q = omega arith in
-    let j : a + 6 * suc q ≡ a + 6 + 6 * q = omega arith in
-    ap f i ∙ h (suc q) (omega arith) ∙ j))
+    ap₂ (λ x l. x ∷ l) (simp add-zero at (h 0 (omega arith))) (six-apart-map f (a + 6) (suc m) n (λ q l. rw (suc-add, ← add-suc) (h (suc q) (omega arith) ∙ omega arith)))
 
 row-six-apart : (d first i k : ℕ) → i < d → map (λ j. crossAt d first i j + k) (others d i) ≡ sixApart (first + crossStart d i + k) (d - 1)
 row-six-apart d first i k l =
     let f : ℕ → ℕ = λ j. crossAt d first i j + k in
     let a = first + crossStart d i + k in
     let e : i + (d - suc i) ≡ d - 1 = omega arith in
-    ap (map f) (others-is d i l) ∙ map-append f (range 0 i) (range (suc i) (d - suc i))
-    ∙ ap₂ (λ x y. x ++ y)
-    (six-apart-map f a 0 i (λ q h. low q h))
-    (six-apart-map f (a + 6 * i) (suc i) (d - suc i) (λ q h. high q))
-    ∙ sym (six-apart-append a i (d - suc i)) ∙ ap (sixApart a) e
-  where
-    low : (q : ℕ) → q < i → crossAt d first i (0 + q) + k ≡ first + crossStart d i + k + 6 * q
-    low q h = omega (arith, slot-low i (0 + q) (omega arith))
-
-    high : (q : ℕ) → crossAt d first i (suc i + q) + k ≡ first + crossStart d i + k + 6 * i + 6 * q
-    high q = omega (arith, slot-high i (suc i + q) (omega arith))
+    rw (others-is d i l, map-append f (range 0 i)) (ap₂ (λ x y. x ++ y) (six-apart-map f a 0 i (λ q h. omega (arith, slot-low i (0 + q) (omega arith))))
+    (six-apart-map f (a + 6 * i) (suc i) (d - suc i) (λ q h. omega (arith, slot-high i (suc i + q) (omega arith)))) ∙ sym (six-apart-append a i (d - suc i)) ∙ ap (sixApart a) e)
 
 pub out-wires : (d first i : ℕ) → i < d
     → (productAt d first i + 2) ∷ map (λ j. crossAt d first i j + 1) (others d i) ++ map (λ j. crossAt d first i j + 5) (others d i) ≡ outWires d first i
@@ -201,10 +180,7 @@ and-moved d first a b {three = three} outs rows products =
 pub out-handed : (d first i : ℕ) (marks : List ℕ) {one two : List ℕ} (wire row o : ℕ) → wire ≡ outAt d first i → row ≡ first + crossStart d i → o ≡ productAt d first i + 2 → 1 ≤ nth marks wire
     → one ≡ markAll (set marks o 1) (sixApart (row + 1) (d - 1)) → two ≡ markAll one (sixApart (row + 5) (d - 1)) → set two wire 0 ≡ propagated (outAt d first i) (outWires d first i) marks
 out-handed d first i marks wire row o w-is r-is o-is h e f =
-    let row = first + crossStart d i in
-    let start = set marks (productAt d first i + 2) 1 in
-    let low : 1 ≤ nth marks (outAt d first i) = rw w-is at h in
-    rw (w-is, le-ltb (nth marks (outAt d first i)) 1 low, f, e, r-is, o-is, mark-append start (sixApart (row + 1) (d - 1)) (sixApart (row + 5) (d - 1)))
+    rw (← w-is, ← r-is, ← o-is, le-ltb (nth marks wire) 1 h, f, e, mark-append (set marks o 1) (sixApart (row + 1) (d - 1)) (sixApart (row + 5) (d - 1)))
 
 pub below-is : (n m : ℕ) → m ≤ n → n ≤ m → n ≡ m
 below-is n m h k = omega arith
@@ -215,16 +191,7 @@ pub sum-handed : (d first i a : ℕ) (marks : List ℕ) {one two : List ℕ} (wi
     → set two wire 0 ≡ propagated (sumAt d first i) (a ∷ map (maskAt d first i) (others d i)) marks
 sum-handed d first i a marks wire l w-is h e f =
     let g = maskAt d first i in
-    let low : 1 ≤ nth marks (sumAt d first i) = rw w-is at h in
-    rw (
-      w-is,
-      le-ltb (nth marks (sumAt d first i)) 1 low,
-      f,
-      e,
-      others-split d i l,
-      map-append g (range 0 (i - 0)) (range (i + 1) (d - (i + 1))),
-      mark-append (set marks a 1) (map g (range 0 (i - 0))) (map g (range (i + 1) (d - (i + 1)))),
-    )
+    rw (← w-is, le-ltb (nth marks wire) 1 h, f, e, others-split d i l, map-append g (range 0 (i - 0)), mark-append (set marks a 1) (map g (range 0 (i - 0))))
 
 pub sums-moved : (d first : ℕ) (a : ℕ → ℕ) (i : ℕ) {n to : ℕ} {old mid new : List ℕ} → i < d → n ≡ i + 1 → Moves (λ g. RefGates g d first a) (sumAt d first n) to old mid
     → (x : ℕ) → x ≡ a i → new ≡ propagated (sumAt d first i) (x ∷ map (maskAt d first i) (others d i)) mid → sumAt d first n ≤ to → Moves (λ g. RefGates g d first a) (sumAt d first i) to old new

@@ -1,16 +1,16 @@
 -- Marks on probed wires, moved on from the last wire to the first, end on the stops that the probes read.
-use mathlib.Core.Path.{_≡_, refl, sym, subst, _∙_}
-use mathlib.Core.Bool.{Bool, true, false, false≢true}
-use mathlib.Core.List.{List, [], _∷_, _++_}
+use mathlib.Core.Path.{_≡_, sym, subst, _∙_}
+use mathlib.Core.Bool.{true, false, false≢true}
+use mathlib.Core.List.{List, [], _∷_}
 use Prim.Native.Nat.{ℕ, suc, _+_, _≤_, _<_}
 use native.Mathlib.Omega.{arith}
 use lib.Dec.{eqb, ltb}
 use lib.ListN.{length, set}
 use borrow.Author.Tests.{eqb-true, eqb-false, ltb-true, ltb-false}
-use Rattle.circuit.specs.Lists.{nth, mem, concatMap}
+use Rattle.circuit.specs.Lists.{nth, mem}
 use Rattle.circuit.specs.Circuit.{isSet}
 use Rattle.circuit.specs.Wires.{Wire, Gate}
-use Rattle.circuit.proofs.Base.{cases, or-cases, or-left, lt-ne, In, in-head, in-tail, in-each, every-in, Every}
+use Rattle.circuit.proofs.Base.{cases, or-cases, lt-ne, In, in-head, in-each, every-in, Every}
 use Rattle.circuit.proofs.Numbered.{all-get}
 use Rattle.semantics.specs.Probes.{isStop, operands, stops}
 use Rattle.semantics.proofs.Reading.{same-test, concatMap-in, probe, stop-reads, gate-reads}

@@ -1,7 +1,7 @@
 -- The reading, wire by wire: marks on the stops that probes read show the values of wires.
 use mathlib.Core.Path.{_≡_, refl, sym, ap, ap₂, subst, _∙_}
 use mathlib.Core.Bool.{Bool, false, cond, false≢true}
-use mathlib.Core.List.{List, [], _∷_, _++_, map}
+use mathlib.Core.List.{List, [], _++_, map}
 use Prim.Native.Nat.{ℕ, suc, _+_, _-_, _≤_, _<_}
 use native.Mathlib.Omega.{arith}
 use lib.Dec.{ltb}
@@ -17,7 +17,7 @@ use Rattle.circuit.proofs.Sizes.{range-length}
 use Rattle.semantics.specs.Values.{byte, bytes, at, valuesOf}
 use Rattle.semantics.specs.Probes.{stops, sheet}
 use Rattle.semantics.proofs.Reading.{same-test}
-use Rattle.gadgets.proofs.Ranges.{range-turn, range-end}
+use Rattle.gadgets.proofs.Ranges.{range-turn, range-end, map-on}
 use Rattle.gadgets.proofs.Bits.{set-low, set-high}
 use Rattle.reach.specs.Internal.Marks.{markAll, Marked, shownAt}
 use Rattle.reach.specs.Internal.Reading.{OnStops, Shows}
@@ -66,7 +66,7 @@ module _ (marks values : List ℕ) where
   unfolding shownFrom sheet
   shown-end {old} {reading} {x} t end room = record {
     is = λ ws probes shares tape rest on v. sym (t .left ∙ ap (λ l. sets reading x (map shown l)) (range-end wireLimit x end)) ∙ front (shownFrom 0) full
-        ∙ ap (λ l. overwrite l old) (map-same _ _ (range 0 wireLimit) (is ws probes (valuesOf ws shares tape) rest on v (values-length shares tape [] ws)));
+        ∙ ap (λ l. overwrite l old) (map-on _ _ (range 0 wireLimit) (λ x i. is ws probes (valuesOf ws shares tape) rest on v (values-length shares tape [] ws) x));
   }
     where
       full : length (shownFrom 0) ≤ length old
@@ -74,10 +74,6 @@ module _ (marks values : List ℕ) where
 
       front : (xs : List ℕ) → length xs ≤ length old → sets old 0 xs ≡ overwrite xs old
       front xs h = let z : 0 + length xs ≡ length xs = omega arith in sets-eq xs old 0 (omega arith) ∙ ap (λ n. xs ++ drop n old) z
-
-      map-same : (f g : ℕ → ℕ) (xs : List ℕ) → ((x : ℕ) → f x ≡ g x) → map f xs ≡ map g xs
-      map-same f g [] h = refl
-      map-same f g (x ∷ xs) h = ap₂ (λ a b. a ∷ b) (h x) (map-same f g xs h)
 
       is : (ws : List Wire) (probes : List ℕ) (bs : List Bool) (rest : List ℕ) → OnStops ws probes marks → values ≡ overwrite (bytes bs) rest → length bs ≡ 0 + length ws
           → (x : ℕ) → shown x ≡ cond (mem x (stops ws probes)) (byte (at bs x)) 2

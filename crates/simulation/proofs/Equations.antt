@@ -1,11 +1,11 @@
 -- The values of AND's and REF's wires, from those of the wires that they take and the tape.
-use mathlib.Core.Path.{_≡_, sym, ap, ap₂, subst, _∙_}
+use mathlib.Core.Path.{_≡_, sym, ap, ap₂, _∙_}
 use mathlib.Core.Bool.{false, not, _&&_}
 use mathlib.Core.List.{List, [], _∷_, map}
 use Prim.Native.Nat.{ℕ, zero, suc, _+_, _*_, _-_, _≤_, _<_}
+use native.Mathlib.Nat.{add-zero}
 use native.Mathlib.Omega.{arith}
 use lib.ListN.{length, take, drop}
-use lib.Dec.{eqb}
 use lib.Seq.{getD-drop}
 use borrow.Author.Tests.{eqb-false}
 use Rattle.circuit.specs.Lists.{_⊕_, nth}
@@ -16,7 +16,7 @@ use Rattle.circuit.specs.Circuit.{isSet}
 use Rattle.circuit.proofs.Base.{no-flip, In}
 use Rattle.circuit.proofs.Parts.{others-pair}
 use Rattle.circuit.proofs.Sizes.{pairs-twice}
-use Rattle.semantics.specs.Values.{bits, at, xorSum, value, isRandom, valuesOf}
+use Rattle.semantics.specs.Values.{bits, at, xorSum, value, valuesOf}
 use Rattle.semantics.proofs.Randoms.{randomsIn}
 use Rattle.secrecy.proofs.Totals.{xorSum-ext, xorSum-append, xorSum-map, xorSum-xor}
 use Rattle.frames.specs.declared.walk.Gate.the-variants as gate
@@ -29,17 +29,14 @@ use Rattle.gadgets.proofs.Bits.{bits-at}
 use Rattle.gadgets.proofs.Sites.{pair-lt}
 use Rattle.gadgets.proofs.Slots.{product-early, cross-room}
 use Rattle.simulation.specs.Internal.Filling.{Values, Copied, Drawn, ShareProducts, RowCrossed, crossingAt, Multiplied, AndValues, Masked, Held, RefValues, FrameValues}
-use Rattle.simulation.proofs.Solving.{solved, rank-random, rank-other}
+use Rattle.simulation.proofs.Solving.{solved, rank-next}
 
 tape-at : (tape : List ℕ) (n : ℕ) → at (drop n (bits tape)) 0 ≡ isSet (nth tape n)
-tape-at tape n = let e : n + 0 ≡ n = omega arith in getD-drop n (bits tape) 0 false ∙ ap (at (bits tape)) e ∙ bits-at tape n
+tape-at tape n = getD-drop n (bits tape) 0 false ∙ simp (add-zero, bits-at)
 
 -- different shares, where the one is among the others of the other
 apart : (d i j : ℕ) → i < d → In j (others d i) → (j < d) × (j ≡ i → ⊥)
-apart d i j l h = let o = others-pair d i j l h in (o .snd, λ e. ne-of i j (o .apart) e)
-  where
-    ne-of : (i j : ℕ) → eqb i j ≡ false → j ≡ i → ⊥
-    ne-of i j h e = eqb-false i j h (sym e)
+apart d i j l h = let o = others-pair d i j l h in (o .snd, λ e. eqb-false i j (o .apart) (sym e))
 
 module _ (ws : List Wire) (shares tape : List ℕ) (early : OrderedFrom 0 ws) where
   -- the value of each wire, and how many random bits come before it
@@ -56,20 +53,14 @@ module _ (ws : List Wire) (shares tape : List ℕ) (early : OrderedFrom 0 ws) wh
   -- AND
   module _ (d first : ℕ) (a b : ℕ → ℕ) (gs : AndGates (gateAt ws) d first a b) (made : outAt d first d ≤ length ws) (used : ℕ) (start : rank first ≡ used) where
     pair-room : (q : ℕ) → q < pairs d → first + 2 * q + 1 < length ws
-    pair-room q l = omega (arith, within (pairs d) (d * (d - 1)) (pairs-twice d) l)
-      where
-        within : (p n : ℕ) → p * 2 ≡ n → q < p → first + 2 * q + 1 < first + n
-        within p n e l = omega arith
+    pair-room q l = omega (arith, pairs-twice d)
 
     rank-at : (q : ℕ) → q ≤ pairs d → rank (first + 2 * q) ≡ used + q
-    rank-at zero l = let e : first + 2 * 0 ≡ first = omega arith in ap rank e ∙ start ∙ omega arith
+    rank-at zero l = simp add-zero start
     rank-at (suc q) l =
-        let e : first + 2 * suc q ≡ suc (suc (first + 2 * q)) = omega arith in
-        let f : first + 2 * q + 1 ≡ suc (first + 2 * q) = omega arith in
-        let room = pair-room q l in
-        let held : gateAt ws (suc (first + 2 * q)) ≡ reg (first + 2 * q) = subst (λ (n : ℕ). gateAt ws n ≡ reg (first + 2 * q)) f (gs .draws q l .1) in
-        ap rank e ∙ rank-other ws (suc (first + 2 * q)) (omega arith) (ap isRandom held)
-        ∙ rank-random ws (first + 2 * q) (omega arith) (gs .draws q l .0) ∙ omega (arith, rank-at q (omega arith))
+        let e : first + 2 * suc q ≡ first + 2 * q + 1 + 1 = omega arith in
+        ap rank e ∙ rank-next ws (first + 2 * q + 1) (pair-room q l) (gs .draws q l .1)
+        ∙ omega (arith, rank-next ws (first + 2 * q) (omega (arith, pair-room q l)) (gs .draws q l .0), rank-at q (omega arith))
 
     hold-is : (q : ℕ) → q < pairs d → valued (first + 2 * q + 1) ≡ valued (first + 2 * q)
     hold-is q l = gate-value (first + 2 * q + 1) (reg (first + 2 * q)) (pair-room q l) (gs .draws q l .1)
@@ -114,16 +105,9 @@ module _ (ws : List Wire) (shares tape : List ℕ) (early : OrderedFrom 0 ws) wh
     multiplied = record { crossed = crossed; out = out }
       where
         out : (i : ℕ) → i < d → valued (outAt d first i) ≡ (valued (productAt d first i + 2) ⊕ xorSum (others d i) (crossingAt d first i (valued (a i)) valued))
-        out i l =
-            let x : ℕ → ℕ = λ j. crossAt d first i j + 1 in
-            let y : ℕ → ℕ = λ j. crossAt d first i j + 5 in
-            gate-value (outAt d first i) _ (omega arith) (gs .outs i l)
-            ∙ ap (λ z. valued (productAt d first i + 2) ⊕ z)
-            (xorSum-append valued (map x (others d i)) (map y (others d i))
-            ∙ ap₂ (λ p q. p ⊕ q) (xorSum-map valued x (others d i)) (xorSum-map valued y (others d i))
-            ∙ sym (xorSum-xor (λ j. valued (x j)) (λ j. valued (y j)) (others d i))
-            ∙ xorSum-ext _ (crossingAt d first i (valued (a i)) valued) (others d i)
-            (λ j h. let (k, ne) = apart d i j l h in let e = crossed i l j k ne in ap₂ (λ p q. p ⊕ q) (e .1) (e .5)))
+        out i l = gate-value (outAt d first i) _ (omega arith) (gs .outs i l) ∙ ap (λ z. valued (productAt d first i + 2) ⊕ z)
+            (xorSum-append valued (map (λ j. crossAt d first i j + 1) (others d i)) (map (λ j. crossAt d first i j + 5) (others d i)) ∙ rw (xorSum-map, xorSum-map, ← xorSum-xor)
+            (xorSum-ext _ _ (others d i) (λ j h. let (k, ne) = apart d i j l h in rw (crossed i l j k ne .1, crossed i l j k ne .5))))
 
     pub and-values : AndValues d first a b tape used valued
     and-values = record { drawn = drawn; products = products; multiplied = multiplied }
@@ -131,10 +115,10 @@ module _ (ws : List Wire) (shares tape : List ℕ) (early : OrderedFrom 0 ws) wh
   -- REF
   module _ (d first : ℕ) (a : ℕ → ℕ) (gs : RefGates (gateAt ws) d first a) (made : heldAt d first d ≤ length ws) (used : ℕ) (start : rank first ≡ used) where
     ref-rank : (q : ℕ) → q ≤ pairs d → rank (first + q) ≡ used + q
-    ref-rank zero l = let e : first + 0 ≡ first = omega arith in ap rank e ∙ start ∙ omega arith
+    ref-rank zero l = simp add-zero start
     ref-rank (suc q) l =
-        let e : first + suc q ≡ suc (first + q) = omega arith in
-        ap rank e ∙ rank-random ws (first + q) (omega arith) (gs .draws q l) ∙ omega (arith, ref-rank q (omega arith))
+        let e : first + suc q ≡ first + q + 1 = omega arith in
+        ap rank e ∙ omega (arith, rank-next ws (first + q) (omega arith) (gs .draws q l), ref-rank q (omega arith))
 
     ref-drawn : Copied tape used first (pairs d) valued
     ref-drawn q l = gate-value (first + q) random (omega arith) (gs .draws q l) ∙ ap (λ n. at (drop n (bits tape)) 0) (ref-rank q (omega arith)) ∙ tape-at tape (used + q)

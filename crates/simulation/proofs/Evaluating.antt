@@ -1,9 +1,9 @@
 -- The values of an accepted table's wires, frame by frame: those of the frames before the walk's place are filled in.
 use mathlib.Core.Path.{_≡_, refl, sym, ap, ap₂, subst, _∙_}
 use mathlib.Core.Bool.{Bool, false}
-use mathlib.Core.List.{List, [], append-nil, append-assoc}
-use Prim.Native.Nat.{ℕ, suc, _+_, _-_, _*_, _≤_, _<_}
-use native.Mathlib.Nat.{mul-le-mul}
+use mathlib.Core.List.{List, []}
+use Prim.Native.Nat.{ℕ, _+_, _-_, _*_, _≤_, _<_}
+use native.Mathlib.Nat.{mul-le-mul-right}
 use native.Mathlib.Omega.{arith}
 use lib.Dec.{ltb}
 use lib.ListN.{length, take, drop, length-append, length-drop, length-map, List·getD-append, List·getD-map}
@@ -12,20 +12,17 @@ use borrow.Author.Tests.{ltb-true, ltb-false}
 use Rattle.circuit.specs.Limits.{wireLimit}
 use Rattle.circuit.specs.Lists.{nth, overwrite}
 use Rattle.circuit.specs.Wires.{Wire}
-use Rattle.circuit.specs.Circuit.{Circuit, size, empty, extend}
-use Rattle.circuit.specs.Composition.{Frame, build}
+use Rattle.circuit.specs.Circuit.{Circuit, size, empty}
+use Rattle.circuit.specs.Composition.{build}
 use Rattle.circuit.proofs.Base.{cases}
-use Rattle.circuit.proofs.Building.{build-shares, build-more}
-use Rattle.circuit.proofs.Exact.{accepted-size}
+use Rattle.circuit.proofs.Building.{build-shares}
 use Rattle.semantics.specs.Values.{bits, byte, bytes, at, valuesOf}
 use Rattle.semantics.proofs.Values.{values-length}
-use Rattle.semantics.proofs.Earlier.{accepted-early}
 use Rattle.semantics.proofs.Randoms.{randomsIn, build-randoms}
 use Rattle.frames.specs.declared.walk.Frame.{Frame as FrameCode}
 use Rattle.frames.specs.declared.walk.Walk.{Walk}
 use Rattle.frames.specs.declared.kinds.Shape.{Shape as ShapeCode}
 use Rattle.frames.specs.Walk.{operandsAt}
-use Rattle.gadgets.specs.Internal.Gates.{OrderedFrom}
 use Rattle.gadgets.specs.Internal.Frames.{frameWires}
 use Rattle.gadgets.specs.Internal.Accepting.{AcceptedTable, circuitIn, Between}
 use Rattle.gadgets.proofs.Walking.{whole, whole-few, whole-ordered, so-far, between-start, all-built, wires-in, wires-grow, inputs-grow, randoms-grow, Met}
@@ -49,9 +46,8 @@ all-known vs old new room known rest size = ext-getD 0 new (overwrite (bytes vs)
 
     high : (x : ℕ) → length vs ≤ x → nth new x ≡ nth (overwrite (bytes vs) old) x
     high x l =
-        let e : length (bytes vs) + (x - length (bytes vs)) ≡ x = omega (arith, count) in
-        rest x l ∙ sym (sym (ap (nth (overwrite (bytes vs) old)) e) ∙ getD-append-add (bytes vs) (drop (length (bytes vs)) old) (x - length (bytes vs)) 0
-        ∙ getD-drop (length (bytes vs)) old (x - length (bytes vs)) 0 ∙ ap (nth old) e)
+        let e : x ≡ length (bytes vs) + (x - length (bytes vs)) = omega (arith, count) in
+        rest x l ∙ rw e (simp (getD-append-add, getD-drop))
 
 -- the values of the frames before the walk's place are filled in
 pub record FilledTo (table shares tape old values : List ℕ) (place w from used : ℕ) : Type 0 where
@@ -101,10 +97,7 @@ module _ {table shares tape old values : List ℕ} {place w from used : ℕ} (f 
   -- the frame that is met: it has its bits, and behind it its values are filled in too
   module _ {d : ℕ} {fr : FrameCode} {sh : ShapeCode} {wk : Walk} (same : d ≡ a .d) (m : Met a (f .between) d w from fr sh wk) where
     pub inputs-in : from + d * sh .inputs ≤ length shares
-    inputs-in = spread _ _ _ _ (subst (λ (n : ℕ). n ≤ whole a .inputs) (m .inputs-next) (inputs-grow a (m .onward))) (f .from-are) shares-are
-      where
-        spread : (x y z n : ℕ) → x + y ≤ z → from ≡ x * a .d → n ≡ z * a .d → from + d * y ≤ n
-        spread x y z n h p e = rw same (omega (arith, mul-le-mul {n₁ = x + y} {m₁ = a .d} {n₂ = z} {m₂ = a .d} h (omega arith)))
+    inputs-in = rw same (omega (arith, f .from-are, shares-are, mul-le-mul-right (a .d) (rw (m .inputs-next) at (inputs-grow a (m .onward)))))
 
     pub draws-in : used + sh .randoms ≤ length tape
     draws-in = omega (arith, f .used-are, m .randoms-next, randoms-grow a (m .onward), tape-is)
@@ -120,15 +113,12 @@ module _ {table shares tape old values : List ℕ} {place w from used : ℕ} (f 
           supplied = f .supplied;
           between = m .onward;
           wires-are = sym (m .wires-next);
-          from-are = spread (so-far a (f .between) .inputs) (sh .inputs) (f .from-are) ∙ ap (λ n. n * a .d) (sym (m .inputs-next));
+          from-are = rw (m .inputs-next, same) (omega (arith, f .from-are));
           used-are = omega (arith, f .used-are, m .randoms-next);
           known = subst (λ (n : ℕ). Known v 0 n new) made (known-all g v holds (f .known));
           above = λ x l. g .above x (omega (arith, made)) ∙ f .above x (omega arith);
           sized = g .size ∙ f .sized;
         }
-      where
-        spread : (x y : ℕ) → from ≡ x * a .d → from + d * y ≡ (x + y) * a .d
-        spread x y e = rw same (omega arith)
 
   -- all frames are filled in
   pub all-filled : f .between .after ≡ [] → wireLimit ≤ length old → values ≡ overwrite (bytes (valuesOf (circuitIn table .wires) (bits shares) (bits tape))) old

@@ -44,9 +44,9 @@ pub fills-at : {E : Values → Type 0} {from from′ to to′ : ℕ} {old new : 
 fills-at {E} {from} {from′} {to} {to′} {old} {new} p q f = subst₂ (λ a b. Fills E a b old new) p q f
 
 -- one wire more
-pub fills-set : {E : Values → Type 0} {from p : ℕ} {old mid : List ℕ} (e : ℕ) → Fills E from p old mid → from ≤ p → p < length old
-    → ((v : Values) → E v → Known v 0 from old → e ≡ byte (v p)) → Fills E from (p + 1) old (set mid p e)
-fills-set {E} {from} {p} {old} {mid} e f l room h = record {
+pub fills-set : {E : Values → Type 0} {from p to : ℕ} {old mid : List ℕ} (e : ℕ) → (from ≤ p) × (p < length old) × (p + 1 ≡ to) → ((v : Values) → E v → Known v 0 from old → e ≡ byte (v p))
+    → Fills E from p old mid → Fills E from to old (set mid p e)
+fills-set {E} {from} {p} {to} {old} {mid} e place h f = record {
   filled = λ v q k x i u. nth-set mid p e x r (λ same z. z ∙ h v q k ∙ ap (λ n. byte (v n)) (sym same)) (λ other z. z ∙ f .filled v q k x i (omega arith));
   below = λ x i. nth-set mid p e x r (λ same z. absurd (omega arith)) (λ other z. z ∙ f .below x i);
   above = λ x i. nth-set mid p e x r (λ same z. absurd (omega arith)) (λ other z. z ∙ f .above x (omega arith));
@@ -59,4 +59,4 @@ fills-set {E} {from} {p} {old} {mid} e f l room h = record {
 -- one wire alone
 pub fills-one : {E : Values → Type 0} (first : ℕ) (sheet : List ℕ) (e : ℕ) → first < length sheet → ((v : Values) → E v → Known v 0 first sheet → e ≡ byte (v first))
     → Fills E first (first + 1) sheet (set sheet first e)
-fills-one first sheet e room h = fills-set e (fills-none first sheet) (omega arith) room h
+fills-one first sheet e room h = fills-set e (omega arith) h (fills-none first sheet)

@@ -64,15 +64,14 @@ module _ {d first : ℕ} {a : ℕ → ℕ} {old mid : List ℕ} {i : ℕ} (f : F
       ∙ ap byte (xor-assoc (v (a i)) (xorSum (range 0 (i - 0)) g) (xorSum (range (i + 1) (d - (i + 1))) g) ∙ ap (λ z. v (a i) ⊕ z) (sym (xorSum-others g d i l)) ∙ sym (e i l))
 
   pub masked-turn : Fills (Masked d first a) (first + pairs d) (first + pairs d + (i + 1)) old (set mid p t)
-  masked-turn = rw p-is (fills-at refl (omega arith) (fills-set t f (omega arith) room sum-is))
+  masked-turn = rw p-is (fills-set t (omega arith) sum-is f)
 
 -- one output of REF; where the code finds the sum
 pub held-turn : (d first : ℕ) {old mid : List ℕ} (i : ℕ) → Fills (Held d first) (first + pairs d + d) (first + pairs d + d + i) old mid → i < d → first + pairs d + d + i < length old
     → (p : ℕ) → p ≡ sumAt d first i → Fills (Held d first) (first + pairs d + d) (first + pairs d + d + (i + 1)) old (set mid (p + d) (nth mid p))
 held-turn d first i f l room p p-is =
     let here : first + pairs d + d + i ≡ sumAt d first i + d = omega arith in
-    rw p-is (fills-at refl (omega arith) (fills-set _ (fills-at refl here f) (omega arith) (omega arith)
-    (λ v e k. known-all f v e k (sumAt d first i) (omega arith) (omega arith) ∙ ap byte (sym (e i l)) ∙ ap (λ n. byte (v n)) here)))
+    rw p-is (fills-set _ (omega arith) (λ v e k. rw (← here, e i l) (known-all f v e k (sumAt d first i) (omega arith) (omega arith))) (fills-at refl here f))
 
 pub ref-filled : (d first : ℕ) (a : ℕ → ℕ) (tape : List ℕ) (used : ℕ) {old one two three : List ℕ} (count : ℕ) → count ≡ pairs d
     → Fills (Copied tape used first count) first (first + count) old one → Fills (Masked d first a) (first + pairs d) (first + pairs d + d) one two

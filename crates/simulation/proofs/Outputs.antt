@@ -2,7 +2,7 @@
 use mathlib.Core.Path.{_≡_, refl, sym, ap, _∙_}
 use mathlib.Core.Bool.{Bool}
 use mathlib.Core.List.{List}
-use Prim.Native.Nat.{ℕ, _+_, _-_, _*_, _≤_, _<_}
+use Prim.Native.Nat.{ℕ, _+_, _-_, _≤_, _<_}
 use native.Mathlib.Omega.{arith}
 use lib.Dec.{ltb}
 use lib.ListN.{length, set, length-set}
@@ -10,7 +10,7 @@ use borrow.Author.Tests.{ltb-true, ltb-false}
 use Rattle.circuit.specs.Lists.{_⊕_, nth, range}
 use Rattle.circuit.proofs.Base.{cases, xor-assoc}
 use Rattle.semantics.specs.Values.{byte, xorSum}
-use Rattle.gadgets.specs.Internal.Places.{slotOf, crossStart, productAt, crossAt, outAt}
+use Rattle.gadgets.specs.Internal.Places.{crossStart, productAt, crossAt, outAt}
 use Rattle.gadgets.proofs.Stored.{nth-set}
 use Rattle.gadgets.proofs.Slots.{slot-low, product-early, row-room, RowEnds, row-ends}
 use Rattle.simulation.specs.Internal.Filling.{Values, Known, Fills, crossingAt, Multiplied}
@@ -99,22 +99,10 @@ module _ {d first : ℕ} {a : ℕ → ℕ} {old values : List ℕ} {i : ℕ} (on
     outs = λ v e k x p u. nth-set two (outAt d first i) t x in-room
         (λ same z. z ∙ out-known v e k ∙ ap (λ n. byte (v n)) (sym same))
         (λ other z. z ∙ kept-high x (omega (arith, row-room d first i l)) ∙ on .outs v e k x p (omega arith));
-    below = λ x h. nth-set two (outAt d first i) t x in-room (λ same z. absurd (omega (arith, base))) (λ other z. z ∙ kept-low x (omega (arith, base-row)) ∙ on .below x h);
+    below = λ x h. nth-set two (outAt d first i) t x in-room (λ same z. absurd (omega arith)) (λ other z. z ∙ kept-low x (omega arith) ∙ on .below x h);
     above = λ x h. nth-set two (outAt d first i) t x in-room (λ same z. absurd (omega arith)) (λ other z. z ∙ kept-high x (omega (arith, row-room d first i l)) ∙ on .above x h);
     size = length-set two (outAt d first i) t ∙ size-two;
   }
-    where
-      base-row : first + crossStart d 0 ≤ first + crossStart d i
-      base-row = more (d * (d - 1) + 3 * d) (i * (d - 1)) (0 * (d - 1)) (omega arith)
-        where
-          more : (m n o : ℕ) → o ≡ 0 → first + (m + 6 * o) ≤ first + (m + 6 * n)
-          more m n o h = omega arith
-
-      base : first + crossStart d 0 ≤ first + crossStart d d
-      base = more (d * (d - 1) + 3 * d) (d * (d - 1)) (0 * (d - 1)) (omega arith)
-        where
-          more : (m n o : ℕ) → o ≡ 0 → first + (m + 6 * o) ≤ first + (m + 6 * n)
-          more m n o h = omega arith
 
 -- where the code finds a, M and the output
 pub outputs-turn : {d first : ℕ} {a : ℕ → ℕ} {old values : List ℕ} {i : ℕ} → OutputsOn d first a old values i → i < d → a i < first → outAt d first d ≤ length old

@@ -1,5 +1,5 @@
 -- The wires B, m and M of a share.
-use mathlib.Core.Path.{_≡_, refl, sym, ap, ap₂, _∙_}
+use mathlib.Core.Path.{_≡_, ap₂, _∙_}
 use mathlib.Core.Bool.{_&&_}
 use mathlib.Core.List.{List}
 use Prim.Native.Nat.{ℕ, _+_, _-_, _≤_, _<_}
@@ -11,7 +11,7 @@ use Rattle.semantics.specs.Values.{byte}
 use Rattle.gadgets.specs.Internal.Places.{productAt}
 use Rattle.gadgets.proofs.Bits.{byte-and}
 use Rattle.simulation.specs.Internal.Filling.{Values, Known, Fills, ShareProducts}
-use Rattle.simulation.proofs.Filled.{known-all, fills-at, fills-set}
+use Rattle.simulation.proofs.Filled.{known-all, fills-set}
 
 module _ {d first : ℕ} {a b : ℕ → ℕ} {old mid : List ℕ} {i : ℕ} (l : i < d) (room : productAt d first i + 3 ≤ length old) (early : a i < first) (late : b i < first)
     (f : Fills (ShareProducts d first a b) (productAt d first 0) (productAt d first i) old mid) where
@@ -33,16 +33,8 @@ module _ {d first : ℕ} {a b : ℕ → ℕ} {old mid : List ℕ} {i : ℕ} (l :
   m-is : (v : Values) → E v → Known v 0 (productAt d first 0) old → both ≡ byte (v (a i) && v (b i))
   m-is v e k = ap₂ bitAnd (known-all f v e k (a i) (omega arith) (omega arith)) (b-is v e k) ∙ byte-and (v (a i)) (v (b i))
 
-  one : Fills E (productAt d first 0) (x + 1) old (set mid x bit)
-  one = fills-set bit f (omega arith) (omega arith) (λ v e k. b-is v e k ∙ ap byte (sym (e i l .0)))
-
-  two : Fills E (productAt d first 0) (x + 2) old (set (set mid x bit) (x + 1) both)
-  two = fills-at refl (omega arith) (fills-set both one (omega arith) (omega arith) (λ v e k. m-is v e k ∙ ap byte (sym (e i l .1))))
-
-  three : Fills E (productAt d first 0) (productAt d first (i + 1)) old (set (set (set mid x bit) (x + 1) both) (x + 2) both)
-  three = fills-at refl (omega arith) (fills-set both two (omega arith) (omega arith) (λ v e k. m-is v e k ∙ ap byte (sym (e i l .2))))
-
   -- where the code finds B, a and b
   pub products-turn : (p y z : ℕ) → p ≡ x → y ≡ a i → z ≡ b i
       → Fills E (productAt d first 0) (productAt d first (i + 1)) old (set (set (set mid p (nth mid z)) (p + 1) (bitAnd (nth mid y) (nth mid z))) (p + 2) (bitAnd (nth mid y) (nth mid z)))
-  products-turn p y z p-is y-is z-is = rw (p-is, y-is, z-is) three
+  products-turn p y z p-is y-is z-is = rw (p-is, y-is, z-is) (fills-set both (omega arith) (λ v e k. rw (e i l .2) (m-is v e k))
+      (fills-set both (omega arith) (λ v e k. rw (e i l .1) (m-is v e k)) (fills-set bit (omega arith) (λ v e k. rw (e i l .0) (b-is v e k)) f)))

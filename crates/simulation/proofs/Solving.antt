@@ -4,8 +4,10 @@ use mathlib.Core.Path.{_≡_, refl, sym, ap, ap₂, subst, _∙_}
 use mathlib.Core.Bool.{Bool, true, false, cond, not, _&&_}
 use mathlib.Core.List.{List, [], _∷_, _++_}
 use Prim.Native.Nat.{ℕ, zero, suc, _+_, _<_}
+use native.Mathlib.Nat.{zero-add}
+use native.Mathlib.Numerals.{add-one}
 use native.Mathlib.Omega.{arith}
-use lib.ListN.{length, getD, take, drop, length-append, List·getD-append}
+use lib.ListN.{length, take, drop, length-append, List·getD-append}
 use lib.Seq.{drop-drop, take-suc, getD-append-add}
 use Rattle.circuit.specs.Lists.{_⊕_}
 use Rattle.circuit.specs.Wires.{Gate, input, constant, random, reg, inverse, sum, product, andNot, Wire}
@@ -47,8 +49,7 @@ module _ (sh : List Bool) where
       let rest = cond (isRandom (w .gate)) (drop 1 t) t in
       let f : ℕ → Bool = at (valuesFrom sh rest (before ++ (b ∷ [])) ws) in
       let n = length-append before (b ∷ []) in
-      let e : length before + 0 ≡ length before = omega arith in
-      ap f e ∙ before-same ws rest (before ++ (b ∷ [])) (length before) (omega (arith, n)) ∙ sym (ap (at (before ++ (b ∷ []))) e) ∙ getD-append-add before (b ∷ []) 0 false
+      before-same ws rest (before ++ (b ∷ [])) (length before + 0) (omega (arith, n)) ∙ getD-append-add before (b ∷ []) 0 false
       ∙ value-same (w .gate) (at before) f sh t (every-imp (λ y. y < length before) (λ y. at before y ≡ f y) (operands (w .gate))
       (λ y k. sym (before-same (w ∷ ws) t before y k)) (h .0))
   wire-value (w ∷ ws) t before h (suc i) l =
@@ -66,13 +67,8 @@ module _ (sh : List Bool) where
 
   pub solved : (ws : List Wire) (t : List Bool) → OrderedFrom 0 ws → (x : ℕ) → x < length ws
       → let f = at (valuesOf ws sh t) in f x ≡ value (gateAt ws x) f sh (drop (randomsIn (take x ws)) t)
-  solved ws t h x l =
-      let e : 0 + x ≡ x = omega arith in
-      sym (ap (at (valuesOf ws sh t)) e) ∙ wire-value ws t [] h x l
+  solved ws t h x l = simp zero-add at (wire-value ws t [] h x l)
 
 -- the random bits before the next wire
-pub rank-random : (ws : List Wire) (x : ℕ) → x < length ws → gateAt ws x ≡ random → randomsIn (take (suc x) ws) ≡ suc (randomsIn (take x ws))
-rank-random ws x l e = ap randomsIn (take-suc ws x nothing l) ∙ randoms-append (take x ws) (getD ws x nothing ∷ []) ∙ rw e (omega arith)
-
-pub rank-other : (ws : List Wire) (x : ℕ) → x < length ws → isRandom (gateAt ws x) ≡ false → randomsIn (take (suc x) ws) ≡ randomsIn (take x ws)
-rank-other ws x l e = ap randomsIn (take-suc ws x nothing l) ∙ randoms-append (take x ws) (getD ws x nothing ∷ []) ∙ rw e (omega arith)
+pub rank-next : (ws : List Wire) (x : ℕ) {g : Gate} → x < length ws → gateAt ws x ≡ g → randomsIn (take (x + 1) ws) ≡ randomsIn (take x ws) + cond (isRandom g) 1 0
+rank-next ws x l e = rw (add-one, take-suc ws x nothing, randoms-append, e)

@@ -1,12 +1,10 @@
 -- The call is judged; accepted, its values are filled in, refused, they are as found.
-use mathlib.Core.List.{List, [], _∷_}
-use mathlib.Core.Path.{_≡_, sym, ap, _∙_}
+use mathlib.Core.List.{[], _∷_}
 use lib.ListN.{length}
 use borrow.Author.Needs.{needs}
 use Rattle.circuit.specs.Circuit.{Circuit}
 use Rattle.semantics.specs.Values.{bits, bytes, valuesOf}
 use Rattle.secrecy.proofs.Accepted.{gadgets-compute}
-use Rattle.checker.specs.Answers.{answerOf}
 use Rattle.evaluation.proofs.evaluate.Statement.{statement}
 use Rattle.evaluation.proofs.evaluate.Tie as tie
 use Rattle.evaluation.proofs.Answering.{Passed, passed, left, holds, one-sheet}

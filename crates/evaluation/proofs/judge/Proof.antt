@@ -10,7 +10,7 @@ use borrow.Author.Tests.{eq-eqb, ne-eqb, le-leb, lt-leb}
 use Rattle.circuit.specs.Limits.{wireLimit}
 use Rattle.circuit.specs.Lists.{nth}
 use Rattle.circuit.specs.Circuit.{Circuit, size}
-use Rattle.circuit.specs.Rules.{Judgement, pass, refuse, need, _then_, checked}
+use Rattle.circuit.specs.Rules.{Judgement, pass, need, _then_, checked}
 use Rattle.circuit.specs.Answer.{answer}
 use Rattle.semantics.specs.Calls.{bytesRule, probesRule, circuitOf, callRule}
 use Rattle.checker.specs.declared.Verdict.{Verdict}
@@ -89,13 +89,13 @@ abbrev verdict1 : tie.Else1 → tie.After-verdict
 verdict1 c = c .before .before .before
 
 from16 : (c : tie.Else1) → let g = checked-at (verdict1 c) in Comes g (left16 g)
-from16 c sheets s = kept _ 15 (left16 (checked-at (verdict1 c))) (from15 (verdict1 c) sheets s) (eq-eqb _ _ (c .if1 .left ∙ numbers (verdict1 c) .shares))
+from16 c sheets s = kept _ _ _ (from15 (verdict1 c) sheets s) (eq-eqb _ _ (c .if1 .left ∙ numbers (verdict1 c) .shares))
 
 from17 : (c : tie.Else2) → let g = checked-at (verdict1 (c .before)) in Comes g (left17 g)
-from17 c sheets s = kept _ 16 (left17 (checked-at (verdict1 (c .before)))) (from16 (c .before) sheets s) (eq-eqb _ _ (c .if2 .left ∙ numbers (verdict1 (c .before)) .randoms))
+from17 c sheets s = kept _ _ _ (from16 (c .before) sheets s) (eq-eqb _ _ (c .if2 .left ∙ numbers (verdict1 (c .before)) .randoms))
 
 from18 : (c : tie.Else3) → let g = checked-at (verdict1 (c .before .before)) in Comes g (left18 g)
-from18 c sheets s = kept _ 17 (left18 (checked-at (verdict1 (c .before .before)))) (from17 (c .before) sheets s) (le-leb _ _ (c .if3 .left))
+from18 c sheets s = kept _ _ _ (from17 (c .before) sheets s) (le-leb _ _ (c .if3 .left))
 
 -- rules 18 and 19 by the first place where they are broken
 abbrev found : (rule i : ℕ) (xs : List ℕ) (r : ℕ) (rest : Judgement) → Judgement
@@ -126,41 +126,6 @@ returns c =
     let e = c .enum-told .given in
     record { answers = λ sheets h. ap answerOf (e .1) ∙ refused-first _ _ (shares g) (tape g) sheets (probes g) (sym (ap answerOf (e .1)) ∙ g .check .ensures .0); noted = g .check .ensures .1 .0 }
 
-returns-2 : tie.Need-returns-2
-returns-2 c =
-    let v = c .before .before .before .before in
-    judged (checked-at v) (c .refusal .ensures) (λ sheets s. broken _ 15 (left16 (checked-at v)) (from15 v sheets s) (ne-eqb _ _ (λ e. c .before .if1 .taken (e ∙ sym (numbers v .shares)))))
-
-returns-3 : tie.Need-returns-3
-returns-3 c =
-    let v = verdict1 (c .before .before) in
-    judged (checked-at v) (c .refusal2 .ensures) (λ sheets s. broken _ 16 (left17 (checked-at v)) (from16 (c .before .before) sheets s) (ne-eqb _ _ (λ e. c .before .if2 .taken (e ∙ sym (numbers v .randoms)))))
-
-returns-4 : tie.Need-returns-4
-returns-4 c =
-    let g = checked-at (verdict1 (c .before .before .before)) in
-    judged g (c .refusal3 .ensures) (λ sheets s. broken _ 17 (left18 g) (from17 (c .before .before) sheets s) (lt-leb _ _ (c .before .if3 .taken)))
-
-returns-5 : tie.Need-returns-5
-returns-5 c =
-    let g = at3 (c .before .before .before) in
-    judged g (c .refusal4 .ensures) (λ sheets s. first-found 18 0 (shares g) _ (left-tape g) (by-share (c .before .before) sheets s) (c .before .if4 .taken) _ (omega arith))
-
-returns-6 : tie.Need-returns-6
-returns-6 c =
-    let g = at3 (c .before .before .before .before .before) in
-    judged g (c .refusal5 .ensures) (λ sheets s. first-found 18 _ (tape g) _ (left19 g) (by-tape (c .before .before) sheets s) (c .before .if5 .taken) _ (omega arith))
-
-returns-7 : tie.Need-returns-7
-returns-7 c =
-    let g = at3 (c .before .before .before .before .before .before .before) in
-    judged g (c .refusal6 .ensures) (λ sheets s. first-found 19 0 (probes g) _ pass (by-probe (c .before .before) sheets s) (c .before .if6 .taken) _ (omega arith))
-
-returns-8 : tie.Need-returns-8
-returns-8 c =
-    let v = verdict1 (c .before .before .before .before .before .before .before .before) in
-    judged (checked-at v) (sym (ap answerOf (v .verdict .given .1)) ∙ checked-at v .check .ensures .0 ∙ ap (answer (k (checked-at v))) (numbers v .passes)) (λ sheets s. none-found 19 0 (probes (checked-at v)) _ pass (by-probe (c .before) sheets s) (c .if6 .left))
-
 pub judge-spec : {M : Type 1} → statement M
 judge-spec =
     tie.close
@@ -171,16 +136,23 @@ judge-spec =
     (λ c. record { fits = omega (arith, c .shared-slice-known5 .given 1) })
     (λ c. record { fits = omega (arith, numbers (c .before .before) .shares, numbers (c .before .before) .of .shares-few) })
     (λ c κs. search needs) (λ c. search needs)
-    returns-2
+    (λ c. let v = c .before .before .before .before in
+    judged (checked-at v) (c .refusal .ensures) (λ sheets s. broken _ 15 _ (from15 v sheets s) (ne-eqb _ _ (λ e. c .before .if1 .taken (e ∙ sym (numbers v .shares))))))
     (λ c κs. search needs) (λ c. search needs)
-    returns-3
+    (λ c. let v = verdict1 (c .before .before) in
+    judged (checked-at v) (c .refusal2 .ensures) (λ sheets s. broken _ 16 _ (from16 (c .before .before) sheets s) (ne-eqb _ _ (λ e. c .before .if2 .taken (e ∙ sym (numbers v .randoms))))))
     (λ c κs. search needs) (λ c. search needs)
-    returns-4
+    (λ c. judged (checked-at (verdict1 (c .before .before .before))) (c .refusal3 .ensures) (λ sheets s. broken _ 17 _ (from17 (c .before .before) sheets s) (lt-leb _ _ (c .before .if3 .taken))))
     (λ c κs. search needs) (λ c κs. search needs) (λ c. search needs)
-    returns-5
+    (λ c. let g = at3 (c .before .before .before) in
+    judged g (c .refusal4 .ensures) (λ sheets s. first-found 18 0 (shares g) _ (left-tape g) (by-share (c .before .before) sheets s) (c .before .if4 .taken) _ (omega arith)))
     (λ c κs. search needs) (λ c. record { fits = omega arith }) (λ c κs. search needs) (λ c. search needs)
-    returns-6
+    (λ c. let g = at3 (c .before .before .before .before .before) in
+    judged g (c .refusal5 .ensures) (λ sheets s. first-found 18 _ (tape g) _ (left19 g) (by-tape (c .before .before) sheets s) (c .before .if5 .taken) _ (omega arith)))
     (λ c κs. search needs) (λ c κs. search needs) (λ c. search needs)
-    returns-7
+    (λ c. let g = at3 (c .before .before .before .before .before .before .before) in
+    judged g (c .refusal6 .ensures) (λ sheets s. first-found 19 0 (probes g) _ pass (by-probe (c .before .before) sheets s) (c .before .if6 .taken) _ (omega arith)))
     (λ c. search needs)
-    returns-8)
+    (λ c. let v = verdict1 (c .before .before .before .before .before .before .before .before) in
+    judged (checked-at v) (sym (ap answerOf (v .verdict .given .1)) ∙ checked-at v .check .ensures .0 ∙ ap (answer (k (checked-at v))) (numbers v .passes))
+    (λ sheets s. none-found 19 0 (probes (checked-at v)) _ pass (by-probe (c .before) sheets s) (c .if6 .left))))

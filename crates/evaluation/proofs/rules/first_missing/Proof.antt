@@ -3,10 +3,11 @@ use mathlib.Core.Path.{_≡_}
 use Prim.Native.Nat.{_≤_, _-_}
 use native.Mathlib.Omega.{arith}
 use lib.ListN.{length}
+use borrow.Author.Tests.{lt-ltb, le-ltb}
 use borrow.Author.Needs.{needs}
 use Rattle.circuit.specs.Circuit.{Circuit, size}
 use Rattle.semantics.specs.Calls.{probesRule}
-use Rattle.evaluation.proofs.Refusals.{Passed, passed-start, probe-turn, probe-found, probe-end}
+use Rattle.evaluation.proofs.Refusals.{Passed, passed-start, probes-ask, ask-turn, ask-found, ask-end}
 use Rattle.evaluation.proofs.rules.first_missing.Statement.{statement}
 use Rattle.evaluation.proofs.rules.first_missing.Tie as tie
 
@@ -25,7 +26,9 @@ first-missing-spec =
     (λ c. (search needs, λ k e. passed-start (probesRule k) (c .args .probes .now)))
     (λ c. search needs) (λ c. search needs)
     (λ c. record { fits = omega (arith, c .shared-slice-known .given (c .before .before .loop .i)) })
-    (λ c. record { is = λ k e. probe-found k (c .before .before .before .before .args .probes .now) (c .before .before .before .loop .i) (c .before .before .before .loop .inv .1 k e) (c .before .before .loop-test .taken) (omega arith) })
+    (λ c. let h = c .before .before .before in
+    record { is = λ k e. ask-found (probes-ask k) (h .before .args .probes .now) (h .loop .i) (h .loop .inv .1 k e) (c .before .before .loop-test .taken) (rw e (le-ltb _ _ (c .if1 .taken))) })
     (λ c. search needs) (λ c. search needs)
-    (λ c. (omega arith, λ k e. probe-turn k (c .before .before .before .before .args .probes .now) (c .before .before .before .loop .i) (c .before .before .before .loop .inv .1 k e) (c .before .before .loop-test .taken) (omega arith)))
-    (λ c. record { is = λ k e. probe-end k (c .before .before .args .probes .now) (c .before .loop .i) (c .before .loop .inv .1 k e) (c .loop-test .left) }))
+    (λ c. let h = c .before .before .before in
+    (omega arith, λ k e. ask-turn (probes-ask k) (h .before .args .probes .now) (h .loop .i) (h .loop .inv .1 k e) (c .before .before .loop-test .taken) (rw e (lt-ltb _ _ (c .if1 .left)))))
+    (λ c. record { is = λ k e. ask-end (probes-ask k) (c .before .before .args .probes .now) (c .before .loop .i) (c .before .loop .inv .1 k e) (c .loop-test .left) }))

@@ -2,11 +2,12 @@
 use Prim.Native.Nat.{_-_, _≤_}
 use native.Mathlib.Omega.{arith}
 use lib.ListN.{length}
+use borrow.Author.Tests.{le-leb, lt-leb}
 use borrow.Author.Needs.{needs}
 use Rattle.semantics.specs.Calls.{bytesRule}
 use Rattle.evaluation.proofs.rules.first_over.Statement.{statement}
 use Rattle.evaluation.proofs.rules.first_over.Tie as tie
-use Rattle.evaluation.proofs.Refusals.{Passed, passed-start, byte-turn, byte-found, byte-end, overwrite-none}
+use Rattle.evaluation.proofs.Refusals.{Passed, passed-start, bytes-ask, ask-turn, ask-found, ask-end, overwrite-none}
 
 abbrev Inv-loop : tie.InvT-loop
 Inv-loop bytes count i₀ i = (i ≤ length bytes) × Passed bytesRule bytes i
@@ -24,7 +25,9 @@ first-over-spec =
     (λ c. overwrite-none (c .before .before .before .args .bytes .now) (λ x l. omega (arith, c .before .largest .ensures .is x (omega arith) (omega arith))))
     (λ c. (omega arith, passed-start bytesRule (c .before .before .before .args .bytes .now)))
     (λ c. search needs)
-    (λ c. record { is = byte-found (c .before .before .before .before .before .before .before .args .bytes .now) (c .before .before .before .loop .i) (c .before .before .before .loop .inv .1) (c .before .before .loop-test .taken) (c .if2 .taken) })
+    (λ c. let h = c .before .before .before in
+    record { is = ask-found bytes-ask (h .before .before .before .before .args .bytes .now) (h .loop .i) (h .loop .inv .1) (c .before .before .loop-test .taken) (lt-leb _ _ (c .if2 .taken)) })
     (λ c. search needs) (λ c. search needs)
-    (λ c. (omega arith, byte-turn (c .before .before .before .before .before .before .before .args .bytes .now) (c .before .before .before .loop .i) (c .before .before .before .loop .inv .1) (c .before .before .loop-test .taken) (c .if2 .left)))
-    (λ c. record { is = byte-end (c .before .before .before .before .before .args .bytes .now) (c .before .loop .i) (c .before .loop .inv .1) (c .loop-test .left) }))
+    (λ c. let h = c .before .before .before in
+    (omega arith, ask-turn bytes-ask (h .before .before .before .before .args .bytes .now) (h .loop .i) (h .loop .inv .1) (c .before .before .loop-test .taken) (le-leb _ _ (c .if2 .left))))
+    (λ c. record { is = ask-end bytes-ask (c .before .before .before .before .before .args .bytes .now) (c .before .loop .i) (c .before .loop .inv .1) (c .loop-test .left) }))

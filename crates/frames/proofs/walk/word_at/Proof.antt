@@ -7,8 +7,5 @@ use denote.Ref.{now}
 use Rattle.frames.proofs.walk.word_at.Statement.{statement}
 use Rattle.frames.proofs.walk.word_at.Tie as tie
 
-returns-2 : tie.Need-returns-2
-returns-2 c = sym (List·getD-eq-default (now (c .before .args .words)) 0 (omega arith))
-
 pub word-at-spec : {M : Type 1} → statement M
-word-at-spec = tie.close (tie.spec (λ c. search needs) (λ c. search needs) (λ c. search needs) returns-2)
+word-at-spec = tie.close (tie.spec (λ c. search needs) (λ c. search needs) (λ c. search needs) (λ c. sym (List·getD-eq-default (now (c .before .args .words)) 0 (omega arith))))

@@ -2,7 +2,7 @@
 use mathlib.Core.Path.{_≡_, refl, sym, ap, _∙_}
 use Prim.Native.Nat.{ℕ, _+_, _-_, _≤_}
 use native.Mathlib.Omega.{arith}
-use lib.ListN.{length, drop, getD, length-set}
+use lib.ListN.{length, drop, length-set}
 use lib.Seq.{sets}
 use denote.Ref.{now}
 use borrow.Author.Needs.{needs}
@@ -20,8 +20,7 @@ loop-again : tie.Need-loop-again Inv-loop μ-loop
 loop-again c =
     let k = c .before .before .loop in
     let s = c .before .before .before .args in
-    let h : k .i + 1 ≤ length (now (s .bytes)) = omega arith in
-    (omega arith, length-set (k .out) (s .at + k .i) (getD (now (s .bytes)) (k .i) 0) ∙ k .inv .1, k .inv .2 ∙ run-turn (k .out) (s .at) (k .i) (now (s .bytes)) (omega arith))
+    (omega arith, length-set (k .out) _ _ ∙ k .inv .1, k .inv .2 ∙ run-turn (k .out) (s .at) (k .i) (now (s .bytes)) (omega arith))
 
 returns : tie.Need-returns Inv-loop μ-loop
 returns c =

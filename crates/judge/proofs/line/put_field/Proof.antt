@@ -10,9 +10,6 @@ use borrow.Author.Needs.{needs}
 use Rattle.judge.proofs.line.put_field.Statement.{statement}
 use Rattle.judge.proofs.line.put_field.Tie as tie
 
-put-bytes-requires : tie.Need-put-bytes-requires
-put-bytes-requires c κs = let k = c .before .before .before in omega (arith, length-append (now (k .args .name)) (decimal (k .args .n)), k .pre)
-
 put-number-requires : tie.Need-put-number-requires
 put-number-requires c κs = let k = c .before .before .before .before .before .before .before .args in let e = c .before .before .before .put-bytes .ensures in
     omega (arith, e .0, ap length (e .1), length-sets (now (k .out)) (k .at) (now (k .name)), length-append (now (k .name)) (decimal (k .n)))
@@ -25,4 +22,4 @@ returns c =
     (omega (arith, e .0, f .0, length-append (now (k .name)) (decimal (k .n))), f .1 ∙ rw (e .1, e .0) (one-run (now (k .out)) (k .at) (now (k .name)) (decimal (k .n))))
 
 pub put-field-spec : {M : Type 1} → statement M
-put-field-spec = tie.close (tie.spec put-bytes-requires put-number-requires (λ c. search needs) returns)
+put-field-spec = tie.close (tie.spec (λ c κs. omega (arith, simp length-append at (c .before .before .before .pre))) put-number-requires (λ c. search needs) returns)

@@ -7,24 +7,14 @@ use Rattle.judge.proofs.Lengths.{short-line}
 use Rattle.judge.proofs.line.write.Statement.{statement}
 use Rattle.judge.proofs.line.write.Tie as tie
 
-put-line-requires : tie.Need-put-line-requires
-put-line-requires c κs =
-    le-trans (short-line acceptedName _ randomName _ latencyName _ (search needs) (search needs) (search needs) (omega arith))
-    (c .before .before .before .before .before .before .before .before .pre)
-
-put-line-requires-2 : tie.Need-put-line-requires-2
-put-line-requires-2 c κs =
-    le-trans (short-line refusedName _ frameName _ wordName _ (search needs) (search needs) (search needs) (omega arith))
-    (c .before .before .before .before .before .before .before .before .pre)
-
 pub write-spec : {M : Type 1} → statement M
 write-spec =
     tie.close
     (tie.spec
     (λ c. search needs) (λ c. search needs) (λ c. search needs) (λ c. search needs)
-    put-line-requires
+    (λ c κs. le-trans (short-line acceptedName _ randomName _ latencyName _ (search needs) (search needs) (search needs) (omega arith)) (c .before .before .before .before .before .before .before .before .pre))
     (λ c. search needs) (λ c. search needs) (λ c. search needs) (λ c. search needs)
-    put-line-requires-2
+    (λ c κs. le-trans (short-line refusedName _ frameName _ wordName _ (search needs) (search needs) (search needs) (omega arith)) (c .before .before .before .before .before .before .before .before .pre))
     (λ c. search needs)
     (λ c. rw (c .before .before .before .before .before .before .before .before .verdict .given .1) (c .before .before .put-line .ensures))
     (λ c. search needs)

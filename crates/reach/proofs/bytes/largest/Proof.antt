@@ -13,12 +13,6 @@ Inv-loop bytes from count most₀ i₀ most i = (i ≤ count) × ((x : ℕ) → 
 abbrev μ-loop : tie.MeasureT-loop
 μ-loop bytes from count most₀ i₀ most i = count - i
 
-loop-again : tie.Need-loop-again Inv-loop μ-loop
-loop-again c =
-    let a = c .before .before .before .before .before .args in
-    let l = c .before .before .before .loop in
-    (omega arith, highest-turn (a .bytes .now) (a .from) (l .i) (l .most) (c .larger .result) (l .inv .1) (c .larger .ensures .0) (c .larger .ensures .1))
-
 pub largest-spec : {M : Type 1} → statement M
 largest-spec =
     tie.close
@@ -27,5 +21,5 @@ largest-spec =
     μ-loop
     (λ c. (omega arith, λ x l u. absurd (omega arith)))
     (λ c. search needs) (λ c. omega arith) (λ c κs. search needs) (λ c. search needs) (λ c. omega arith)
-    loop-again
+    (λ c. (omega arith, highest-turn (c .before .before .before .before .before .args .bytes .now) _ _ _ _ (c .before .before .before .loop .inv .1) (c .larger .ensures .0) (c .larger .ensures .1)))
     (λ c. record { is = λ x l u. c .before .loop .inv .1 x l (omega arith) }))

@@ -1,9 +1,9 @@
 -- The loop's invariant: marking all random bits comes to marking those from j on.
-use mathlib.Core.Path.{_≡_, refl, sym, ap, _∙_}
+use mathlib.Core.Path.{_≡_, refl, _∙_}
 use mathlib.Core.List.{map}
-use Prim.Native.Nat.{_+_, _-_, _≤_, _<_}
+use Prim.Native.Nat.{_-_, _≤_, _<_}
 use native.Mathlib.Omega.{arith}
-use lib.ListN.{length, set, length-set}
+use lib.ListN.{length, length-set}
 use borrow.Author.Needs.{needs}
 use Rattle.circuit.specs.Lists.{range}
 use Rattle.reach.proofs.reach.mark_masks.Statement.{statement}
@@ -30,22 +30,13 @@ below c = omega (arith, start c .pre .2)
 slice-write-marks : tie.Need-slice-write-marks Inv-loop μ-loop
 slice-write-marks c =
     let t = c .before in
-    let s = start t in
-    let j = t .before .loop .j in
-    omega (arith, c .mask-at .ensures .0, s .pre .3, mask-lt (s .args .d) (s .args .first) (s .args .i) j (s .pre .1) (below t) (s .pre .4 j (t .before .loop .inv .0) (t .loop-test .taken)))
+    let p = start t .pre in
+    omega (arith, c .mask-at .ensures .0, p .3, mask-lt _ (start t .args .first) _ _ (p .1) (below t) (p .4 (t .before .loop .j) (t .before .loop .inv .0) (t .loop-test .taken)))
 
 loop-again : tie.Need-loop-again Inv-loop μ-loop
 loop-again c =
     let l = c .before .before .loop in
-    let a = start (c .before) .args in
-    let f = maskAt (a .d) (a .first) (a .i) in
-    (omega arith, omega arith, length-set (l .marks) _ 1 ∙ l .inv .2, rw (c .mask-at .ensures .0) (sym (ap (λ r. markAll (l .marks) (map f r)) (range-turn (a .to) (l .j) (c .before .loop-test .taken))) ∙ l .inv .3))
-
-returns : tie.Need-returns Inv-loop μ-loop
-returns c =
-    let l = c .before .loop in
-    let a = c .before .before .before .args in
-    sym (ap (λ r. markAll (l .marks) (map (maskAt (a .d) (a .first) (a .i)) r)) (range-end (a .to) (l .j) (c .loop-test .left))) ∙ l .inv .3
+    (omega arith, omega arith, length-set (l .marks) _ 1 ∙ l .inv .2, rw (c .mask-at .ensures .0) (rw (range-turn _ (l .j) (c .before .loop-test .taken)) at (l .inv .3)))
 
 pub mark-masks-spec : {M : Type 1} → statement M
 mark-masks-spec =
@@ -59,4 +50,4 @@ mark-masks-spec =
     (λ c. search needs) (λ c. omega arith)
     loop-again
     (λ c. c .before .loop .inv .2)
-    returns)
+    (λ c. rw (range-end _ (c .before .loop .j) (c .loop-test .left)) at (c .before .loop .inv .3)))

@@ -1,6 +1,4 @@
 -- Words fit.
-use native.Mathlib.Omega.{arith}
-use borrow.Author.Needs.{needs}
 use Rattle.reach.proofs.reach.propagate_gate.Statement.{statement}
 use Rattle.reach.proofs.reach.propagate_gate.Tie as tie
 

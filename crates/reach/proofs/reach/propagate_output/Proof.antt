@@ -1,12 +1,10 @@
 -- An output without a mark is left; another hands its mark to M, to every U and to every W.
 use mathlib.Core.Path.{_≡_, ap, _∙_}
-use Prim.Native.Nat.{_+_, _<_}
+use Prim.Native.Nat.{_+_}
 use borrow.Author.Needs.{needs}
 use native.Mathlib.Omega.{arith}
 use lib.ListN.{length, length-set}
 use borrow.Author.Tests.{lt-ltb}
-use Rattle.circuit.specs.Lists.{nth}
-use Rattle.gadgets.specs.Internal.Places.{outAt}
 use Rattle.reach.proofs.reach.propagate_output.Statement.{statement}
 use Rattle.reach.proofs.reach.propagate_output.Tie as tie
 use Rattle.reach.proofs.Moved.{out-handed}
@@ -23,12 +21,6 @@ once c = c .mark-six-apart .kept .0 ∙ simp length-set
 twice : (c : tie.After-mark-six-apart2) → length (c .mark-six-apart2 .last .0) ≡ length (c .before .before .before .before .before .before .before .before .before .before .before .before .args .marks .now)
 twice c = c .mark-six-apart2 .kept .0 ∙ once (c .before .before .before .before)
 
-returns : tie.Need-returns
-returns c =
-    let a = c .before .before .before .before .args in
-    let low : nth (a .marks .now) (outAt (a .d) (a .first) (a .i)) < 1 = rw (← c .before .before .out-at .ensures .0) (c .if1 .taken) in
-    rw (lt-ltb _ 1 low)
-
 returns-2 : tie.Need-returns-2
 returns-2 c =
     let m = c .before .before .before .before .before .before in
@@ -43,7 +35,7 @@ propagate-output-spec =
     (tie.spec
     (λ c κs. (c .before .pre .0, c .before .pre .1))
     (λ c. omega (arith, c .before .out-at .ensures .0))
-    returns
+    (λ c. rw (← c .before .before .out-at .ensures .0, lt-ltb _ 1 (c .if1 .taken)))
     (λ c κs. (c .before .before .before .before .pre .0, omega arith))
     (λ c. search needs)
     (λ c. omega (arith, share (c .before .before .before .before .before), c .product-at .ensures .0))

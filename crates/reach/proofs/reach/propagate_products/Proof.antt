@@ -1,6 +1,6 @@
 -- The loop's invariant: the marks of the shares from i on are moved on.
-use mathlib.Core.Path.{_≡_, refl, ap}
-use Prim.Native.Nat.{_+_, _-_, _≤_, _<_}
+use mathlib.Core.Path.{refl}
+use Prim.Native.Nat.{_-_, _≤_, _<_}
 use native.Mathlib.Omega.{arith}
 use borrow.Author.Needs.{needs}
 use Rattle.reach.proofs.reach.propagate_products.Statement.{statement}
@@ -8,7 +8,7 @@ use Rattle.reach.proofs.reach.propagate_products.Tie as tie
 use Rattle.gadgets.specs.Internal.Places.{wordA, wordB, productAt}
 use Rattle.gadgets.specs.Internal.Gates.{ProductsGates}
 use Rattle.reach.specs.Internal.Marks.{Moves}
-use Rattle.reach.proofs.Moved.{moves-none, moves-at, products-moved, below-is}
+use Rattle.reach.proofs.Moved.{moves-none, moves-at, products-moved}
 use Rattle.gadgets.proofs.Slots.{ShareOf, share-of}
 
 abbrev Inv-loop : tie.InvT-loop
@@ -27,16 +27,6 @@ below c = omega (arith, c .before .loop .inv .0)
 share : (c : tie.In-loop Inv-loop μ-loop) → ShareOf (start c .args .d) (start c .args .first) (c .before .loop .i - 1)
 share c = share-of _ _ _ (start c .pre .0 .2) (below c)
 
-propagate-requires : tie.Need-propagate-requires Inv-loop μ-loop
-propagate-requires c κs =
-    let w = c .before .before in
-    let t = w .before in
-    let early = start t .pre .3 (t .before .loop .i - 1) (below t) in
-    let q = share t in
-    let size = t .before .loop .inv .1 .size in
-    let at = c .before .product-at .ensures .0 in
-    (omega (arith, start t .pre .1), omega (arith, start t .pre .1, w .word-a .ensures), omega (arith, start t .pre .1))
-
 loop-again : tie.Need-loop-again Inv-loop μ-loop
 loop-again c =
     let p = c .before .before .before .before in
@@ -54,8 +44,9 @@ propagate-products-spec =
     (λ c. omega arith) (λ c κs. omega arith)
     (λ c κs. (start (c .before) .pre .0, omega (arith, below (c .before))))
     (λ c. search needs)
-    propagate-requires
+    (λ c κs. let t = c .before .before .before in
+    omega (arith, share t, start t .pre .1, start t .pre .3 (t .before .loop .i - 1) (below t), t .before .loop .inv .1 .size, c .before .before .word-a .ensures, c .before .product-at .ensures .0))
     (λ c. omega arith)
     loop-again
     (λ c. c .before .loop .inv .1 .size)
-    (λ c. let a = c .before .before .before .before .args in moves-at (ap (productAt (a .d) (a .first)) (below-is _ 0 (omega arith) (c .loop-test .left))) refl (c .before .loop .inv .1)))
+    (λ c. moves-at (omega arith) refl (c .before .loop .inv .1)))

@@ -1,8 +1,7 @@
 -- The loop's invariant: the marks of the share i and each from j on are moved on.
 use mathlib.Core.Path.{_≡_, refl, ap}
-use Prim.Native.Nat.{_+_, _-_, _*_, _≤_, _<_}
+use Prim.Native.Nat.{_-_, _≤_, _<_}
 use native.Mathlib.Omega.{arith}
-use borrow.Author.Needs.{needs}
 use Rattle.reach.proofs.reach.propagate_row.Statement.{statement}
 use Rattle.reach.proofs.reach.propagate_row.Tie as tie
 use Rattle.gadgets.specs.Internal.Places.{wordA, wordB, crossAt}
@@ -32,16 +31,11 @@ site c = sites _ _ _ _ (start c .pre .0 .2) (start c .pre .1) (below c) (apart c
 
 propagate-cross-requires : tie.Need-propagate-cross-requires Inv-loop μ-loop
 propagate-cross-requires c κs =
-    let p = c .before .before in
-    let w = p .before in
-    let t = w .before in
-    let s = start t in
-    let q = site t in
-    let one = s .pre .7 (s .args .i) (s .pre .1) in
-    let two = s .pre .8 (t .before .loop .j - 1) (below t) in
-    let at = c .cross-at .ensures .0 in
-    let size = t .before .loop .inv .2 .size in
-    (omega (arith, s .pre .3), omega (arith, t .before .before .word-a .ensures), omega (arith, w .word-b .ensures), omega (arith, p .pair-at .ensures .0))
+    let t = c .before .before .before .before in
+    let p = start t .pre in
+    let one = p .7 (start t .args .i) (p .1) in
+    let two = p .8 (t .before .loop .j - 1) (below t) in
+    omega (arith, site t, p .3, t .before .loop .inv .2 .size, t .before .before .word-a .ensures, c .before .before .before .word-b .ensures, c .before .before .pair-at .ensures .0, c .cross-at .ensures .0)
 
 loop-again : tie.Need-loop-again Inv-loop μ-loop
 loop-again c =
@@ -56,12 +50,6 @@ loop-again c =
           (x .cross-at .ensures .0) (p .pair-at .ensures .0) (t .before .before .word-a .ensures) (w .word-b .ensures) (c .before .before .propagate-cross .ensures),
     )
 
-returns : tie.Need-returns Inv-loop μ-loop
-returns c =
-    let l = c .before .loop in
-    let a = c .before .before .before .before .before .args in
-    moves-at (ap (crossAt (a .d) (a .first) (a .i)) (below-is (l .j) (a .from) (l .inv .0) (c .loop-test .left))) refl (l .inv .2)
-
 pub propagate-row-spec : {M : Type 1} → statement M
 propagate-row-spec =
     tie.close
@@ -72,10 +60,10 @@ propagate-row-spec =
     (λ c. (c .before .before .before .pre .5, omega arith, moves-none _ _))
     (λ c. omega arith)
     (λ c κs. omega (arith, below c))
-    (λ c κs. let s = start (c .before) in (s .pre .0, s .pre .1, below (c .before)))
+    (λ c κs. (start (c .before) .pre .0, start (c .before) .pre .1, below (c .before)))
     (λ c κs. let t = c .before .before .before in (start t .pre .0, start t .pre .1, below t))
     propagate-cross-requires
     (λ c. omega arith)
     loop-again
     (λ c. c .before .loop .inv .2 .size)
-    returns)
+    (λ c. moves-at (ap (crossAt _ _ _) (below-is _ _ (c .before .loop .inv .0) (c .loop-test .left))) refl (c .before .loop .inv .2)))

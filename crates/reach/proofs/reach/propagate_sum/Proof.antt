@@ -1,14 +1,11 @@
 -- A sum without a mark is left; another hands its mark to the share's wire and to its random bits, those below i and those above.
 use mathlib.Core.Path.{_≡_, _∙_}
-use Prim.Native.Nat.{_+_, _<_}
 use borrow.Author.Needs.{needs}
 use native.Mathlib.Omega.{arith}
 use lib.ListN.{length, length-set}
 use borrow.Author.Tests.{lt-ltb}
-use Rattle.circuit.specs.Lists.{nth}
 use Rattle.reach.proofs.reach.propagate_sum.Statement.{statement}
 use Rattle.reach.proofs.reach.propagate_sum.Tie as tie
-use Rattle.gadgets.specs.Internal.Places.{sumAt}
 use Rattle.reach.proofs.Moved.{sum-handed}
 
 -- the marks keep their number
@@ -17,17 +14,6 @@ once c = c .mark-masks .kept .0 ∙ simp length-set
 
 twice : (c : tie.After-mark-masks2) → length (c .mark-masks2 .last .0) ≡ length (c .before .before .before .before .before .before .before .before .before .before .args .marks .now)
 twice c = c .mark-masks2 .kept .0 ∙ once (c .before .before .before .before)
-
-returns : tie.Need-returns
-returns c =
-    let a = c .before .before .before .before .args in
-    let low : nth (a .marks .now) (sumAt (a .d) (a .first) (a .i)) < 1 = rw (← c .before .before .sum-at .ensures .0) (c .if1 .taken) in
-    rw (lt-ltb _ 1 low)
-
-mark-masks-requires-2 : tie.Need-mark-masks-requires-2
-mark-masks-requires-2 c κs =
-    let p = c .before .before .before .before .before .before .before .before .before .pre in
-    (p .0, p .1, omega arith, omega (arith, once (c .before .before .before), p .3), (λ j l u e. omega arith), omega arith)
 
 returns-2 : tie.Need-returns-2
 returns-2 c =
@@ -43,11 +29,11 @@ propagate-sum-spec =
     (tie.spec
     (λ c κs. (c .before .pre .0, omega arith))
     (λ c. omega (arith, c .before .sum-at .ensures .0))
-    returns
+    (λ c. rw (← c .before .before .sum-at .ensures .0, lt-ltb _ 1 (c .if1 .taken)))
     (λ c. omega arith)
-    (λ c κs. let p = c .before .before .before .before .before .pre in (p .0, p .1, omega arith, simp length-set (omega (arith, p .3)), (λ j l u e. omega arith), omega arith))
+    (λ c κs. simp length-set (omega (arith, c .before .before .before .before .before .pre)))
     (λ c. search needs)
-    mark-masks-requires-2
+    (λ c κs. omega (arith, once (c .before .before .before), c .before .before .before .before .before .before .before .before .before .pre))
     (λ c. omega (arith, twice (c .before .before), c .before .before .before .before .before .before .before .before .before .before .sum-at .ensures .0))
     (λ c. simp length-set (twice (c .before .before)))
     returns-2)

@@ -1,6 +1,6 @@
 -- Each arm moves the marks of its frame: a gate that is a stop keeps its mark, others hand it to the wires that they take.
 use mathlib.Core.Path.{_≡_, refl, ap, subst, _∙_}
-use mathlib.Core.List.{[], _∷_}
+use mathlib.Core.List.{[]}
 use Prim.Native.Nat.{_+_, _≤_}
 use native.Mathlib.Omega.{arith}
 use lib.ListN.{length}
@@ -29,16 +29,6 @@ entry c = c .before .before .before .before .before
 asked-gate : (c : tie.After-known-told) {g : GateCode} → c .before .frame .given .0 .0 ≡ g → Asked (entry c) (frame.Gate g)
 asked-gate c e = asked (entry c) (c .before .frame .given .1 ∙ ap frame.Gate e)
 
-returns-3 : tie.Need-returns-3
-returns-3 c =
-    let g = c .before .before .before .before .before in
-    rw (g .before .before .before .frame .given .1, g .gate .given .1, c .before .before .propagate-gate .ensures) (λ from. moves-gate _ (sum (g .gate .given .0 .0 ∷ g .gate .given .0 .1 .0 ∷ [])) _ refl (λ g h. h))
-
-returns-4 : tie.Need-returns-4
-returns-4 c =
-    let g = c .before .before .before .before .before in
-    rw (g .before .before .before .frame .given .1, g .gate2 .given .1, c .before .before .propagate-gate2 .ensures) (λ from. twice-moved _ (g .gate2 .given .0 .0) _ (λ g h. h))
-
 pub propagate-frame-spec : {M : Type 1} → statement M
 propagate-frame-spec =
     tie.close
@@ -54,9 +44,11 @@ propagate-frame-spec =
     (λ c. rw (c .before .before .before .frame .given .1, c .enum-told .given .1) (λ from. moves-stops _ _ _ (λ g h q l. ap isStop (h q l))))
     (λ c. rw (c .before .before .before .frame .given .1, c .enum-told2 .given .1) (λ from. moves-stop _ _ (λ g h. ap isStop h)))
     (λ c. c .before .before .propagate-gate .kept .0)
-    returns-3
+    (λ c. let g = c .before .before .before .before .before in
+    rw (g .before .before .before .frame .given .1, g .gate .given .1, c .before .before .propagate-gate .ensures) (λ from. moves-gate _ (sum _) _ refl (λ g h. h)))
     (λ c. c .before .before .propagate-gate2 .kept .0)
-    returns-4
+    (λ c. let g = c .before .before .before .before .before in
+    rw (g .before .before .before .frame .given .1, g .gate2 .given .1, c .before .before .propagate-gate2 .ensures) (λ from. twice-moved _ _ _ (λ g h. h)))
     (λ c. rw (c .before .before .before .frame .given .1, c .enum-told3 .given .1) (λ from. moves-stop _ _ (λ g h. ap isStop h)))
     (λ c. rw (c .before .before .before .frame .given .1, c .enum-told4 .given .1) (λ from. moves-at refl (omega arith) (moves-none _ _)))
     (λ c. c .before .before .propagate-and .ensures .size)

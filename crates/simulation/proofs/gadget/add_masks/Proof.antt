@@ -1,6 +1,6 @@
 -- The loop's invariant: the random bits of the share i and each below j are added.
 use mathlib.Core.Path.{_≡_}
-use Prim.Native.Nat.{_+_, _-_, _<_}
+use Prim.Native.Nat.{_-_, _<_}
 use native.Mathlib.Omega.{arith}
 use borrow.Author.Needs.{needs}
 use Rattle.simulation.proofs.gadget.add_masks.Statement.{statement}
@@ -24,12 +24,6 @@ below c = omega (arith, start c .pre .2)
 apart : (c : tie.In-loop Inv-loop μ-loop) → c .before .loop .j ≡ start c .args .i → ⊥
 apart c = start c .pre .4 (c .before .loop .j) (c .before .loop .inv .low) (c .loop-test .taken)
 
-shared-slice-read-sum : tie.Need-shared-slice-read-sum Inv-loop μ-loop
-shared-slice-read-sum c =
-    let t = c .before .before in
-    let a = start t .args in
-    omega (arith, c .before .mask-at .ensures .0, mask-lt (a .d) (a .first) (a .i) (t .before .loop .j) (start t .pre .1) (below t) (apart t), start t .pre .3)
-
 pub add-masks-spec : {M : Type 1} → statement M
 add-masks-spec =
     tie.close
@@ -38,7 +32,7 @@ add-masks-spec =
     μ-loop
     (λ c. masks-start (c .before .pre .5))
     (λ c κs. (start c .pre .0, start c .pre .1, below c))
-    shared-slice-read-sum
+    (λ c. let t = c .before .before in omega (arith, c .before .mask-at .ensures .0, mask-lt _ (start t .args .first) _ _ (start t .pre .1) (below t) (apart t), start t .pre .3))
     (λ c. search needs) (λ c. omega arith)
     (λ c. let t = c .before .before in masks-turn (t .before .loop .inv) (start t .pre .1) (below t) (apart t) (t .loop-test .taken) _ (c .before .mask-at .ensures .0))
     (λ c. masks-end (c .before .loop .inv) (c .loop-test .left)))

@@ -1,10 +1,8 @@
 -- The loop's invariant: the bits below q are copied.
-use mathlib.Core.Path.{refl, sym, ap, _∙_}
+use mathlib.Core.Path.{refl}
 use Prim.Native.Nat.{_+_, _-_, _≤_}
 use borrow.Author.Needs.{needs}
 use native.Mathlib.Omega.{arith}
-use Rattle.circuit.specs.Lists.{nth}
-use Rattle.semantics.specs.Values.{byte}
 use Rattle.simulation.proofs.gadget.copy.Statement.{statement}
 use Rattle.simulation.proofs.gadget.copy.Tie as tie
 use Rattle.gadgets.proofs.Bits.{set-byte}
@@ -22,8 +20,7 @@ loop-again c =
     let a = c .before .before .before .args in
     let q = c .before .before .loop .q in (
       omega arith,
-      fills-at refl (omega arith) (fills-set (nth (a .bits .now) (a .from + q)) (c .before .before .loop .inv .1) (omega arith) (omega arith)
-          (λ v e k. set-byte (nth (a .bits .now) (a .from + q)) (c .before .before .before .pre .2 (a .from + q)) ∙ ap byte (sym (e q (c .before .loop-test .taken))))),
+      fills-set _ (omega arith) (λ v e k. rw (e q (c .before .loop-test .taken)) (set-byte _ (c .before .before .before .pre .2 (a .from + q)))) (c .before .before .loop .inv .1),
     )
 
 pub copy-spec : {M : Type 1} → statement M

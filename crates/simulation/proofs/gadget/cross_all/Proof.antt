@@ -1,5 +1,5 @@
 -- The loop's invariant: the rows of the shares below i are filled in, and so are their outputs.
-use mathlib.Core.Path.{_≡_, ap}
+use mathlib.Core.Path.{ap}
 use Prim.Native.Nat.{_+_, _-_, _<_}
 use native.Mathlib.Omega.{arith}
 use borrow.Author.Needs.{needs}

@@ -1,12 +1,9 @@
 -- The loop's invariant: r and R of the pairs below q are filled in.
-use mathlib.Core.Path.{_≡_, refl, sym, ap, _∙_}
+use mathlib.Core.Path.{refl}
 use Prim.Native.Nat.{_+_, _-_, _*_, _≤_}
 use borrow.Author.Needs.{needs}
 use native.Mathlib.Omega.{arith}
 use lib.ListN.{length-set}
-use Rattle.circuit.specs.Lists.{nth}
-use Rattle.circuit.specs.Circuit.{isSet}
-use Rattle.semantics.specs.Values.{byte}
 use Rattle.simulation.proofs.gadget.draws.Statement.{statement}
 use Rattle.simulation.proofs.gadget.draws.Tie as tie
 use Rattle.gadgets.proofs.Bits.{set-byte}
@@ -23,11 +20,10 @@ loop-again : tie.Need-loop-again Inv-loop μ-loop
 loop-again c =
     let a = c .before .before .before .args in
     let q = c .before .before .loop .q in
-    let bit = nth (a .tape .now) (a .used + q) in
-    let is : bit ≡ byte (isSet bit) = set-byte bit (c .before .before .before .pre .2 (a .used + q)) in (
+    let is = set-byte _ (c .before .before .before .pre .2 (a .used + q)) in (
       omega arith,
-      fills-at refl (omega arith) (fills-set bit (fills-set bit (c .before .before .loop .inv .1) (omega arith) (omega arith) (λ v e k. is ∙ ap byte (sym (e q (c .before .loop-test .taken) .0))))
-          (omega arith) (omega arith) (λ v e k. is ∙ ap byte (sym (e q (c .before .loop-test .taken) .1)))),
+      fills-set _ (omega arith) (λ v e k. rw (e q (c .before .loop-test .taken) .1) is)
+          (fills-set _ (omega arith) (λ v e k. rw (e q (c .before .loop-test .taken) .0) is) (c .before .before .loop .inv .1)),
     )
 
 pub draws-spec : {M : Type 1} → statement M

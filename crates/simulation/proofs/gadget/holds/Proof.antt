@@ -1,8 +1,7 @@
 -- The loop's invariant: the outputs of the shares below i are filled in.
-use mathlib.Core.Path.{_≡_, refl}
-use Prim.Native.Nat.{_+_, _-_, _≤_, _<_}
+use mathlib.Core.Path.{refl}
+use Prim.Native.Nat.{_+_, _-_, _≤_}
 use native.Mathlib.Omega.{arith}
-use lib.ListN.{length}
 use borrow.Author.Needs.{needs}
 use Rattle.circuit.specs.Kinds.{pairs}
 use Rattle.simulation.proofs.gadget.holds.Statement.{statement}

@@ -1,10 +1,9 @@
 -- The loop's invariant: the wires of the shares below i are filled in.
-use mathlib.Core.Path.{_≡_, refl}
+use mathlib.Core.Path.{refl}
 use Prim.Native.Nat.{_+_, _-_, _≤_, _<_}
 use native.Mathlib.Omega.{arith}
 use lib.ListN.{length, length-set}
 use borrow.Author.Needs.{needs}
-use Rattle.circuit.specs.Lists.{nth}
 use Rattle.simulation.proofs.gadget.share_products.Statement.{statement}
 use Rattle.simulation.proofs.gadget.share_products.Tie as tie
 use Rattle.simulation.specs.Internal.Filling.{Fills, ShareProducts}

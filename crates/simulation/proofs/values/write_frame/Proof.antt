@@ -29,30 +29,12 @@ entry c = c .before .before .before .before .before .before .before
 asked-gate : (c : tie.After-known-told) {g : GateCode} → c .before .frame .given .0 .0 ≡ g → Asked (entry c) (frame.Gate g)
 asked-gate c e = asked (entry c) (c .before .frame .given .1 ∙ ap frame.Gate e)
 
-copy-requires : tie.Need-copy-requires
-copy-requires c κs =
-    let g = c .before .before .before in
-    let q = asked-gate g (c .before .enum-told .given .1) in
-    (q .0, q .2, entry g .pre .4)
-
-and-requires : tie.Need-and-requires
-and-requires c κs =
-    let s = c .before .before .before .before .before .before .before in
-    let q = asked s (c .before .enum-told3 .given .1) in
-    (s .pre .0, q .1 .0, q .1 .1, q .1 .2, omega (arith, q .0), q .2, s .pre .5)
-
-refresh-requires : tie.Need-refresh-requires
-refresh-requires c κs =
-    let s = c .before .before .before .before .before .before .before in
-    let q = asked s (c .before .enum-told4 .given .1) in
-    (s .pre .0, q .1 .0, q .1 .1, omega (arith, q .0), q .2, s .pre .5)
-
 pub write-frame-spec : {M : Type 1} → statement M
 write-frame-spec =
     tie.close
     (tie.spec
     (λ c. search needs) (λ c. search needs)
-    copy-requires
+    (λ c κs. let g = c .before .before .before in let q = asked-gate g (c .before .enum-told .given .1) in (q .0, q .2, entry g .pre .4))
     (λ c. search needs)
     (λ c κs. asked-gate (c .before .before .before .before) (c .before .before .gate .given .1) .0)
     (λ c. search needs)
@@ -62,9 +44,11 @@ write-frame-spec =
     (λ c. search needs)
     (λ c κs. let q = asked-gate (c .before .before .before .before) (c .before .before .gate4 .given .1) in (q .0, q .1))
     (λ c. search needs) (λ c. search needs)
-    and-requires
+    (λ c κs. let s = c .before .before .before .before .before .before .before in let q = asked s (c .before .enum-told3 .given .1) in
+    (s .pre .0, q .1 .0, q .1 .1, q .1 .2, omega (arith, q .0), q .2, s .pre .5))
     (λ c. search needs)
-    refresh-requires
+    (λ c κs. let s = c .before .before .before .before .before .before .before in let q = asked s (c .before .enum-told4 .given .1) in
+    (s .pre .0, q .1 .0, q .1 .1, omega (arith, q .0), q .2, s .pre .5))
     (λ c. c .before .before .copy .ensures .size)
     (λ c. rw (c .before .before .before .before .before .before .before .frame .given .1, c .before .before .before .before .enum-told .given .1) (c .before .before .copy .ensures))
     (λ c. c .before .before .constant .ensures .size)

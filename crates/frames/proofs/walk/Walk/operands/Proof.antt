@@ -2,6 +2,7 @@
 use mathlib.Core.List.{[]}
 use mathlib.Core.Path.{_≡_, sym, ap, _∙_}
 use Prim.Native.Nat.{_+_, _-_}
+use native.Mathlib.Nat.{sub-self}
 use native.Mathlib.Omega.{arith}
 use lib.ListN.{length, take, drop, length-drop, drop-of-length-le}
 use lib.Seq.{take-all, take-nil}
@@ -20,10 +21,8 @@ words-are c = ap (λ s. s .words) (c .decide .ensures .0)
 returns : tie.Need-returns
 returns c =
     let a = c .before .before .before .args in
-    let table = a .table .now in
-    let e : length table - length table ≡ 0 = omega arith in
-    let none : drop (a .self .at + 1) table ≡ [] = drop-of-length-le table {i = a .self .at + 1} (omega arith) in
-    rw (e, none) (sym (take-nil (words (a .self .d) (kindOf (nth table (a .self .at))))))
+    let none : drop (a .self .at + 1) (a .table .now) ≡ [] = drop-of-length-le (a .table .now) {i = a .self .at + 1} (omega arith) in
+    rw (sub-self (length (a .table .now)), none) (sym (take-nil (words (a .self .d) (kindOf (nth (a .table .now) (a .self .at))))))
 
 returns-2 : tie.Need-returns-2
 returns-2 c =

@@ -48,18 +48,13 @@ returns-4 c =
     let b = f .before .before .before in
     rw (lt-ltb _ _ (b .before .before .before .if1 .left), le-leb _ _ (b .before .if2 .left), le-leb _ _ (b .if3 .left), framed-short _ _ (rest f) (sym (c .enum-told .given .1) ∙ found f))
 
-add-end : tie.Need-add-end
-add-end c =
-    let f = c .before .before .before in
-    record { fits = omega (arith, whole f (c .before .framed .given .1) .0, ap (λ s. s .words) (decided f), length-drop (start f .args .self .at + 1) (start f .args .table .now)) }
-
 returns-5 : tie.Need-returns-5
 returns-5 c =
     let f = c .before .before .before in
     let b = f .before .before .before in
     let (all, same) = whole f (c .before .framed .given .1) in
     rw (lt-ltb _ _ (b .before .before .before .if1 .left), le-leb _ _ (b .before .if2 .left), le-leb _ _ (b .if3 .left), le-leb _ _ all)
-    (ap₂ (λ f s. Next f s (behind (shares (c .before .before .before)) (start (c .before .before .before) .args .self .at) (s .words))) (same ∙ frame-part (shares f) (kind f) (rest f) all) (decided f))
+    (ap₂ (λ f s. Next f s (behind (shares (c .before .before .before)) (start (c .before .before .before) .args .self .at) (s .words))) (same ∙ frame-part (shares f) (kind f) (rest f)) (decided f))
 
 pub step-spec : {M : Type 1} → statement M
 step-spec =
@@ -71,6 +66,7 @@ step-spec =
     (λ c. rw (lt-ltb _ _ (c .before .before .before .if1 .left), le-leb _ _ (c .before .if2 .left), lt-leb _ _ (c .if3 .taken)))
     (λ c. search needs) (λ c. search needs) (λ c. search needs) (λ c. search needs) (λ c. search needs)
     (λ c κs. search needs) (λ c κs. search needs) (λ c. search needs) (λ c. search needs)
-    add-end
+    (λ c. let f = c .before .before .before in
+    omega (arith, whole f (c .before .framed .given .1) .0, ap (λ s. s .words) (decided f), length-drop (start f .args .self .at + 1) (start f .args .table .now)))
     returns-4
     returns-5)
