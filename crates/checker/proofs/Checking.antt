@@ -25,7 +25,7 @@ use Rattle.frames.specs.declared.walk.Step.the-variants.{End, Next, Refused as 
 use Rattle.checker.specs.declared.frame.Tally.{Tally}
 use Rattle.checker.specs.Answers.{answerOf}
 use Rattle.frames.specs.Walk.{shapeCode, behind, stepAt}
-use Rattle.checker.specs.Internal.Adding.{tallyOf, headNumber}
+use Rattle.checker.specs.Internal.Adding.{headAlone, tallyOf, headNumber}
 use Rattle.checker.proofs.Spots.{judged, judged-refuse}
 use Rattle.checker.proofs.Represented.{Labelled}
 
@@ -71,7 +71,7 @@ pub headed : (table : List ℕ) (room : ℕ) → headNumber table room ≡ 0 →
 headed table room e = head-pass table room (head-judged table room ∙ ap (λ n. judged n 0 (n / 4)) e)
 
 pub start : (table notes : List ℕ) → headNumber table (length notes) ≡ 0
-    → Walking table notes notes (nth table 1) (record { d = nth table 1; at = 2 }) (record { frames = 1; wires = 0; randoms = 0; latency = 0; inputs = 0 })
+    → Walking table notes notes (nth table 1) (record { d = nth table 1; at = 2 }) headAlone
 unfolding checked notesAfter
 start table notes e =
     let h = headed table (length notes) e in

@@ -46,7 +46,7 @@ fn put_one(label: u16, stage: usize, wires: usize, notes: &mut [u16]) -> Spot
             inner: 0,
             named: 1,
             label: label as usize,
-            stage: stage,
+            stage,
         },
         wires,
         notes,
@@ -70,7 +70,7 @@ fn row_rule(
         let rule = notes::wire_rule(notes, wires, row[i], i as u16, stage, ahead);
         if rule != 0 {
             return Spot {
-                rule: rule,
+                rule,
                 word: word + i,
             };
         }
@@ -138,10 +138,7 @@ pub(crate) fn sum(first: u16, second: u16, wires: usize, notes: &mut [u16]) -> S
         Found::Named { label, stage } => {
             let rule = notes::wire_rule(notes, wires, second, label, stage as usize, 0);
             if rule != 0 {
-                return Spot {
-                    rule: rule,
-                    word: 2,
-                };
+                return Spot { rule, word: 2 };
             }
             put_one(label, stage as usize, wires, notes)
         }
@@ -176,7 +173,7 @@ pub(crate) fn row(ops: &[u16], stage: usize, wires: usize, notes: &mut [u16]) ->
             inner: 0,
             named: 0,
             label: 0,
-            stage: stage,
+            stage,
         },
         wires,
         notes,
@@ -190,7 +187,7 @@ fn put_gadget(inner: usize, d: usize, stage: usize, wires: usize, notes: &mut [u
 {
     put(
         Made {
-            inner: inner,
+            inner,
             named: d,
             label: 0,
             stage: stage + 1,

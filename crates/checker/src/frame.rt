@@ -1,7 +1,7 @@
 // A frame added to the circuit so far.
 ghost use mathlib.Core.Path.{_≡_};
 ghost use Prim.Native.Nat.{_-_};
-ghost use Rattle.checker.specs.Internal.Adding.{larger as largerOf, numbers, addedBy, Bounded, Fitting, FrameOf, Adds};
+ghost use Rattle.checker.specs.Internal.Adding.{headAlone, larger as largerOf, numbers, addedBy, Bounded, Fitting, FrameOf, Adds};
 use super::forms;
 use super::forms::Spot;
 use frames::kinds::Form;
@@ -20,6 +20,19 @@ pub struct Tally {
 pub enum Added {
     Next(Tally),
     Refused(Spot),
+}
+
+// HEAD by itself.
+pub(crate) fn head_alone() -> Tally
+    ensures { λ r. ⌜ r ≡ headAlone ⌝ }
+{
+    Tally {
+        frames: 1,
+        wires: 0,
+        randoms: 0,
+        latency: 0,
+        inputs: 0,
+    }
 }
 
 // a less b, 0 where b is the larger.
@@ -53,7 +66,7 @@ fn grown(
             frames: tally.frames + 1,
             wires: tally.wires + wires,
             randoms: tally.randoms + randoms,
-            latency: latency,
+            latency,
             inputs: tally.inputs + inputs,
         })
     } else {

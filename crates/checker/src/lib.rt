@@ -48,11 +48,7 @@ fn accepted(tally: Tally) -> Verdict
 fn refused(rule: usize, frame: usize, word: usize) -> Verdict
     ensures { λ r. ⌜ r ≡ Verdict.Refused rule frame word ⌝ }
 {
-    Verdict::Refused {
-        rule: rule,
-        frame: frame,
-        word: word,
-    }
+    Verdict::Refused { rule, frame, word }
 }
 
 // The first of rules 1 to 4 that a table and notes of so many words break; 0 for none.
@@ -88,14 +84,8 @@ fn check_frames(table: &[u16], notes: &mut [u16]) -> Verdict
     ensures inputs { λ r. ⌜ inputsAre r (checked (now (table .entry)) (length (now (notes .entry))) .circuit .inputs) ⌝ }
 {
     let d = table[1];
-    let mut walk = Walk { d: d, at: 2 };
-    let mut tally = Tally {
-        frames: 1,
-        wires: 0,
-        randoms: 0,
-        latency: 0,
-        inputs: 0,
-    };
+    let mut walk = Walk { d, at: 2 };
+    let mut tally = frame::head_alone();
     let mut broken = Spot { rule: 0, word: 0 };
     let mut going = true;
     while going {
@@ -105,10 +95,7 @@ fn check_frames(table: &[u16], notes: &mut [u16]) -> Verdict
                 going = false;
             }
             Step::Refused { rule } => {
-                broken = Spot {
-                    rule: rule,
-                    word: 0,
-                };
+                broken = Spot { rule, word: 0 };
                 going = false;
             }
             Step::Next {

@@ -38,7 +38,7 @@ pub(crate) fn look_up(notes: &[u16], wires: usize, wire: u16) -> Found
         return Found::Inner;
     }
     Found::Named {
-        label: label,
+        label,
         stage: notes[2 * w + 1],
     }
 }

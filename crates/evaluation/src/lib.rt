@@ -22,9 +22,9 @@ fn refusal(rule: usize, word: usize) -> Verdict
     ensures { λ r. ⌜ answerOf r ≡ refusedAnswer rule 0 word ⌝ }
 {
     Verdict::Refused {
-        rule: rule,
+        rule,
         frame: 0,
-        word: word,
+        word,
     }
 }
 

@@ -58,12 +58,12 @@ fn kind_line(
     ensures { λ r. ⌜ r ≡ kindLine kind form words wires randoms inputs ⌝ }
 {
     Shape {
-        kind: kind,
-        form: form,
-        words: words,
-        wires: wires,
-        randoms: randoms,
-        inputs: inputs,
+        kind,
+        form,
+        words,
+        wires,
+        randoms,
+        inputs,
     }
 }
 

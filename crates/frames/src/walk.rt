@@ -166,9 +166,9 @@ impl Walk {
             Framed::Whole(frame) => {
                 let end = start + words;
                 Step::Next {
-                    frame: frame,
-                    shape: shape,
-                    walk: Walk { d: d, at: end },
+                    frame,
+                    shape,
+                    walk: Walk { d, at: end },
                 }
             }
         }

@@ -19,9 +19,9 @@ fn judge(text: &[u8], table: &mut [u16], notes: &mut [u16]) -> Verdict
     match read {
         TextVerdict::Accepted { words } => checker::check(&table[..words], notes),
         TextVerdict::Refused { rule, line, word } => Verdict::Refused {
-            rule: rule,
+            rule,
             frame: line,
-            word: word,
+            word,
         },
     }
 }

@@ -110,7 +110,7 @@ fn propagate_frames(
     while 0 < i {
         i -= 1;
         let walk = Walk {
-            d: d,
+            d,
             at: starts[i] as usize,
         };
         let step = walk.step(table);

@@ -102,7 +102,7 @@ pub fn fill(table: &[u16], shares: &[u8], tape: &[u8], values: &mut [u8])
 {
     let d = table[1];
     let n = d as usize;
-    let mut walk = Walk { d: d, at: 2 };
+    let mut walk = Walk { d, at: 2 };
     let mut first = 0;
     let mut from = 0;
     let mut used = 0;

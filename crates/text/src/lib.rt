@@ -84,7 +84,7 @@ fn read_frames(
         if taken == 0 {
             return TextVerdict::Refused {
                 rule: rules::frame_rule(codes, text, at, &lengths, stored, room),
-                line: line,
+                line,
                 word: 0,
             };
         }

@@ -31,7 +31,7 @@ abbrev top : tie.After-step Inv-loop μ-loop → tie.At-loop Inv-loop μ-loop
 top c = c .before .before
 
 abbrev entry : tie.At-loop Inv-loop μ-loop → tie.Start Inv-loop μ-loop
-entry c = c .before .before .before .before
+entry c = c .before .before .before .before .before
 
 abbrev table : tie.After-step Inv-loop μ-loop → List ℕ
 table c = entry (top c) .args .table .now
@@ -95,7 +95,8 @@ check-frames-spec =
     Inv-loop
     μ-loop
     (λ c. let s = c .before .before .before in omega (arith, headed (s .args .table .now) (length (s .args .notes .now)) (s .pre) .two))
-    (λ c. let s = c .before .before .before in goes (start (s .args .table .now) (s .args .notes .now) (s .pre)) refl)
+    (λ c κs. search needs)
+    (λ c. let s = c .before .before .before .before in rw (c .head-alone .ensures) (goes (start (s .args .table .now) (s .args .notes .now) (s .pre)) refl))
     (λ c κs. search needs) (λ c. search needs)
     (λ c. rw (c .before .before .before .loop-test .taken) (omega arith))
     loop-again

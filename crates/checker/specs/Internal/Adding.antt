@@ -115,6 +115,10 @@ pub record Judges (words : Spot) (m : Made) (wires : ℕ) (old new : List ℕ) (
 abbrev pub tallyOf : (frames : ℕ) → Circuit → Tally
 tallyOf f k = record { frames = f; wires = size k; randoms = k .randoms; latency = k .latency; inputs = k .inputs }
 
+-- the counts of HEAD by itself
+abbrev pub headAlone : Tally
+headAlone = record { frames = 1; wires = 0; randoms = 0; latency = 0; inputs = 0 }
+
 -- what a frame adds to the counts: wires, random bits, INs
 pub record Numbers : Type 0 where
   pub wires : ℕ
