@@ -1,5 +1,6 @@
 -- A frame added: where its form is judged, the counts fit and the code's answer is the definition's.
 use mathlib.Core.Path.{_≡_, refl, sym, ap, ap₂, _∙_}
+use mathlib.Core.Bool.{false}
 use mathlib.Core.List.{List}
 use Prim.Native.Nat.{ℕ, zero, suc, _+_, _-_, _≤_}
 use native.Mathlib.Omega.{arith}
@@ -30,7 +31,7 @@ within words m wires = go (words .rule)
         cases (leb (m .stage) stageLimit) (λ b. absurd (omega (arith, rw (b, a) at e))) (λ b. absurd (omega (arith, rw b at e))))
 
 -- no wires are written where none are made
-pub nothing-made : (wires : ℕ) (old : List ℕ) → wires ≤ wireLimit → Judges none (wiresAt 0 0 0) wires old old none
+pub nothing-made : (wires : ℕ) (old : List ℕ) → wires ≤ wireLimit → Judges none (wiresAt 0 0 0 false) wires old old none
 unfolding innerWords namedWords
 nothing-made wires old h = let e : wires + (0 + 0) ≡ wires = omega arith in record { spot-is = rw (e, le-leb wires wireLimit h); notes-are = refl }
 

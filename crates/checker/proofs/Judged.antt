@@ -1,5 +1,6 @@
 -- A form judged, by the ways of the code: a rule broken by its words, or none; and a row, wire by wire.
 use mathlib.Core.Path.{_≡_, refl, sym, ap, ap₂, subst, _∙_}
+use mathlib.Core.Bool.{Bool}
 use mathlib.Core.List.{List, _∷_}
 use Prim.Native.Nat.{ℕ, zero, suc, _+_, _<_}
 use native.Mathlib.Omega.{arith}
@@ -33,11 +34,11 @@ module _ {m : Made} {wires : ℕ} {old : List ℕ} where
   passed-first {new} {r} first next h j = subst (λ s. Judges s m wires old new r) (sym (none-first first next h)) j
 
 -- the wires of a row from i on: that of i, then those behind it
-pub row-turn : (look : ℕ → Found) (t ahead w i : ℕ) (row : List ℕ) → i < length row
-    → rowBroken look t ahead (w + i) i (drop i row) ≡ orElse (wireNumber (look (nth row i)) i t ahead) (w + i) (rowBroken look t ahead (w + (i + 1)) (i + 1) (drop (i + 1) row))
+pub row-turn : (look : ℕ → Found) (t ahead : ℕ) (register : Bool) (w i : ℕ) (row : List ℕ) → i < length row
+    → rowBroken look t ahead register (w + i) i (drop i row) ≡ orElse (wireNumber (look (nth row i)) i t ahead register) (w + i) (rowBroken look t ahead register (w + (i + 1)) (i + 1) (drop (i + 1) row))
 unfolding rowBroken
-row-turn look t ahead w i row h =
+row-turn look t ahead register w i row h =
     let one : suc i ≡ i + 1 = omega arith in
     let two : suc (w + i) ≡ w + (i + 1) = omega arith in
-    ap (rowBroken look t ahead (w + i) i) (drop-cons row i 0 h ∙ ap (λ n. nth row i ∷ drop n row) one)
-    ∙ ap₂ (λ v j. orElse (wireNumber (look (nth row i)) i t ahead) (w + i) (rowBroken look t ahead v j (drop (i + 1) row))) two one
+    ap (rowBroken look t ahead register (w + i) i) (drop-cons row i 0 h ∙ ap (λ n. nth row i ∷ drop n row) one)
+    ∙ ap₂ (λ v j. orElse (wireNumber (look (nth row i)) i t ahead register) (w + i) (rowBroken look t ahead register v j (drop (i + 1) row))) two one

@@ -1,5 +1,6 @@
 -- What a frame adds, as the code counts and writes it: the stage, the latency, the number of wires, and their words in the notes.
 use mathlib.Core.Path.{_≡_, refl, sym, ap, ap₂, _∙_}
+use mathlib.Core.Bool.{Bool, true, false, cond}
 use mathlib.Core.List.{List, [], _∷_, _++_, map, append-assoc}
 use Prim.Native.Nat.{ℕ, zero, suc, _+_, _*_, _-_, _≤_}
 use native.Mathlib.Nat.{max-eq-left, max-eq-right}
@@ -7,22 +8,22 @@ use native.Mathlib.Omega.{arith}
 use lib.Dec.{ltb}
 use lib.ListN.{length}
 use borrow.Author.Tests.{ltb-true, ltb-false}
-use Rattle.circuit.specs.Lists.{range, nth, concatMap}
-use Rattle.circuit.specs.Wires.{Gate, input, Wire, named, inner, _placed_}
+use Rattle.circuit.specs.Limits.{registeredNote}
+use Rattle.circuit.specs.Lists.{range, nth}
+use Rattle.circuit.specs.Wires.{Gate, input, isStop, Wire, named, inner, _placed_}
 use Rattle.circuit.specs.Gadgets.{labels, Part, c, S, gate, delay, inAND, inREF, index, gadget}
 use Rattle.circuit.specs.Kinds.{Kind, HEAD, IN, CON, XOR, NOT, REG, AND, REF, OUT, pairs, shape, words}
-use Rattle.circuit.specs.Circuit.{Circuit, size, place, stageShown, newStage, made, latencyAfter}
-use Rattle.circuit.specs.Answer.{note}
+use Rattle.circuit.specs.Circuit.{Circuit, size, stageShown, newStage, made, latencyAfter, shownBy, lookUp}
+use Rattle.circuit.specs.Answer.{note, notesOf}
 use Rattle.circuit.proofs.Base.{cases}
-use Rattle.circuit.proofs.Sizes.{and-size, ref-size}
+use Rattle.circuit.proofs.Sizes.{and-size, ref-size, words-AND, words-REF, words-OUT}
 use Rattle.checker.specs.declared.notes.Made.{Made}
 use Rattle.frames.specs.declared.kinds.Form.{Form}
 use Rattle.frames.specs.declared.kinds.Form.the-variants.{ShareCount, Stage, Constant, Sum, Copy, Product, Refresh, Row}
 use Rattle.frames.specs.declared.kinds.Shape.{Shape as ShapeCode}
 use Rattle.frames.specs.Walk.{formOf, shapeCode}
-use Rattle.frames.proofs.KindTable.{words-AND, words-REF, words-OUT}
 use Rattle.checker.specs.declared.notes.Found.{Found}
-use Rattle.checker.specs.Internal.Notes.{foundOf, innerWords, namedWords, madeWords}
+use Rattle.checker.specs.Internal.Notes.{foundOf, firstWord, innerWords, namedWords, madeWords}
 use Rattle.checker.specs.Internal.Adding.{Numbers, numbers, numbersOf, madeIn, latencyIn}
 use Rattle.checker.proofs.Words.{label-found, stage-found}
 
@@ -75,27 +76,31 @@ counts d REF look ops = record { form-later = λ h e. let z : _≡_ {A = ℕ} 0 
 counts d OUT look ops = record { form-later = λ h e. let z : _≡_ {A = ℕ} 0 1 = cc in omega arith; words-are = words-OUT d; numbers-are = refl; wires-are = refl; randoms-few = omega arith; inputs-few = omega arith }
 
 -- the words of wires in the notes
-pub notes-append : (xs ys : List Wire) → concatMap (xs ++ ys) (λ w. note (w .place)) ≡ concatMap xs (λ w. note (w .place)) ++ concatMap ys (λ w. note (w .place))
+pub notes-append : (xs ys : List Wire) → notesOf (xs ++ ys) ≡ notesOf xs ++ notesOf ys
 notes-append [] ys = refl
-notes-append (x ∷ xs) ys = ap (λ l. note (x .place) ++ l) (notes-append xs ys) ∙ sym (append-assoc (note (x .place)) (concatMap xs (λ w. note (w .place))) (concatMap ys (λ w. note (w .place))))
+notes-append (x ∷ xs) ys = ap (λ l. note (shownBy x) ++ l) (notes-append xs ys) ∙ sym (append-assoc (note (shownBy x)) (notesOf xs) (notesOf ys))
 
-row-notes : (g : ℕ → Gate) (t n count : ℕ) → concatMap (map (λ i. g i placed named i t) (range n count)) (λ w. note (w .place)) ≡ namedWords n t count
+row-notes : (g : ℕ → Gate) (registered : Bool) (t n count : ℕ) → ((i : ℕ) → isStop (g i) ≡ registered)
+    → notesOf (map (λ i. g i placed named i t) (range n count)) ≡ namedWords (firstWord n registered) t count
 unfolding namedWords
-row-notes g t n zero = refl
-row-notes g t n (suc count) = ap (λ l. n ∷ t ∷ l) (row-notes g t (suc n) count)
+row-notes g b t n zero h = refl
+row-notes g b t n (suc count) h =
+    let e : suc n + cond b registeredNote 0 ≡ suc (firstWord n b) = omega arith in
+    ap₂ (λ w l. w ∷ t ∷ l) (ap (firstWord n) (h n)) (row-notes g b t (suc n) count h ∙ ap (λ w. namedWords w t count) e)
 
-inner-notes : (g : Part → Gate) (stage : Part → ℕ) (ps : List Part) → concatMap (map (λ p. g p placed inner (stage p)) ps) (λ w. note (w .place)) ≡ innerWords (length ps)
+inner-notes : (g : Part → Gate) (stage : Part → ℕ) (ps : List Part) → notesOf (map (λ p. g p placed inner (stage p)) ps) ≡ innerWords (length ps)
 unfolding innerWords
 inner-notes g stage [] = refl
 inner-notes g stage (p ∷ ps) = ap (λ l. 0xFFFF ∷ 0xFFFF ∷ l) (inner-notes g stage ps)
 
-gadget-notes : (d first : ℕ) (a b : ℕ → ℕ) (inside : List Part) (out : ℕ → Part) (start end count : ℕ) → length inside ≡ count
-    → concatMap (gadget d first a b inside out start end) (λ w. note (w .place)) ≡ innerWords count ++ namedWords 0 end d
+gadget-notes : (d first : ℕ) (a b : ℕ → ℕ) (inside : List Part) (out : ℕ → Part) (registered : Bool) (start end count : ℕ) → length inside ≡ count
+    → ((wire : Part → ℕ) (i : ℕ) → isStop (gate d a b wire (out i)) ≡ registered)
+    → notesOf (gadget d first a b inside out start end) ≡ innerWords count ++ namedWords (firstWord 0 registered) end d
 unfolding gadget
-gadget-notes d first a b inside out start end count e =
+gadget-notes d first a b inside out registered start end count e h =
     let g : Part → Gate = gate d a b (λ p. first + index p inside) in
     notes-append (map (λ p. g p placed inner (start + delay p)) inside) (map (λ i. g (out i) placed named i end) (labels d))
-    ∙ ap₂ _++_ (inner-notes g (λ p. start + delay p) inside ∙ ap innerWords e) (row-notes (λ i. g (out i)) end 0 d)
+    ∙ ap₂ _++_ (inner-notes g (λ p. start + delay p) inside ∙ ap innerWords e) (row-notes (λ i. g (out i)) registered end 0 d (h (λ p. first + index p inside)))
 
 -- what a frame adds, by what the circuit says of the wires it names
 module _ (k : Circuit) (ops : List ℕ) where
@@ -111,20 +116,20 @@ module _ (k : Circuit) (ops : List ℕ) where
   made-stage REF h = omega (arith, stage-found k (nth ops 1))
   made-stage OUT h = stage-found k (nth ops 0)
 
-  pub made-words : (kind : Kind) → (kind ≡ HEAD → ⊥) → madeWords (madeBy k ops kind) ≡ concatMap (made k ops kind) (λ w. note (w .place))
+  pub made-words : (kind : Kind) → (kind ≡ HEAD → ⊥) → madeWords (madeBy k ops kind) ≡ notesOf (made k ops kind)
   unfolding shape newStage made innerWords namedWords
   made-words HEAD h = absurd (h refl)
-  made-words IN h = sym (row-notes (λ i. input (k .inputs * k .d + i)) (nth ops 0) 0 (k .d))
+  made-words IN h = sym (row-notes (λ i. input (k .inputs * k .d + i)) true (nth ops 0) 0 (k .d) (λ i. refl))
   made-words CON h = refl
-  made-words XOR h = ap₂ (λ l t. l ∷ t ∷ []) (label-found k (nth ops 0)) (made-stage XOR h)
-  made-words NOT h = ap₂ (λ l t. l ∷ t ∷ []) (label-found k (nth ops 0)) (made-stage NOT h)
-  made-words REG h = ap₂ (λ l t. l ∷ t ∷ []) (label-found k (nth ops 0)) (made-stage REG h)
-  made-words AND h = ap (λ t. innerWords (7 * (k .d * (k .d - 1)) + 4 * k .d - k .d) ++ namedWords 0 t (k .d)) (made-stage AND h)
-      ∙ sym (gadget-notes (k .d) (size k) (λ i. nth ops (1 + i)) (λ i. nth ops (1 + k .d + i)) (inAND (k .d)) c (stageShown (place k (nth ops (1 + k .d)))) (newStage k ops AND)
-      (7 * (k .d * (k .d - 1)) + 4 * k .d - k .d) (omega (arith, and-size (k .d))))
-  made-words REF h = ap (λ t. innerWords (pairs (k .d) + 2 * k .d - k .d) ++ namedWords 0 t (k .d)) (made-stage REF h)
-      ∙ sym (gadget-notes (k .d) (size k) (λ i. nth ops (1 + i)) (λ i. nth ops (1 + i)) (inREF (k .d)) S (stageShown (place k (nth ops 1))) (newStage k ops REF)
-      (pairs (k .d) + 2 * k .d - k .d) (omega (arith, ref-size (k .d))))
+  made-words XOR h = ap₂ (λ l t. firstWord l false ∷ t ∷ []) (label-found k (nth ops 0)) (made-stage XOR h)
+  made-words NOT h = ap₂ (λ l t. firstWord l false ∷ t ∷ []) (label-found k (nth ops 0)) (made-stage NOT h)
+  made-words REG h = ap₂ (λ l t. firstWord l true ∷ t ∷ []) (label-found k (nth ops 0)) (made-stage REG h)
+  made-words AND h = ap (λ t. innerWords (7 * (k .d * (k .d - 1)) + 4 * k .d - k .d) ++ namedWords (firstWord 0 false) t (k .d)) (made-stage AND h)
+      ∙ sym (gadget-notes (k .d) (size k) (λ i. nth ops (1 + i)) (λ i. nth ops (1 + k .d + i)) (inAND (k .d)) c false (stageShown (lookUp k (nth ops (1 + k .d)))) (newStage k ops AND)
+      (7 * (k .d * (k .d - 1)) + 4 * k .d - k .d) (omega (arith, and-size (k .d))) (λ wire i. refl))
+  made-words REF h = ap (λ t. innerWords (pairs (k .d) + 2 * k .d - k .d) ++ namedWords (firstWord 0 true) t (k .d)) (made-stage REF h)
+      ∙ sym (gadget-notes (k .d) (size k) (λ i. nth ops (1 + i)) (λ i. nth ops (1 + i)) (inREF (k .d)) S true (stageShown (lookUp k (nth ops 1))) (newStage k ops REF)
+      (pairs (k .d) + 2 * k .d - k .d) (omega (arith, ref-size (k .d))) (λ wire i. refl))
   made-words OUT h = refl
 
   pub made-latency : (kind : Kind) → (kind ≡ HEAD → ⊥) → latencyIn (formOf kind) (k .latency) (newStage k ops kind) ≡ latencyAfter k ops kind

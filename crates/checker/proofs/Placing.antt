@@ -9,12 +9,11 @@ use lib.Dec.{leb}
 use lib.ListN.{length}
 use lib.Seq.{sets}
 use Rattle.circuit.specs.Limits.{stageLimit, wireLimit}
-use Rattle.circuit.specs.Lists.{concatMap}
 use Rattle.circuit.specs.Wires.{Wire}
 use Rattle.circuit.specs.Kinds.{Kind, HEAD, shape, words}
 use Rattle.circuit.specs.Circuit.{Circuit, size, newStage, made, extend}
 use Rattle.circuit.specs.Rules.{Judgement, pass, refuse, need, _then_, wordsRule}
-use Rattle.circuit.specs.Answer.{note}
+use Rattle.circuit.specs.Answer.{notesOf}
 use Rattle.circuit.proofs.Building.{size-extend}
 use Rattle.frames.specs.declared.kinds.Shape.{Shape as ShapeCode}
 use Rattle.frames.specs.Walk.{formOf, shapeCode}
@@ -41,7 +40,7 @@ laterRule k f kind ops = wordsRule k f ops 1 (shape (k .d) kind .rules) ops
     then need (leb (size k + shape (k .d) kind .wires) wireLimit) 14 f 0
 
 abbrev pub notesAdded : Judgement → (notes : List ℕ) (from : ℕ) → List Wire → List ℕ
-notesAdded pass notes from ws = sets notes (2 * from) (concatMap ws (λ w. note (w .place)))
+notesAdded pass notes from ws = sets notes (2 * from) (notesOf ws)
 notesAdded (refuse rule frame word) notes from ws = notes
 
 -- the frame's place
@@ -115,7 +114,7 @@ module _ {k : Circuit} {kind : Kind} {tally : Tally} {sh : ShapeCode} {d : ℕ} 
     pub notes-next : new ≡ notesAdded (laterRule k (tally .frames) kind ops) old (size k) (made k ops kind)
     notes-next = a .notes-are ∙ by-rule (broken tally sh d ops old .rule) (broken tally sh d ops old .word) ∙ ap (λ j. notesAdded j old (size k) (made k ops kind)) (broken-judged (tally .frames))
       where
-        words : madeWords (madeNew tally sh d ops old) ≡ concatMap (made k ops kind) (λ w. note (w .place))
+        words : madeWords (madeNew tally sh d ops old) ≡ notesOf (made k ops kind)
         words = ap madeWords made-is ∙ made-words k ops kind (p .later)
 
         by-rule : (n w : ℕ) → notesWith n (madeNew tally sh d ops old) (tally .wires) old ≡ notesAdded (judged n (tally .frames) w) old (size k) (made k ops kind)

@@ -1,81 +1,84 @@
 -- The notes of a circuit say of every number what the circuit says of it; and a frame's words written behind them make the
 -- notes of the circuit with the frame.
 use mathlib.Core.Path.{_≡_, refl, sym, ap, ap₂, _∙_}
-use mathlib.Core.Bool.{false}
+use mathlib.Core.Bool.{Bool, true, false}
 use mathlib.Core.List.{List, [], _∷_, _++_}
-use Prim.Native.Nat.{ℕ, zero, suc, _+_, _*_, _-_, _≤_, _<_}
+use Prim.Native.Nat.{ℕ, zero, suc, _+_, _*_, _%_, _≤_, _<_}
 use native.Mathlib.Omega.{arith}
 use lib.Dec.{ltb}
 use lib.ListN.{length, getD, drop, length-append, length-drop}
 use lib.Seq.{sets, sets-eq, take-append-seam, drop-append-add, drop-drop}
-use borrow.Author.Tests.{ne-eqb, ltb-true}
+use borrow.Author.Tests.{ne-eqb, le-leb, lt-leb, ltb-true}
 use Rattle.circuit.specs.Limits.{innerNote, fewestShares, mostShares}
-use Rattle.circuit.specs.Lists.{nth, concatMap, overwrite}
-use Rattle.circuit.specs.Wires.{Wire, Place, named, inner, constant, _placed_}
+use Rattle.circuit.specs.Lists.{nth, overwrite}
+use Rattle.circuit.specs.Wires.{Wire, inner, constant, _placed_}
 use Rattle.circuit.specs.Gadgets.{c, S, inAND, inREF}
 use Rattle.circuit.specs.Kinds.{Kind}
-use Rattle.circuit.specs.Circuit.{Circuit, size, place, labelOf, newStage, made, extend}
-use Rattle.circuit.specs.Answer.{note, notesAfter}
+use Rattle.circuit.specs.Circuit.{Circuit, size, Lookup, found, hidden, shownBy, lookUp, labelOf, newStage, made, extend}
+use Rattle.circuit.specs.Answer.{note, notesOf, notesAfter}
 use Rattle.circuit.proofs.Base.{cases, AllFrom, all-any}
 use Rattle.circuit.proofs.Numbered.{at-all, all-default}
 use Rattle.circuit.specs.Composition.{Fits, fit-IN, fit-CON, fit-XOR, fit-NOT, fit-REG, fit-AND, fit-REF, fit-OUT}
 use Rattle.circuit.proofs.Building.{Lawful, step-all, gadget-all}
-use Rattle.checker.specs.Internal.Notes.{foundIn, shown, Represents}
+use Rattle.checker.specs.declared.notes.Found.the-variants.{Named}
+use Rattle.checker.specs.Internal.Notes.{firstWord, foundIn, shown, Represents}
 use Rattle.checker.proofs.MadeNotes.{notes-append}
 
-abbrev notesOf : List Wire → List ℕ
-notesOf ws = concatMap ws (λ w. note (w .place))
+-- the words of what looking a wire up tells
+abbrev firstNote : Lookup → ℕ
+firstNote (found l t registered) = firstWord l registered
+firstNote hidden = innerNote
 
--- the words of a wire
-abbrev noteLabel : Place → ℕ
-noteLabel (named l t) = l
-noteLabel (inner t) = innerNote
+abbrev secondNote : Lookup → ℕ
+secondNote (found l t registered) = t
+secondNote hidden = innerNote
 
-abbrev noteStage : Place → ℕ
-noteStage (named l t) = t
-noteStage (inner t) = innerNote
-
-note-is : (p : Place) → note p ≡ noteLabel p ∷ noteStage p ∷ []
-note-is (named l t) = refl
-note-is (inner t) = refl
+note-is : (p : Lookup) → note p ≡ firstNote p ∷ secondNote p ∷ []
+note-is (found l t registered) = refl
+note-is hidden = refl
 
 pub notes-length : (ws : List Wire) → length (notesOf ws) ≡ 2 * length ws
 notes-length [] = refl
-notes-length (w ∷ ws) = rw (note-is (w .place)) (omega (arith, notes-length ws))
+notes-length (w ∷ ws) = rw (note-is (shownBy w)) (omega (arith, notes-length ws))
 
 -- the words of wire x
-abbrev placeAt : List Wire → ℕ → Place
-placeAt ws x = getD ws x (constant false placed inner 0) .place
+abbrev shownAt : List Wire → ℕ → Lookup
+shownAt ws x = shownBy (getD ws x (constant false placed inner 0))
 
 words-at : (ws : List Wire) (rest : List ℕ) (x : ℕ) → x < length ws
-    → (nth (notesOf ws ++ rest) (2 * x) ≡ noteLabel (placeAt ws x)) × (nth (notesOf ws ++ rest) (2 * x + 1) ≡ noteStage (placeAt ws x))
+    → (nth (notesOf ws ++ rest) (2 * x) ≡ firstNote (shownAt ws x)) × (nth (notesOf ws ++ rest) (2 * x + 1) ≡ secondNote (shownAt ws x))
 words-at [] rest x h = absurd (omega arith)
-words-at (w ∷ ws) rest zero h = rw (note-is (w .place)) (refl, refl)
+words-at (w ∷ ws) rest zero h = rw (note-is (shownBy w)) (refl, refl)
 words-at (w ∷ ws) rest (suc x) h =
     let e : 2 * suc x ≡ suc (suc (2 * x)) = omega arith in
     let g : suc (suc (2 * x)) + 1 ≡ suc (suc (2 * x + 1)) = omega arith in
-    rw (note-is (w .place), e, g) (words-at ws rest x (omega arith))
+    rw (note-is (shownBy w), e, g) (words-at ws rest x (omega arith))
 
 -- every label is a share
 abbrev pub Labelled : Circuit → ℕ → Wire → Type 0
-Labelled k x wire = labelOf (wire .place) < k .d
+Labelled k x wire = labelOf (shownBy wire) < k .d
 
-label-old : (k : Circuit) → 0 < k .d → Lawful Labelled k → (x : ℕ) → labelOf (place k x) < k .d
-label-old k least law x = all-default (λ wire. labelOf (wire .place) < k .d) (constant false placed inner 0) least 0 (k .wires) x law
+label-old : (k : Circuit) → 0 < k .d → Lawful Labelled k → (x : ℕ) → labelOf (lookUp k x) < k .d
+label-old k least law x = all-default (λ wire. labelOf (shownBy wire) < k .d) (constant false placed inner 0) least 0 (k .wires) x law
+
+-- the words of a label below 8 tell it, and whether the wire is registered
+told : (l t : ℕ) (registered : Bool) → l < mostShares → foundIn (firstWord l registered) t ≡ Named l t registered
+told l t true h = let e : (l + 8) % 8 ≡ l = omega arith in rw (ne-eqb (l + 8) innerNote (λ z. omega arith), le-leb 8 (l + 8) (omega arith), e)
+told l t false h = let e : (l + 0) % 8 ≡ l = omega arith in rw (ne-eqb (l + 0) innerNote (λ z. omega arith), lt-leb 8 (l + 0) (omega arith), e)
 
 -- the notes represent the circuit
 pub represents : (k : Circuit) (notes : List ℕ) → k .d ≤ mostShares → 0 < k .d → Lawful Labelled k → Represents k (notesAfter k notes) (size k)
 unfolding notesAfter
 represents k notes most least law x = cases (ltb x (size k)) (λ e. rw e (inside (ltb-true x (size k) e))) (λ e. rw e)
   where
-    found : (p : Place) → labelOf p < k .d → foundIn (noteLabel p) (noteStage p) ≡ shown p
-    found (named l t) h = rw (ne-eqb l innerNote (λ e. omega arith))
-    found (inner t) h = refl
+    same : (p : Lookup) → labelOf p < k .d → foundIn (firstNote p) (secondNote p) ≡ shown p
+    same (found l t registered) h = told l t registered (omega arith)
+    same hidden h = refl
 
-    inside : x < size k → foundIn (nth (overwrite (notesOf (k .wires)) notes) (2 * x)) (nth (overwrite (notesOf (k .wires)) notes) (2 * x + 1)) ≡ shown (place k x)
+    inside : x < size k → foundIn (nth (overwrite (notesOf (k .wires)) notes) (2 * x)) (nth (overwrite (notesOf (k .wires)) notes) (2 * x + 1)) ≡ shown (lookUp k x)
     inside h =
         let (a, b) = words-at (k .wires) (drop (length (notesOf (k .wires))) notes) x h in
-        ap₂ foundIn a b ∙ found (place k x) (label-old k least law x)
+        ap₂ foundIn a b ∙ same (lookUp k x) (label-old k least law x)
 
 -- new words written behind those that are there
 overwrite-more : (xs ys n : List ℕ) → length xs + length ys ≤ length n → sets (overwrite xs n) (length xs) ys ≡ overwrite (xs ++ ys) n
@@ -109,7 +112,7 @@ label-new k _ _ ge h (fit-AND ops t len first p q o) =
     gadget-all (k .d) (size k) _ _ (inAND (k .d)) c _ _ (Labelled k) (all-any _ (λ x z. omega arith) (size k) (inAND (k .d))) (λ x i l g. g)
 label-new k _ _ ge h (fit-REF ops t len first p o) =
     gadget-all (k .d) (size k) _ _ (inREF (k .d)) S _ _ (Labelled k) (all-any _ (λ x z. omega arith) (size k) (inREF (k .d))) (λ x i l g. g)
-label-new k _ _ ge h (fit-OUT ops t len p) = tt
+label-new k _ _ ge h (fit-OUT ops t len p q) = tt
 
 pub label-step : (k : Circuit) (ops : List ℕ) (kind : Kind) → fewestShares ≤ k .d → Fits k kind ops → Lawful Labelled k → Lawful Labelled (extend k ops kind)
 label-step = step-all Labelled (λ k ops kind x wire l h. h) label-new

@@ -43,6 +43,10 @@ tested true rule f w = refl
 tested false rule f w = refl
 
 -- judgements in a row
+pub pass-last : (j : Judgement) → (j then pass) ≡ j
+pass-last pass = refl
+pass-last (refuse a b c) = refl
+
 pub then-assoc : (i j k : Judgement) → ((i then j) then k) ≡ (i then (j then k))
 then-assoc pass j k = refl
 then-assoc (refuse a b c) j k = refl

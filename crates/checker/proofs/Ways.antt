@@ -7,11 +7,11 @@ use native.Mathlib.Omega.{arith}
 use lib.ListN.{length, take, drop, length-drop, drop-of-length-le}
 use lib.Seq.{sets, drop-drop, length-take-le}
 use borrow.Author.Tests.{le-leb}
-use Rattle.circuit.specs.Lists.{nth, concatMap}
+use Rattle.circuit.specs.Lists.{nth}
 use Rattle.circuit.specs.Kinds.{Kind, HEAD, kindOf, words}
 use Rattle.circuit.specs.Circuit.{Circuit, size, made, extend}
 use Rattle.circuit.specs.Rules.{pass, refuse, frameRule, Checked, frames, checked}
-use Rattle.circuit.specs.Answer.{answer, verdictOf, note, notesAfter}
+use Rattle.circuit.specs.Answer.{answer, verdictOf, notesOf, notesAfter}
 use Rattle.circuit.specs.Composition.{kindWord, Fits}
 use Rattle.circuit.proofs.Building.{size-extend}
 use Rattle.circuit.proofs.Steps.{frames-pass, frames-refuse}
@@ -144,7 +144,7 @@ module _ {table notes₀ notes : List ℕ} {d : ℕ} {walk : Walk} {tally : Tall
             roomy = w .roomy;
             law = label-step (w .k) ops kind (w .least) (subst (Fits (w .k) kind) (sym ops-is) (passed .fits)) (w .law);
             notes-is = notes-next placed a ∙ ap (λ j. notesAdded j notes (size (w .k)) (made (w .k) ops kind)) told
-                ∙ ap (λ l. sets l (2 * size (w .k)) (concatMap (made (w .k) ops kind) (λ x. note (x .place)))) (w .notes-is)
+                ∙ ap (λ l. sets l (2 * size (w .k)) (notesOf (made (w .k) ops kind))) (w .notes-is)
                 ∙ notes-more (w .k) ops kind notes₀ (omega (arith, size-extend (w .k) ops kind, passed .few, w .roomy));
             rest = w .rest ∙ ap (frames (w .k) (tally .frames) 0) (here table d (walk .at) (frame-at .inside))
                 ∙ frames-pass (w .k) (tally .frames) (nth table (walk .at)) rest (judged-is ∙ told)

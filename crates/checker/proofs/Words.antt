@@ -9,87 +9,103 @@ use lib.ListN.{length, take, drop, length-append, length-drop, List·getD-eq-def
 use lib.Seq.{length-take-le}
 use borrow.Author.Tests.{ltb-false}
 use Rattle.circuit.specs.Lists.{nth, range}
-use Rattle.circuit.specs.Wires.{Place, named, inner}
-use Rattle.circuit.specs.Kinds.{WordRule, like, share, before, row}
-use Rattle.circuit.specs.Circuit.{Circuit, size, place, labelOf, stageShown}
-use Rattle.circuit.specs.Rules.{Judgement, need, _then_, isNamed, wireRule, wordRule, wordsRule}
+use Rattle.circuit.specs.Kinds.{WordRule, like, share, before, registered, row}
+use Rattle.circuit.specs.Circuit.{Circuit, size, Lookup, found, hidden, shownBy, lookUp, labelOf, stageShown, isRegistered}
+use Rattle.circuit.specs.Rules.{Judgement, pass, need, _then_, isNamed, wireRule, wordRule, wordsRule}
 use Rattle.circuit.proofs.Base.{cases}
 use Rattle.circuit.proofs.Fitting.{one-word, two-words, three-words}
 use Rattle.frames.specs.declared.kinds.Form.{Form}
 use Rattle.frames.specs.declared.kinds.Form.the-variants.{ShareCount, Stage, Constant, Sum, Copy, Product, Refresh, Row}
 use Rattle.frames.specs.Walk.{rulesOf}
-use Rattle.frames.proofs.KindTable.{row-length}
+use Rattle.circuit.proofs.Sizes.{row-length}
 use Rattle.checker.specs.declared.notes.Found.{Found}
 use Rattle.checker.specs.declared.notes.Found.the-variants.{Missing}
 use Rattle.checker.specs.declared.forms.Spot.{Spot}
 use Rattle.checker.specs.Internal.Notes.{shown, foundOf, labelFound, stageFound, wireNumber}
 use Rattle.checker.specs.Internal.Adding.{spot, none, orElse, _andThen_, stageNumber, labelNumber, valueNumber, randomNumber, likeNumber, rowBroken, brokenIn}
-use Rattle.checker.proofs.Spots.{judged, judgedAt, judged-then, tested, then-assoc}
+use Rattle.checker.proofs.Spots.{judged, judgedAt, judged-then, tested, then-assoc, pass-last}
 
 -- what the circuit shows of a wire is what a look-up finds
 module _ (k : Circuit) where
-  past : (x : ℕ) → size k ≤ x → place k x ≡ inner 0
-  past x h = ap (λ w. w .place) (List·getD-eq-default (k .wires) _ h)
+  past : (x : ℕ) → size k ≤ x → lookUp k x ≡ hidden
+  past x h = ap shownBy (List·getD-eq-default (k .wires) _ h)
 
-  found-by : {A : Type 0} (f : Found → A) (g : Place → A) → f Missing ≡ g (inner 0) → ((l t : ℕ) → f (shown (named l t)) ≡ g (named l t)) → ((t : ℕ) → f (shown (inner t)) ≡ g (inner t))
-      → (x : ℕ) → f (foundOf k x) ≡ g (place k x)
-  found-by f g e n i x = cases (ltb x (size k)) (λ l. rw l (by-place (place k x))) (λ l. rw (l, past x (ltb-false x (size k) l)) e)
-    where
-      by-place : (p : Place) → f (shown p) ≡ g p
-      by-place (named l t) = n l t
-      by-place (inner t) = i t
+  found-by : {A : Type 0} (f : Found → A) (g : Lookup → A) → f Missing ≡ g hidden → ((p : Lookup) → f (shown p) ≡ g p) → (x : ℕ) → f (foundOf k x) ≡ g (lookUp k x)
+  found-by f g e h x = cases (ltb x (size k)) (λ l. rw l (h (lookUp k x))) (λ l. rw (l, past x (ltb-false x (size k) l)) e)
 
-  pub label-found : (x : ℕ) → labelFound (foundOf k x) ≡ labelOf (place k x)
-  label-found = found-by labelFound labelOf refl (λ l t. refl) (λ t. refl)
+  label-shown : (p : Lookup) → labelFound (shown p) ≡ labelOf p
+  label-shown (found l t b) = refl
+  label-shown hidden = refl
 
-  pub stage-found : (x : ℕ) → stageFound (foundOf k x) ≡ stageShown (place k x)
-  stage-found = found-by stageFound stageShown refl (λ l t. refl) (λ t. refl)
+  stage-in : (p : Lookup) → stageFound (shown p) ≡ stageShown p
+  stage-in (found l t b) = refl
+  stage-in hidden = refl
+
+  pub label-found : (x : ℕ) → labelFound (foundOf k x) ≡ labelOf (lookUp k x)
+  label-found = found-by labelFound labelOf refl label-shown
+
+  pub stage-found : (x : ℕ) → stageFound (foundOf k x) ≡ stageShown (lookUp k x)
+  stage-found = found-by stageFound stageShown refl stage-in
 
 -- one word, then others
 word-then : (f n w : ℕ) (rest : Spot) {one more : Judgement} → judged n f w ≡ one → judgedAt f rest ≡ more → judgedAt f (orElse n w rest) ≡ (one then more)
 word-then f n w rest one more = judged-then f (spot n w) rest ∙ ap₂ _then_ one more
 
 module _ (k : Circuit) (f : ℕ) (ops : List ℕ) where
-  -- a wire that has to have a label and a stage
-  wire-number : (w x l t ahead : ℕ) → judged (wireNumber (foundOf k x) l t ahead) f w
-      ≡ wireRule k f ops (eqb (labelOf (place k x)) l) (eqb (stageShown (place k x) + ahead) t) w x
-  wire-number w x l t ahead = go (ltb x (size k)) (place k x)
-    where
-      both : (a b : Bool) → judged (cond a (cond b 0 11) 10) f w ≡ (need a 10 f w then need b 11 f w)
-      both true true = refl
-      both true false = refl
-      both false b = refl
+  -- a wire that has to have a label and a stage, and to be registered where that is asked
+  abbrev asked : (register held : Bool) (w : ℕ) → Judgement
+  asked true held w = need held 22 f w
+  asked false held w = pass
 
-      go : (b : Bool) (p : Place) → judged (wireNumber (cond b (shown p) Missing) l t ahead) f w
-          ≡ (need b 8 f w then need (isNamed p) 9 f w then need (eqb (labelOf p) l) 10 f w then need (eqb (stageShown p + ahead) t) 11 f w)
+  wire-number : (w x l t ahead : ℕ) (register : Bool) → judged (wireNumber (foundOf k x) l t ahead register) f w
+      ≡ (wireRule k f ops (eqb (labelOf (lookUp k x)) l) (eqb (stageShown (lookUp k x) + ahead) t) w x then asked register (isRegistered (lookUp k x)) w)
+  wire-number w x l t ahead register = go (ltb x (size k)) (lookUp k x)
+    where
+      tests : (a b register c : Bool) → judged (cond a (cond b (cond register (cond c 0 22) 0) 11) 10) f w ≡ ((need a 10 f w then need b 11 f w) then asked register c w)
+      tests true true true true = refl
+      tests true true true false = refl
+      tests true true false c = refl
+      tests true false register c = refl
+      tests false b register c = refl
+
+      go : (b : Bool) (p : Lookup) → judged (wireNumber (cond b (shown p) Missing) l t ahead register) f w
+          ≡ ((need b 8 f w then need (isNamed p) 9 f w then need (eqb (labelOf p) l) 10 f w then need (eqb (stageShown p + ahead) t) 11 f w) then asked register (isRegistered p) w)
       go false p = refl
-      go true (inner s) = refl
-      go true (named a s) = both (eqb a l) (eqb (s + ahead) t)
+      go true hidden = refl
+      go true (found a s c) = tests (eqb a l) (eqb (s + ahead) t) register c
 
   -- the same so many stages ahead, by the stage that has to be equal
-  wire-at : (w x l p ahead s : ℕ) → stageShown (place k x) + ahead ≡ s → judged (wireNumber (foundOf k x) l (stageFound (foundOf k (nth ops p))) ahead) f w
-      ≡ wireRule k f ops (eqb (labelOf (place k x)) l) (eqb s (stageShown (place k (nth ops p)))) w x
-  wire-at w x l p ahead s e = rw (stage-found k (nth ops p)) (wire-number w x l (stageShown (place k (nth ops p))) ahead
-      ∙ ap (λ n. wireRule k f ops (eqb (labelOf (place k x)) l) (eqb n (stageShown (place k (nth ops p)))) w x) e)
+  registered-at : (w x l p ahead s : ℕ) (register : Bool) → stageShown (lookUp k x) + ahead ≡ s
+      → judged (wireNumber (foundOf k x) l (stageFound (foundOf k (nth ops p))) ahead register) f w
+      ≡ (wireRule k f ops (eqb (labelOf (lookUp k x)) l) (eqb s (stageShown (lookUp k (nth ops p)))) w x then asked register (isRegistered (lookUp k x)) w)
+  registered-at w x l p ahead s register e = rw (stage-found k (nth ops p)) (wire-number w x l (stageShown (lookUp k (nth ops p))) ahead register
+      ∙ ap (λ n. wireRule k f ops (eqb (labelOf (lookUp k x)) l) (eqb n (stageShown (lookUp k (nth ops p)))) w x then asked register (isRegistered (lookUp k x)) w) e)
 
-  like-is : (p w x : ℕ) → judged (wireNumber (foundOf k x) (labelFound (foundOf k (nth ops p))) (stageFound (foundOf k (nth ops p))) 0) f w ≡ wordRule k f ops (like p) w x
-  like-is p w x = rw (label-found k (nth ops p)) (wire-at w x (labelOf (place k (nth ops p))) p 0 (stageShown (place k x)) (omega arith))
+  wire-at : (w x l p ahead s : ℕ) → stageShown (lookUp k x) + ahead ≡ s → judged (wireNumber (foundOf k x) l (stageFound (foundOf k (nth ops p))) ahead false) f w
+      ≡ wireRule k f ops (eqb (labelOf (lookUp k x)) l) (eqb s (stageShown (lookUp k (nth ops p)))) w x
+  wire-at w x l p ahead s e = registered-at w x l p ahead s false e ∙ pass-last _
 
-  share-is : (p i w x : ℕ) → judged (wireNumber (foundOf k x) i (stageFound (foundOf k (nth ops p))) 0) f w ≡ wordRule k f ops (share i p) w x
-  share-is p i w x = wire-at w x i p 0 (stageShown (place k x)) (omega arith)
+  like-is : (p w x : ℕ) → judged (likeNumber (foundOf k (nth ops p)) (foundOf k x)) f w ≡ wordRule k f ops (like p) w x
+  like-is p w x = rw (label-found k (nth ops p)) (wire-at w x (labelOf (lookUp k (nth ops p))) p 0 (stageShown (lookUp k x)) (omega arith))
 
-  before-is : (p i w x : ℕ) → judged (wireNumber (foundOf k x) i (stageFound (foundOf k (nth ops p))) 1) f w ≡ wordRule k f ops (before i p) w x
-  before-is p i w x = wire-at w x i p 1 (suc (stageShown (place k x))) (omega arith)
+  share-is : (p i w x : ℕ) → judged (wireNumber (foundOf k x) i (stageFound (foundOf k (nth ops p))) 0 false) f w ≡ wordRule k f ops (share i p) w x
+  share-is p i w x = wire-at w x i p 0 (stageShown (lookUp k x)) (omega arith)
+
+  before-is : (p i w x : ℕ) → judged (wireNumber (foundOf k x) i (stageFound (foundOf k (nth ops p))) 1 false) f w ≡ wordRule k f ops (before i p) w x
+  before-is p i w x = wire-at w x i p 1 (suc (stageShown (lookUp k x))) (omega arith)
+
+  registered-is : (p i w x : ℕ) → judged (wireNumber (foundOf k x) i (stageFound (foundOf k (nth ops p))) 0 true) f w ≡ wordRule k f ops (registered i p) w x
+  registered-is p i w x = registered-at w x i p 0 (stageShown (lookUp k x)) true (omega arith)
 
   -- wires in a row
-  row-is : (rule : ℕ → WordRule) (t ahead : ℕ) → ((i w x : ℕ) → judged (wireNumber (foundOf k x) i t ahead) f w ≡ wordRule k f ops (rule i) w x)
-      → (w i n : ℕ) (xs : List ℕ) → length xs ≡ n → judgedAt f (rowBroken (foundOf k) t ahead w i xs) ≡ wordsRule k f ops w (map rule (range i n)) xs
+  row-is : (rule : ℕ → WordRule) (t ahead : ℕ) (register : Bool) → ((i w x : ℕ) → judged (wireNumber (foundOf k x) i t ahead register) f w ≡ wordRule k f ops (rule i) w x)
+      → (w i n : ℕ) (xs : List ℕ) → length xs ≡ n → judgedAt f (rowBroken (foundOf k) t ahead register w i xs) ≡ wordsRule k f ops w (map rule (range i n)) xs
   unfolding rowBroken wordsRule
-  row-is rule t ahead h w i zero [] e = refl
-  row-is rule t ahead h w i zero (x ∷ xs) e = absurd (omega arith)
-  row-is rule t ahead h w i (suc n) [] e = absurd (omega arith)
-  row-is rule t ahead h w i (suc n) (x ∷ xs) e =
-      word-then f (wireNumber (foundOf k x) i t ahead) w (rowBroken (foundOf k) t ahead (suc w) (suc i) xs) (h i w x) (row-is rule t ahead h (suc w) (suc i) n xs (omega arith))
+  row-is rule t ahead b h w i zero [] e = refl
+  row-is rule t ahead b h w i zero (x ∷ xs) e = absurd (omega arith)
+  row-is rule t ahead b h w i (suc n) [] e = absurd (omega arith)
+  row-is rule t ahead b h w i (suc n) (x ∷ xs) e =
+      word-then f (wireNumber (foundOf k x) i t ahead b) w (rowBroken (foundOf k) t ahead b (suc w) (suc i) xs) (h i w x) (row-is rule t ahead b h (suc w) (suc i) n xs (omega arith))
 
   -- rules and words in two parts
   words-append : (w : ℕ) (rs more : List WordRule) (xs ys : List ℕ) → length rs ≡ length xs
@@ -106,15 +122,15 @@ module _ (k : Circuit) (f : ℕ) (ops : List ℕ) where
 -- the words of a form, as they are given: so many, of which the first comes first
 module _ (k : Circuit) (f : ℕ) where
   rows-are : (ops xs : List ℕ) → length xs ≡ k .d + k .d
-      → judgedAt f (rowBroken (foundOf k) (stageFound (foundOf k (nth ops 1))) 0 2 0 (take (k .d) xs) andThen rowBroken (foundOf k) (stageFound (foundOf k (nth ops 1))) 1 (2 + k .d) 0 (drop (k .d) xs))
+      → judgedAt f (rowBroken (foundOf k) (stageFound (foundOf k (nth ops 1))) 0 false 2 0 (take (k .d) xs) andThen rowBroken (foundOf k) (stageFound (foundOf k (nth ops 1))) 1 false (2 + k .d) 0 (drop (k .d) xs))
       ≡ wordsRule k f ops 2 (row share 1 (k .d) ++ row before 1 (k .d)) xs
   rows-are ops xs e =
       let d = k .d in
       let t = stageFound (foundOf k (nth ops 1)) in
       let firsts = length-take-le d xs (omega arith) in
-      judged-then f (rowBroken (foundOf k) t 0 2 0 (take d xs)) (rowBroken (foundOf k) t 1 (2 + d) 0 (drop d xs))
-      ∙ ap₂ _then_ (row-is k f ops (λ i. share i 1) t 0 (share-is k f ops 1) 2 0 d (take d xs) firsts)
-      (row-is k f ops (λ i. before i 1) t 1 (before-is k f ops 1) (2 + d) 0 d (drop d xs) (omega (arith, length-drop d xs)) ∙ ap (λ n. wordsRule k f ops (2 + n) (row before 1 d) (drop d xs)) (sym firsts))
+      judged-then f (rowBroken (foundOf k) t 0 false 2 0 (take d xs)) (rowBroken (foundOf k) t 1 false (2 + d) 0 (drop d xs))
+      ∙ ap₂ _then_ (row-is k f ops (λ i. share i 1) t 0 false (share-is k f ops 1) 2 0 d (take d xs) firsts)
+      (row-is k f ops (λ i. before i 1) t 1 false (before-is k f ops 1) (2 + d) 0 d (drop d xs) (omega (arith, length-drop d xs)) ∙ ap (λ n. wordsRule k f ops (2 + n) (row before 1 d) (drop d xs)) (sym firsts))
       ∙ sym (words-append k f ops 2 (row share 1 d) (row before 1 d) (take d xs) (drop d xs) (omega (arith, row-length share 1 d)))
       ∙ ap (wordsRule k f ops 2 (row share 1 d ++ row before 1 d)) (take-append-drop d xs)
 
@@ -135,11 +151,11 @@ module _ (k : Circuit) (f : ℕ) where
   words-are Product [] h e = absurd (omega arith)
   words-are Product (x ∷ xs) h e =
       let t = stageFound (foundOf k (nth (x ∷ xs) 1)) in
-      word-then f (randomNumber (k .randoms) x) 1 (rowBroken (foundOf k) t 0 2 0 (take (k .d) xs) andThen rowBroken (foundOf k) t 1 (2 + k .d) 0 (drop (k .d) xs)) (tested (eqb x (k .randoms)) 11 f 1)
+      word-then f (randomNumber (k .randoms) x) 1 (rowBroken (foundOf k) t 0 false 2 0 (take (k .d) xs) andThen rowBroken (foundOf k) t 1 false (2 + k .d) 0 (drop (k .d) xs)) (tested (eqb x (k .randoms)) 11 f 1)
       (rows-are (x ∷ xs) xs (omega (arith, length-append (row share 1 (k .d)) (row before 1 (k .d)), row-length share 1 (k .d), row-length before 1 (k .d))))
   words-are Refresh [] h e = absurd (omega arith)
   words-are Refresh (x ∷ xs) h e =
       let t = stageFound (foundOf k (nth (x ∷ xs) 1)) in
-      word-then f (randomNumber (k .randoms) x) 1 (rowBroken (foundOf k) t 0 2 0 xs) (tested (eqb x (k .randoms)) 11 f 1)
-      (row-is k f (x ∷ xs) (λ i. share i 1) t 0 (share-is k f (x ∷ xs) 1) 2 0 (k .d) xs (omega (arith, row-length share 1 (k .d))))
-  words-are Row ops h e = row-is k f ops (λ i. share i 0) _ 0 (share-is k f ops 0) 1 0 (k .d) ops (e ∙ row-length share 0 (k .d))
+      word-then f (randomNumber (k .randoms) x) 1 (rowBroken (foundOf k) t 0 false 2 0 xs) (tested (eqb x (k .randoms)) 11 f 1)
+      (row-is k f (x ∷ xs) (λ i. share i 1) t 0 false (share-is k f (x ∷ xs) 1) 2 0 (k .d) xs (omega (arith, row-length share 1 (k .d))))
+  words-are Row ops h e = row-is k f ops (λ i. registered i 0) _ 0 true (registered-is k f ops 0) 1 0 (k .d) ops (e ∙ row-length registered 0 (k .d))

@@ -2,8 +2,10 @@
 // are written into the notes; otherwise the notes are as found.
 ghost use mathlib.Core.Path.{_≡_};
 ghost use Prim.Native.Nat.{_+_, _*_, _≤_, _<_};
+ghost use mathlib.Core.Bool.{true, false};
+ghost use lib.Dec.{eqb};
 ghost use lib.ListN.{length};
-ghost use Rattle.circuit.specs.Limits.{notesRoom, wireLimit};
+ghost use Rattle.circuit.specs.Limits.{mostShares, notesRoom, wireLimit};
 ghost use Rattle.circuit.specs.Lists.{nth};
 ghost use Rattle.checker.specs.Internal.Notes.{noted, labelFound, stageFound};
 ghost use Rattle.checker.specs.Internal.Adding.{spot, none, _andThen_, stageNumber, labelNumber, valueNumber, likeNumber, rowBroken, productBroken, refreshBroken, gadgetAfter, wiresAt, Judges};
@@ -19,7 +21,7 @@ pub struct Spot {
 
 // The wires written, unless they break rule 13 or 14.
 fn put(made: Made, wires: usize, notes: &mut [u16]) -> Spot
-    requires { ⌜ (wires ≤ wireLimit) × (notesRoom ≤ length (now notes)) × (made .label + made .named ≤ 65536) ⌝ }
+    requires { ⌜ (wires ≤ wireLimit) × (notesRoom ≤ length (now notes)) × (made .label + made .named ≤ mostShares) ⌝ }
     ensures { λ r. ⌜ Judges none made wires (now (notes .entry)) (now (notes .exit)) r ⌝ }
 {
     let room = circuit::WIRES - wires;
@@ -37,9 +39,9 @@ fn put(made: Made, wires: usize, notes: &mut [u16]) -> Spot
 }
 
 // One named wire written, unless it breaks rule 13 or 14.
-fn put_one(label: u16, stage: usize, wires: usize, notes: &mut [u16]) -> Spot
-    requires { ⌜ (wires ≤ wireLimit) × (notesRoom ≤ length (now notes)) ⌝ }
-    ensures { λ r. ⌜ Judges none (wiresAt 1 label stage) wires (now (notes .entry)) (now (notes .exit)) r ⌝ }
+fn put_one(label: u16, stage: usize, registered: bool, wires: usize, notes: &mut [u16]) -> Spot
+    requires { ⌜ (wires ≤ wireLimit) × (notesRoom ≤ length (now notes)) × (label < mostShares) ⌝ }
+    ensures { λ r. ⌜ Judges none (wiresAt 1 label stage registered) wires (now (notes .entry)) (now (notes .exit)) r ⌝ }
 {
     put(
         Made {
@@ -47,27 +49,30 @@ fn put_one(label: u16, stage: usize, wires: usize, notes: &mut [u16]) -> Spot
             named: 1,
             label: label as usize,
             stage,
+            registered,
         },
         wires,
         notes,
     )
 }
 
-// What wires in a row break that have the labels 0, 1 and so on and one stage, that much before another; from a word on.
+// What wires in a row break that have the labels 0, 1 and so on and one stage, that much before another, and, where that is
+// asked, are registered; from a word on.
 fn row_rule(
     row: &[u16],
     word: usize,
     stage: usize,
     ahead: usize,
+    register: bool,
     wires: usize,
     notes: &[u16],
 ) -> Spot
     requires { ⌜ (2 * wires ≤ length (now notes)) × (length (now row) ≤ 8) × (word ≤ 10) × (ahead ≤ 1) ⌝ }
-    ensures { λ r. ⌜ r ≡ rowBroken (noted (now (notes .entry)) wires) stage ahead word 0 (now (row .entry)) ⌝ }
+    ensures { λ r. ⌜ r ≡ rowBroken (noted (now (notes .entry)) wires) stage ahead register word 0 (now (row .entry)) ⌝ }
 {
     let mut i = 0;
     while i < row.len() {
-        let rule = notes::wire_rule(notes, wires, row[i], i as u16, stage, ahead);
+        let rule = notes::wire_rule(notes, wires, row[i], i as u16, stage, ahead, register);
         if rule != 0 {
             return Spot {
                 rule,
@@ -82,7 +87,7 @@ fn row_rule(
 // IN: a stage.
 pub(crate) fn stage(stage: u16, d: usize, wires: usize, notes: &mut [u16]) -> Spot
     requires { ⌜ (wires ≤ wireLimit) × (notesRoom ≤ length (now notes)) × (d ≤ 8) ⌝ }
-    ensures { λ r. ⌜ Judges (spot (stageNumber stage) 1 andThen none) (wiresAt d 0 stage) wires (now (notes .entry)) (now (notes .exit)) r ⌝ }
+    ensures { λ r. ⌜ Judges (spot (stageNumber stage) 1 andThen none) (wiresAt d 0 stage true) wires (now (notes .entry)) (now (notes .exit)) r ⌝ }
 {
     if circuit::LAST_STAGE < stage as usize {
         return Spot { rule: 7, word: 1 };
@@ -93,6 +98,7 @@ pub(crate) fn stage(stage: u16, d: usize, wires: usize, notes: &mut [u16]) -> Sp
             named: d,
             label: 0,
             stage: stage as usize,
+            registered: true,
         },
         wires,
         notes,
@@ -108,9 +114,9 @@ pub(crate) fn constant(
     wires: usize,
     notes: &mut [u16],
 ) -> Spot
-    requires { ⌜ (wires ≤ wireLimit) × (notesRoom ≤ length (now notes)) ⌝ }
+    requires { ⌜ (wires ≤ wireLimit) × (notesRoom ≤ length (now notes)) × (d ≤ 8) ⌝ }
     ensures { λ r. ⌜ Judges (spot (labelNumber d label) 1 andThen spot (valueNumber value) 2 andThen spot (stageNumber stage) 3 andThen none)
-        (wiresAt 1 label stage) wires (now (notes .entry)) (now (notes .exit)) r ⌝ }
+        (wiresAt 1 label stage true) wires (now (notes .entry)) (now (notes .exit)) r ⌝ }
 {
     if d <= label as usize {
         return Spot { rule: 7, word: 1 };
@@ -121,7 +127,7 @@ pub(crate) fn constant(
     if circuit::LAST_STAGE < stage as usize {
         return Spot { rule: 7, word: 3 };
     }
-    put_one(label, stage as usize, wires, notes)
+    put_one(label, stage as usize, true, wires, notes)
 }
 
 // XOR: two wires of one label and stage.
@@ -129,42 +135,50 @@ pub(crate) fn sum(first: u16, second: u16, wires: usize, notes: &mut [u16]) -> S
     requires { ⌜ (wires ≤ wireLimit) × (notesRoom ≤ length (now notes)) ⌝ }
     ensures { λ r. ⌜ Judges (spot (likeNumber (noted (now (notes .entry)) wires first) (noted (now (notes .entry)) wires first)) 1
         andThen spot (likeNumber (noted (now (notes .entry)) wires first) (noted (now (notes .entry)) wires second)) 2 andThen none)
-        (wiresAt 1 (labelFound (noted (now (notes .entry)) wires first)) (stageFound (noted (now (notes .entry)) wires first))) wires (now (notes .entry)) (now (notes .exit)) r ⌝ }
+        (wiresAt 1 (labelFound (noted (now (notes .entry)) wires first)) (stageFound (noted (now (notes .entry)) wires first)) false) wires (now (notes .entry)) (now (notes .exit)) r ⌝ }
 {
     let found = notes::look_up(notes, wires, first);
     match found {
         Found::Missing => Spot { rule: 8, word: 1 },
         Found::Inner => Spot { rule: 9, word: 1 },
-        Found::Named { label, stage } => {
-            let rule = notes::wire_rule(notes, wires, second, label, stage as usize, 0);
+        Found::Named {
+            label,
+            stage,
+            registered: _,
+        } => {
+            let rule = notes::wire_rule(notes, wires, second, label, stage as usize, 0, false);
             if rule != 0 {
                 return Spot { rule, word: 2 };
             }
-            put_one(label, stage as usize, wires, notes)
+            put_one(label, stage as usize, false, wires, notes)
         }
     }
 }
 
-// NOT, and one stage later REG: one wire.
+// NOT, and one stage later, registered, REG: one wire.
 pub(crate) fn copy(wire: u16, after: usize, wires: usize, notes: &mut [u16]) -> Spot
     requires { ⌜ (wires ≤ wireLimit) × (notesRoom ≤ length (now notes)) × (after < 65536) ⌝ }
     ensures { λ r. ⌜ Judges (spot (likeNumber (noted (now (notes .entry)) wires wire) (noted (now (notes .entry)) wires wire)) 1 andThen none)
-        (wiresAt 1 (labelFound (noted (now (notes .entry)) wires wire)) (stageFound (noted (now (notes .entry)) wires wire) + after)) wires (now (notes .entry)) (now (notes .exit)) r ⌝ }
+        (wiresAt 1 (labelFound (noted (now (notes .entry)) wires wire)) (stageFound (noted (now (notes .entry)) wires wire) + after) (eqb after 1)) wires (now (notes .entry)) (now (notes .exit)) r ⌝ }
 {
     let found = notes::look_up(notes, wires, wire);
     match found {
         Found::Missing => Spot { rule: 8, word: 1 },
         Found::Inner => Spot { rule: 9, word: 1 },
-        Found::Named { label, stage } => put_one(label, stage as usize + after, wires, notes),
+        Found::Named {
+            label,
+            stage,
+            registered: _,
+        } => put_one(label, stage as usize + after, after == 1, wires, notes),
     }
 }
 
-// OUT: a row, at the stage that its first wire shows. It makes no wires.
+// OUT: a row of registered wires, at the stage that its first one shows. It makes no wires.
 pub(crate) fn row(ops: &[u16], stage: usize, wires: usize, notes: &mut [u16]) -> Spot
     requires { ⌜ (wires ≤ wireLimit) × (notesRoom ≤ length (now notes)) × (length (now ops) ≤ 8) ⌝ }
-    ensures { λ r. ⌜ Judges (rowBroken (noted (now (notes .entry)) wires) stage 0 1 0 (now (ops .entry))) (wiresAt 0 0 stage) wires (now (notes .entry)) (now (notes .exit)) r ⌝ }
+    ensures { λ r. ⌜ Judges (rowBroken (noted (now (notes .entry)) wires) stage 0 true 1 0 (now (ops .entry))) (wiresAt 0 0 stage false) wires (now (notes .entry)) (now (notes .exit)) r ⌝ }
 {
-    let broken = row_rule(ops, 1, stage, 0, wires, notes);
+    let broken = row_rule(ops, 1, stage, 0, true, wires, notes);
     if broken.rule != 0 {
         return broken;
     }
@@ -174,6 +188,7 @@ pub(crate) fn row(ops: &[u16], stage: usize, wires: usize, notes: &mut [u16]) ->
             named: 0,
             label: 0,
             stage,
+            registered: false,
         },
         wires,
         notes,
@@ -181,9 +196,16 @@ pub(crate) fn row(ops: &[u16], stage: usize, wires: usize, notes: &mut [u16]) ->
 }
 
 // A gadget's wires written, unless they break rule 13 or 14: inner ones, then a row one stage after another.
-fn put_gadget(inner: usize, d: usize, stage: usize, wires: usize, notes: &mut [u16]) -> Spot
+fn put_gadget(
+    inner: usize,
+    d: usize,
+    stage: usize,
+    registered: bool,
+    wires: usize,
+    notes: &mut [u16],
+) -> Spot
     requires { ⌜ (wires ≤ wireLimit) × (notesRoom ≤ length (now notes)) × (d ≤ 8) × (stage < 65536) ⌝ }
-    ensures { λ r. ⌜ Judges none (gadgetAfter inner d stage) wires (now (notes .entry)) (now (notes .exit)) r ⌝ }
+    ensures { λ r. ⌜ Judges none (gadgetAfter inner d stage registered) wires (now (notes .entry)) (now (notes .exit)) r ⌝ }
 {
     put(
         Made {
@@ -191,13 +213,14 @@ fn put_gadget(inner: usize, d: usize, stage: usize, wires: usize, notes: &mut [u
             named: d,
             label: 0,
             stage: stage + 1,
+            registered,
         },
         wires,
         notes,
     )
 }
 
-// AND: the first random, then the rows a and b.
+// AND: the first random, then the rows a and b. Its outputs are sums, not registers.
 pub(crate) fn product(
     inner: usize,
     d: usize,
@@ -208,7 +231,7 @@ pub(crate) fn product(
 ) -> Spot
     requires { ⌜ (wires ≤ wireLimit) × (notesRoom ≤ length (now notes)) × (1 ≤ d) × (d ≤ 8) × (length (now ops) ≡ 1 + d + d) ⌝ }
     ensures { λ r. ⌜ Judges (productBroken d used (noted (now (notes .entry)) wires) (now (ops .entry)))
-        (gadgetAfter inner d (stageFound (noted (now (notes .entry)) wires (nth (now (ops .entry)) 1)))) wires (now (notes .entry)) (now (notes .exit)) r ⌝ }
+        (gadgetAfter inner d (stageFound (noted (now (notes .entry)) wires (nth (now (ops .entry)) 1))) false) wires (now (notes .entry)) (now (notes .exit)) r ⌝ }
 {
     let stage = notes::stage_shown(notes, wires, ops[1]);
     if ops[0] as usize != used {
@@ -216,18 +239,18 @@ pub(crate) fn product(
     }
     let middle = 1 + d;
     let end = ops.len();
-    let a = row_rule(&ops[1..middle], 2, stage, 0, wires, notes);
+    let a = row_rule(&ops[1..middle], 2, stage, 0, false, wires, notes);
     if a.rule != 0 {
         return a;
     }
-    let b = row_rule(&ops[middle..end], 2 + d, stage, 1, wires, notes);
+    let b = row_rule(&ops[middle..end], 2 + d, stage, 1, false, wires, notes);
     if b.rule != 0 {
         return b;
     }
-    put_gadget(inner, d, stage, wires, notes)
+    put_gadget(inner, d, stage, false, wires, notes)
 }
 
-// REF: the first random, then a row.
+// REF: the first random, then a row. Its outputs are registers.
 pub(crate) fn refresh(
     inner: usize,
     d: usize,
@@ -238,16 +261,16 @@ pub(crate) fn refresh(
 ) -> Spot
     requires { ⌜ (wires ≤ wireLimit) × (notesRoom ≤ length (now notes)) × (1 ≤ d) × (d ≤ 8) × (length (now ops) ≡ 1 + d) ⌝ }
     ensures { λ r. ⌜ Judges (refreshBroken d used (noted (now (notes .entry)) wires) (now (ops .entry)))
-        (gadgetAfter inner d (stageFound (noted (now (notes .entry)) wires (nth (now (ops .entry)) 1)))) wires (now (notes .entry)) (now (notes .exit)) r ⌝ }
+        (gadgetAfter inner d (stageFound (noted (now (notes .entry)) wires (nth (now (ops .entry)) 1))) true) wires (now (notes .entry)) (now (notes .exit)) r ⌝ }
 {
     let stage = notes::stage_shown(notes, wires, ops[1]);
     if ops[0] as usize != used {
         return Spot { rule: 12, word: 1 };
     }
     let end = ops.len();
-    let a = row_rule(&ops[1..end], 2, stage, 0, wires, notes);
+    let a = row_rule(&ops[1..end], 2, stage, 0, false, wires, notes);
     if a.rule != 0 {
         return a;
     }
-    put_gadget(inner, d, stage, wires, notes)
+    put_gadget(inner, d, stage, true, wires, notes)
 }

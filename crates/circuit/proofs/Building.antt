@@ -1,6 +1,6 @@
 -- Laws of every wire of a circuit of frames that fit, frame by frame. First of them: there are at most 8,192 wires, and no stage is over 255.
 use mathlib.Core.Path.{_≡_, refl, sym, ap, subst, subst₂, _∙_}
-use mathlib.Core.Bool.{false}
+use mathlib.Core.Bool.{Bool, false}
 use mathlib.Core.List.{List, [], _∷_, _++_, map, append-nil, append-assoc}
 use Prim.Native.Nat.{ℕ, suc, _+_, _≤_, _<_}
 use native.Mathlib.Omega.{arith}
@@ -10,19 +10,15 @@ use lib.Seq.{getD-append-add}
 use borrow.Author.Tests.{ltb-true, ltb-false}
 use Rattle.circuit.specs.Limits.{wireLimit, stageLimit, fewestShares}
 use Rattle.circuit.specs.Lists.{nth}
-use Rattle.circuit.specs.Wires.{constant, Place, named, inner, Wire, _placed_}
+use Rattle.circuit.specs.Wires.{constant, isStop, Place, named, inner, Wire, _placed_}
 use Rattle.circuit.specs.Gadgets.{Part, r, R, B, m, M, u, U, v, V′, w, W, c, s, S, labels, gate, delay, inAND, inREF, index, gadget}
 use Rattle.circuit.specs.Kinds.{Kind, shape}
-use Rattle.circuit.specs.Circuit.{Circuit, size, empty, place, stageShown, stageOf, newStage, made, extend}
+use Rattle.circuit.specs.Circuit.{Circuit, size, empty, wireAt, place, showing, lookUp, labelOf, stageShown, isRegistered, stageOf, newStage, made, extend}
 use Rattle.circuit.proofs.Base.{cases, AllFrom, Has, all-append, all-left, all-right, all-map, all-unmap, all-of, all-any}
 use Rattle.circuit.proofs.Numbered.{get-all, all-below, all-at, at-all, all-default}
 use Rattle.circuit.proofs.Parts.{index-at, InREF, fresh, added, ref-parts}
 use Rattle.circuit.proofs.Sizes.{made-size}
 use Rattle.circuit.specs.Composition.{Frame, Row, Fits, fit-IN, fit-CON, fit-XOR, fit-NOT, fit-REG, fit-AND, fit-REF, fit-OUT, AllFit, done, next, build}
-
--- the wire of a number; a constant, where there is no such wire
-abbrev pub wireAt : Circuit → ℕ → Wire
-wireAt k x = getD (k .wires) x (constant false placed inner 0)
 
 -- the wires of a gadget: its parts, then its outputs
 module _ (d first : ℕ) (a b : ℕ → ℕ) (inside : List Part) (out : ℕ → Part) (start end : ℕ) where
@@ -69,12 +65,22 @@ named-made k x l t h = cases (ltb x (size k)) (ltb-true x (size k))
     (λ e. let z : place k x ≡ inner 0 = ap (λ wire. wire .place) (List·getD-eq-default (k .wires) (constant false placed inner 0) (ltb-false x (size k) e)) in
     absurd (let y : _≡_ {A = ℕ} 0 1 = cc in omega arith))
 
+-- and looking it up tells its label, its stage and whether it is registered
+pub label-told : (k : Circuit) (x : ℕ) {l t : ℕ} → place k x ≡ named l t → labelOf (lookUp k x) ≡ l
+label-told k x h = ap (λ p. labelOf (showing p (isStop (wireAt k x .gate)))) h
+
+pub stage-told : (k : Circuit) (x : ℕ) {l t : ℕ} → place k x ≡ named l t → stageShown (lookUp k x) ≡ t
+stage-told k x h = ap (λ p. stageShown (showing p (isStop (wireAt k x .gate)))) h
+
+pub registered-told : (k : Circuit) (x : ℕ) {l t : ℕ} → place k x ≡ named l t → isRegistered (lookUp k x) ≡ isStop (wireAt k x .gate)
+registered-told k x h = ap (λ p. isRegistered (showing p (isStop (wireAt k x .gate)))) h
+
 -- the places of a frame
 pub place-old : (k : Circuit) (ops : List ℕ) (kind : Kind) (x : ℕ) → x < size k → place (extend k ops kind) x ≡ place k x
 place-old k ops kind x l = ap (λ wire. wire .place) (List·getD-append (k .wires) (made k ops kind) (constant false placed inner 0) x l)
 
-pub row-first : (k : Circuit) (ops : List ℕ) (from t : ℕ) → fewestShares ≤ k .d → Row k ops from t → stageShown (place k (nth ops from)) ≡ t
-row-first k ops from t ge h = subst (λ (n : ℕ). stageShown (place k (nth ops n)) ≡ t) (omega arith) (ap stageShown (h 0 (omega arith)))
+pub row-first : (k : Circuit) (ops : List ℕ) (from t : ℕ) → fewestShares ≤ k .d → Row k ops from t → stageShown (lookUp k (nth ops from)) ≡ t
+row-first k ops from t ge h = subst (λ (n : ℕ). stageShown (lookUp k (nth ops n)) ≡ t) (omega arith) (stage-told k _ (h 0 (omega arith)))
 
 -- a law of wires that every frame keeps, and whose wires follow it
 module _ (Q : Circuit → ℕ → Wire → Type 0) where
@@ -144,15 +150,15 @@ delay-ref (fresh i j o l) = refl
 delay-ref (added i l) = refl
 
 -- the stage that a named wire shows is the stage at which it stands
-pub shown-le : (p : Place) → stageShown p ≤ stageOf p
-shown-le (named l t) = omega arith
-shown-le (inner t) = omega arith
+shown-le : (p : Place) (registered : Bool) → stageShown (showing p registered) ≤ stageOf p
+shown-le (named l t) registered = omega arith
+shown-le (inner t) registered = omega arith
 
 pub stage-le : (k : Circuit) → Lawful InTime k → (x : ℕ) → stageOf (place k x) ≤ stageLimit
 stage-le k h x = all-default (λ wire. stageOf (wire .place) ≤ stageLimit) (constant false placed inner 0) (omega arith) 0 (k .wires) x h
 
-pub shown-limit : (k : Circuit) → Lawful InTime k → (x : ℕ) → stageShown (place k x) ≤ stageLimit
-shown-limit k h x = omega (arith, shown-le (place k x), stage-le k h x)
+pub shown-limit : (k : Circuit) → Lawful InTime k → (x : ℕ) → stageShown (lookUp k x) ≤ stageLimit
+shown-limit k h x = omega (arith, shown-le (place k x) (isStop (wireAt k x .gate)), stage-le k h x)
 
 intime-new : (k : Circuit) (ops : List ℕ) (kind : Kind) → fewestShares ≤ k .d → Lawful InTime k → Fits k kind ops → AllFrom (InTime (extend k ops kind)) (size k) (made k ops kind)
 unfolding made newStage
@@ -160,7 +166,7 @@ intime-new k _ _ ge h (fit-IN t o) = at-all (InTime k) _ (size k) 0 (k .d) (λ i
 intime-new k _ _ ge h (fit-CON l b t o p q) = (q, tt)
 intime-new k _ _ ge h (fit-XOR x y l t p q) = (shown-limit k h x, tt)
 intime-new k _ _ ge h (fit-NOT x l t p) = (shown-limit k h x, tt)
-intime-new k _ _ ge h (fit-REG x l t p o) = (omega (arith, ap stageShown p), tt)
+intime-new k _ _ ge h (fit-REG x l t p o) = (omega (arith, stage-told k _ p), tt)
 intime-new k _ _ ge h (fit-AND ops t len first p q o) =
     gadget-all (k .d) (size k) _ _ (inAND (k .d)) c _ _ (InTime k)
     (all-any _ (λ x z. omega (arith, row-first k ops (1 + k .d) t ge q, delay-le z)) (size k) (inAND (k .d)))
@@ -169,7 +175,7 @@ intime-new k _ _ ge h (fit-REF ops t len first p o) =
     gadget-all (k .d) (size k) _ _ (inREF (k .d)) S _ _ (InTime k)
     (all-of _ (InREF (k .d)) (size k) (inREF (k .d)) (λ x z l i. omega (arith, row-first k ops 1 t ge p, delay-ref i)) (ref-parts (k .d)))
     (λ x i l g. omega (arith, row-first k ops 1 t ge p))
-intime-new k _ _ ge h (fit-OUT ops t len p) = tt
+intime-new k _ _ ge h (fit-OUT ops t len p q) = tt
 
 -- one frame more, and frames
 pub intime-step : (k : Circuit) (ops : List ℕ) (kind : Kind) → fewestShares ≤ k .d → Fits k kind ops → Lawful InTime k → Lawful InTime (extend k ops kind)

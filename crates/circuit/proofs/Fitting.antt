@@ -11,14 +11,14 @@ use borrow.Author.Tests.{leb-true, le-leb}
 use Rattle.circuit.specs.Limits.{wireLimit, stageLimit, fewestShares}
 use Rattle.circuit.specs.Lists.{nth}
 use Rattle.circuit.specs.Wires.{named}
-use Rattle.circuit.specs.Kinds.{Kind, HEAD, IN, CON, XOR, NOT, REG, AND, REF, OUT, kindOf, WordRule, share, before, row, shape, words}
-use Rattle.circuit.specs.Circuit.{Circuit, size, place, stageShown, newStage}
+use Rattle.circuit.specs.Kinds.{Kind, HEAD, IN, CON, XOR, NOT, REG, AND, REF, OUT, kindOf, WordRule, share, before, registered, row, shape, words}
+use Rattle.circuit.specs.Circuit.{Circuit, size, lookUp, stageShown, newStage}
 use Rattle.circuit.specs.Rules.{pass, wordsRule, frameRule}
 use Rattle.circuit.proofs.Base.{and-left, and-right, all-append, all-left, all-right}
 use Rattle.circuit.proofs.Numbered.{range-at, all-at, at-all}
-use Rattle.circuit.proofs.Sizes.{labels-map}
+use Rattle.circuit.proofs.Sizes.{row-length, words-AND, words-REF, words-OUT}
 use Rattle.circuit.specs.Composition.{Fits, fit-IN, fit-CON, fit-XOR, fit-NOT, fit-REG, fit-AND, fit-REF, fit-OUT, kindWord}
-use Rattle.circuit.proofs.Building.{row-first, Lawful, InTime, shown-limit}
+use Rattle.circuit.proofs.Building.{stage-told, row-first, Lawful, InTime, shown-limit}
 use Rattle.circuit.proofs.Judging.{then-pass, need-then, need-pass, Meets, AllMeet, words-pass, pass-words}
 
 -- the kind words
@@ -52,19 +52,6 @@ pub three-words : (xs : List ℕ) → length xs ≡ 3 → xs ≡ nth xs 0 ∷ nt
 three-words [] e = absurd (omega arith)
 three-words (x ∷ xs) e = ap (λ l. x ∷ l) (two-words xs (omega arith))
 
--- the number of words of frames with rows
-and-words : (d : ℕ) → words d AND ≡ 1 + d + d
-unfolding shape
-and-words d = omega (arith, length-append (row share 1 d) (row before 1 d), labels-map d (λ i. share i 1), labels-map d (λ i. before i 1))
-
-ref-words : (d : ℕ) → words d REF ≡ 1 + d
-unfolding shape
-ref-words d = omega (arith, labels-map d (λ i. share i 1))
-
-out-words : (d : ℕ) → words d OUT ≡ d
-unfolding shape
-out-words d = labels-map d (λ i. share i 0)
-
 module _ (k : Circuit) (ops : List ℕ) where
   open Circuit k using (d)
 
@@ -77,10 +64,10 @@ module _ (k : Circuit) (ops : List ℕ) where
   unfolding newStage
   and-fit ge len first a b t = go (b 0 (omega arith) .0) (b 0 (omega arith) .2)
     where
-      go : (s : ℕ) → suc s ≡ stageShown (place k (nth ops 1)) → Fits k AND ops
+      go : (s : ℕ) → suc s ≡ stageShown (lookUp k (nth ops 1)) → Fits k AND ops
       go s e = fit-AND ops s len first (λ i l. a i l ∙ ap (named i) (sym e))
           (λ i l. b i l .1 ∙ ap (named i) (omega (arith, b i l .2)))
-          (subst (λ (n : ℕ). suc n ≤ stageLimit) (ap stageShown (a 0 (omega arith)) ∙ sym e) t)
+          (subst (λ (n : ℕ). suc n ≤ stageLimit) (stage-told k _ (a 0 (omega arith)) ∙ sym e) t)
 
   -- a frame whose words meet their rules fits
   pub meets-fit : (kind : Kind) → fewestShares ≤ d → 1 ≤ kindWord kind → length ops ≡ words d kind → AllMeet k ops 0 (shape d kind .rules)
@@ -91,17 +78,19 @@ module _ (k : Circuit) (ops : List ℕ) where
   meets-fit CON ge one len h t = subst (Fits k CON) (sym (three-words ops len)) (fit-CON (nth ops 0) (nth ops 1) (nth ops 2) (h .0) (h .1 .0) (h .1 .1 .0))
   meets-fit XOR ge one len h t = subst (Fits k XOR) (sym (two-words ops len)) (fit-XOR (nth ops 0) (nth ops 1) _ _ (h .0) (h .1 .0))
   meets-fit NOT ge one len h t = subst (Fits k NOT) (sym (one-word ops len)) (fit-NOT (nth ops 0) _ _ (h .0))
-  meets-fit REG ge one len h t = subst (Fits k REG) (sym (one-word ops len)) (fit-REG (nth ops 0) _ _ (h .0) (subst (λ (s : ℕ). suc s ≤ stageLimit) (ap stageShown (h .0)) t))
+  meets-fit REG ge one len h t = subst (Fits k REG) (sym (one-word ops len)) (fit-REG (nth ops 0) _ _ (h .0) (subst (λ (s : ℕ). suc s ≤ stageLimit) (stage-told k _ (h .0)) t))
   meets-fit AND ge one len h t =
       let Q : ℕ → WordRule → Type 0 = λ m r. Meets k ops r (nth ops m) in
-      and-fit ge (len ∙ and-words d) (h .0)
+      and-fit ge (len ∙ words-AND d) (h .0)
       (row-meets share 1 1 (all-left Q 1 (row share 1 d) (row before 1 d) (h .1)))
-      (row-meets before 1 (1 + d) (subst (λ (n : ℕ). AllMeet k ops (1 + n) (row before 1 d)) (labels-map d (λ i. share i 1))
+      (row-meets before 1 (1 + d) (subst (λ (n : ℕ). AllMeet k ops (1 + n) (row before 1 d)) (row-length share 1 d)
       (all-right Q 1 (row share 1 d) (row before 1 d) (h .1)))) t
   meets-fit REF ge one len h t =
       let a = row-meets share 1 1 (h .1) in
-      fit-REF ops _ (len ∙ ref-words d) (h .0) a (subst (λ (n : ℕ). suc n ≤ stageLimit) (ap stageShown (a 0 (omega arith))) t)
-  meets-fit OUT ge one len h t = fit-OUT ops _ (len ∙ out-words d) (row-meets share 0 0 h)
+      fit-REF ops _ (len ∙ words-REF d) (h .0) a (subst (λ (n : ℕ). suc n ≤ stageLimit) (stage-told k _ (a 0 (omega arith))) t)
+  meets-fit OUT ge one len h t =
+      let a = row-meets registered 0 0 h in
+      fit-OUT ops _ (len ∙ words-OUT d) (λ i l. a i l .0) (λ i l. a i l .1)
 
 -- what a frame that passes shows
 pub record Passed (k : Circuit) (x : ℕ) (rest : List ℕ) : Type 0 where
@@ -151,17 +140,17 @@ fit-meets k _ _ ge h (fit-IN t o) = record { known = omega arith; count = refl; 
 fit-meets k _ _ ge h (fit-CON l b t p q o) = record { known = omega arith; count = refl; meets = (p, (q, (o, tt))); stage = o }
 fit-meets k _ _ ge h (fit-XOR x y l t p q) = record { known = omega arith; count = refl; meets = (rw p, (rw (q, p), tt)); stage = shown-limit k h x }
 fit-meets k _ _ ge h (fit-NOT x l t p) = record { known = omega arith; count = refl; meets = (rw p, tt); stage = shown-limit k h x }
-fit-meets k _ _ ge h (fit-REG x l t p o) = record { known = omega arith; count = refl; meets = (rw p, tt); stage = omega (arith, ap stageShown p) }
+fit-meets k _ _ ge h (fit-REG x l t p o) = record { known = omega arith; count = refl; meets = (rw p, tt); stage = omega (arith, stage-told k _ p) }
 fit-meets k _ _ ge h (fit-AND ops t len first p q o) =
     let s = row-first k ops 1 (suc t) ge p in
     record {
       known = omega arith;
-      count = len ∙ sym (and-words (k .d));
+      count = len ∙ sym (words-AND (k .d));
       meets = (
         first,
         all-append (λ m r. Meets k ops r (nth ops m)) 1 (row share 1 (k .d)) (row before 1 (k .d))
             (meets-row k ops share 1 1 (λ i l. p i l ∙ ap (named i) (sym s)))
-            (subst (λ (n : ℕ). AllMeet k ops (1 + n) (row before 1 (k .d))) (sym (labels-map (k .d) (λ i. share i 1))) (meets-row k ops before 1 (1 + k .d) (λ i l. (t, q i l, sym s)))),
+            (subst (λ (n : ℕ). AllMeet k ops (1 + n) (row before 1 (k .d))) (sym (row-length share 1 (k .d))) (meets-row k ops before 1 (1 + k .d) (λ i l. (t, q i l, sym s)))),
       );
       stage = omega arith;
     }
@@ -169,14 +158,14 @@ fit-meets k _ _ ge h (fit-REF ops t len first p o) =
     let s = row-first k ops 1 t ge p in
     record {
       known = omega arith;
-      count = len ∙ sym (ref-words (k .d));
+      count = len ∙ sym (words-REF (k .d));
       meets = (first, meets-row k ops share 1 1 (λ i l. p i l ∙ ap (named i) (sym s)));
       stage = omega arith;
     }
-fit-meets k _ _ ge h (fit-OUT ops t len p) = record {
+fit-meets k _ _ ge h (fit-OUT ops t len p q) = record {
   known = omega arith;
-  count = len ∙ sym (out-words (k .d));
-  meets = meets-row k ops share 0 0 (λ i l. p i l ∙ ap (named i) (sym (row-first k ops 0 t ge p)));
+  count = len ∙ sym (words-OUT (k .d));
+  meets = meets-row k ops registered 0 0 (λ i l. (p i l ∙ ap (named i) (sym (row-first k ops 0 t ge p)), q i l));
   stage = shown-limit k h (nth ops 0);
 }
 

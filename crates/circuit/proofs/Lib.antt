@@ -8,6 +8,8 @@ pub mod Sizes
 pub mod Steps
 -- Laws of wires along frames that fit
 pub mod Building
+-- Which wires are registered
+pub mod Registered
 -- The checker accepts exactly the tables whose frames fit
 pub mod Judging
 pub mod Fitting

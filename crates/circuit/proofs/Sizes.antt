@@ -10,7 +10,7 @@ use borrow.Author.Tests.{eqb-true, lt-ltb, ltb-true, ltb-false}
 use Rattle.circuit.specs.Lists.{range, filter, concatMap}
 use Rattle.circuit.specs.Wires.{Gate, named, inner, _placed_}
 use Rattle.circuit.specs.Gadgets.{Part, r, s, labels, above, others, gate, delay, inAND, inREF, index, gadget}
-use Rattle.circuit.specs.Kinds.{Kind, HEAD, IN, CON, XOR, NOT, REG, AND, REF, OUT, pairs, shape}
+use Rattle.circuit.specs.Kinds.{Kind, HEAD, IN, CON, XOR, NOT, REG, AND, REF, OUT, WordRule, share, before, registered, row, pairs, shape, words}
 use Rattle.circuit.specs.Circuit.{Circuit, made}
 use Rattle.circuit.proofs.Base.{cases, ne-lt, lt-ne}
 use Rattle.circuit.proofs.Parts.{cell1, cell2, cell3, sec1, sec2, sec3, fresh1}
@@ -114,3 +114,19 @@ made-size k ops REG = refl
 made-size k ops AND = gadget-size _ _ _ _ _ _ _ _ ∙ and-size (k .d)
 made-size k ops REF = gadget-size _ _ _ _ _ _ _ _ ∙ ref-size (k .d)
 made-size k ops OUT = refl
+
+-- how many words frames with rows have
+pub row-length : (rule : ℕ → ℕ → WordRule) (place d : ℕ) → length (row rule place d) ≡ d
+row-length rule place d = labels-map d (λ i. rule i place)
+
+pub words-AND : (d : ℕ) → words d AND ≡ 1 + d + d
+unfolding shape
+words-AND d = omega (arith, length-append (row share 1 d) (row before 1 d), row-length share 1 d, row-length before 1 d)
+
+pub words-REF : (d : ℕ) → words d REF ≡ 1 + d
+unfolding shape
+words-REF d = omega (arith, row-length share 1 d)
+
+pub words-OUT : (d : ℕ) → words d OUT ≡ d
+unfolding shape
+words-OUT d = row-length registered 0 d

@@ -1,10 +1,11 @@
 -- Document 01, "Calls and their sheets": the answers' numbers, and the notes after a call.
+use mathlib.Core.Bool.{cond}
 use mathlib.Core.List.{List, [], _∷_}
-use Prim.Native.Nat.{ℕ}
-use Rattle.circuit.specs.Limits.{innerNote}
+use Prim.Native.Nat.{ℕ, _+_}
+use Rattle.circuit.specs.Limits.{registeredNote, innerNote}
 use Rattle.circuit.specs.Lists.{concatMap, overwrite}
-use Rattle.circuit.specs.Wires.{Place, named, inner, Wire}
-use Rattle.circuit.specs.Circuit.{Circuit, size}
+use Rattle.circuit.specs.Wires.{Wire}
+use Rattle.circuit.specs.Circuit.{Circuit, size, Lookup, found, hidden, shownBy}
 use Rattle.circuit.specs.Rules.{Judgement, pass, refuse, Checked, checked}
 
 -- accepted: the numbers of wires and random bits, and the latency; refused: the rule's number, the frame and the word
@@ -21,11 +22,14 @@ answer k (refuse rule frame word) = refused rule frame word
 abbrev pub verdictOf : (table : List ℕ) (room : ℕ) → Answer
 verdictOf table room = answer (checked table room .circuit) (checked table room .judgement)
 
--- the two words of a wire in the notes
-abbrev pub note : Place → List ℕ
-note (named label stage) = label ∷ stage ∷ []
-note (inner stage) = innerNote ∷ innerNote ∷ []
+-- the two words of a wire in the notes: what looking it up tells
+abbrev pub note : Lookup → List ℕ
+note (found label stage registered) = (label + cond registered registeredNote 0) ∷ stage ∷ []
+note hidden = innerNote ∷ innerNote ∷ []
 
--- the notes after a check: the words of the wires made, the rest untouched
+-- the words of wires, and the notes after a check: the words of the wires made, the rest untouched
+abbrev pub notesOf : List Wire → List ℕ
+notesOf wires = concatMap wires (λ wire. note (shownBy wire))
+
 unfoldable pub notesAfter : Circuit → List ℕ → List ℕ
-notesAfter k notes = overwrite (concatMap (k .wires) (λ wire. note (wire .place))) notes
+notesAfter k notes = overwrite (notesOf (k .wires)) notes

@@ -4,7 +4,7 @@ use mathlib.Core.List.{List, [], _∷_, _++_, map}
 use Prim.Native.Nat.{ℕ, zero, suc, _+_, _*_, max}
 use lib.ListN.{length, getD}
 use Rattle.circuit.specs.Lists.{nth}
-use Rattle.circuit.specs.Wires.{Place, named, inner, Wire, input, constant, reg, inverse, sum, _placed_}
+use Rattle.circuit.specs.Wires.{input, constant, reg, inverse, sum, isStop, Place, named, inner, Wire, _placed_}
 use Rattle.circuit.specs.Gadgets.{labels, Part, inAND, inREF, gadget}
 use Rattle.circuit.specs.Kinds.{Kind, HEAD, IN, CON, XOR, NOT, REG, AND, REF, OUT, shape}
 
@@ -23,18 +23,40 @@ size k = length (k .wires)
 abbrev pub empty : ℕ → Circuit
 empty d = record { d = d; wires = []; inputs = 0; randoms = 0; latency = 0 }
 
--- the place of a wire; inner, where there is no such wire
+-- the wire of a number, an inner one where there is none; and its place
+abbrev pub wireAt : Circuit → ℕ → Wire
+wireAt k x = getD (k .wires) x (constant false placed inner 0)
+
 abbrev pub place : Circuit → ℕ → Place
-place k x = getD (k .wires) x (constant false placed inner 0) .place
+place k x = wireAt k x .place
 
--- the label and the stage that a wire shows to other frames; an inner one shows none, and rule 9 is tested before this counts
-abbrev pub labelOf : Place → ℕ
-labelOf (named l t) = l
-labelOf (inner t) = 0
+-- what looking a wire up tells other frames: its label, its stage and whether it is registered, or that it is hidden, being inner
+pub data Lookup : Type 0 where
+  found : (label stage : ℕ) (registered : Bool) → Lookup
+  hidden : Lookup
 
-abbrev pub stageShown : Place → ℕ
-stageShown (named l t) = t
-stageShown (inner t) = 0
+abbrev pub showing : Place → (registered : Bool) → Lookup
+showing (named l t) registered = found l t registered
+showing (inner t) registered = hidden
+
+abbrev pub shownBy : Wire → Lookup
+shownBy wire = showing (wire .place) (isStop (wire .gate))
+
+abbrev pub lookUp : Circuit → ℕ → Lookup
+lookUp k x = shownBy (wireAt k x)
+
+-- the parts of the answer; a hidden wire tells nothing, and rule 9 is tested before this counts
+abbrev pub labelOf : Lookup → ℕ
+labelOf (found l t registered) = l
+labelOf hidden = 0
+
+abbrev pub stageShown : Lookup → ℕ
+stageShown (found l t registered) = t
+stageShown hidden = 0
+
+abbrev pub isRegistered : Lookup → Bool
+isRegistered (found l t registered) = registered
+isRegistered hidden = false
 
 -- the stage at which a wire stands
 abbrev pub stageOf : Place → ℕ
@@ -49,10 +71,10 @@ isSet (suc n) = true
 -- what a frame with these words after its kind adds to a circuit
 module _ (k : Circuit) (ops : List ℕ) where
   abbrev label : ℕ → ℕ
-  label i = labelOf (place k (nth ops i))
+  label i = labelOf (lookUp k (nth ops i))
 
   abbrev stage : ℕ → ℕ
-  stage i = stageShown (place k (nth ops i))
+  stage i = stageShown (lookUp k (nth ops i))
 
   -- the stage of the wires that a frame makes for others to name; of OUT, that of its wires
   unfoldable pub newStage : Kind → ℕ

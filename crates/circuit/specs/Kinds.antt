@@ -19,6 +19,7 @@ pub data WordRule : Type 0 where
   like : (place : ℕ) → WordRule  -- a wire with the label and the stage of the wire at that place
   share : (i place : ℕ) → WordRule  -- a wire with label i, at the stage of the wire at that place
   before : (i place : ℕ) → WordRule  -- a wire with label i, one stage before the wire at that place
+  registered : (i place : ℕ) → WordRule  -- a registered wire with label i, at the stage of the wire at that place
 
 -- d wires in a row, the i-th with label i, all at one stage: that of the wire at a place, or one before it
 abbrev pub row : (ℕ → ℕ → WordRule) → ℕ → ℕ → List WordRule
@@ -49,7 +50,7 @@ shape d NOT = kindShape (like 0 ∷ []) 1 0 0
 shape d REG = kindShape (like 0 ∷ []) 1 0 0
 shape d AND = kindShape (random ∷ row share 1 d ++ row before 1 d) (7 * (d * (d - 1)) + 4 * d) (pairs d) 0
 shape d REF = kindShape (random ∷ row share 1 d) (pairs d + 2 * d) (pairs d) 0
-shape d OUT = kindShape (row share 0 d) 0 0 0
+shape d OUT = kindShape (row registered 0 d) 0 0 0
 
 -- how many words follow the kind
 abbrev pub words : ℕ → Kind → ℕ

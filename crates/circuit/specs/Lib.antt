@@ -7,5 +7,5 @@ pub mod Kinds
 pub mod Circuit
 pub mod Rules
 pub mod Answer
--- The same answerOf a second way, for the theorem of exactness and for statements about frames.
+-- The same said a second way, for the theorem of exactness and for statements about frames.
 pub mod Composition

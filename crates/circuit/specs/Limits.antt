@@ -22,6 +22,9 @@ fewestShares = 2
 abbrev pub mostShares : ℕ
 mostShares = 8
 
--- the word that the notes hold twice for an inner wire
+-- what the notes add to the label of a registered wire; the word that they hold twice for an inner wire
+abbrev pub registeredNote : ℕ
+registeredNote = 8
+
 abbrev pub innerNote : ℕ
 innerNote = 0xFFFF

@@ -1,4 +1,4 @@
--- Document 01, "Where each refusal is met": rules 1 to 14, in the order of its table.
+-- Document 01, "Where each refusal is met": rules 1 to 14, in the order of its table, and rule 22 behind 11.
 use mathlib.Core.Bool.{Bool, true, false, _&&_}
 use mathlib.Core.List.{List, [], _∷_}
 use Prim.Native.Nat.{ℕ, zero, suc, _+_}
@@ -6,9 +6,8 @@ use lib.Dec.{leb, ltb, eqb}
 use lib.ListN.{length, take, drop}
 use Rattle.circuit.specs.Limits.{tableLimit, wireLimit, notesRoom, stageLimit, fewestShares, mostShares}
 use Rattle.circuit.specs.Lists.{nth}
-use Rattle.circuit.specs.Wires.{Place, named, inner}
-use Rattle.circuit.specs.Kinds.{Kind, kindOf, WordRule, shareCount, label, value, stage, random, like, share, before, shape, words}
-use Rattle.circuit.specs.Circuit.{Circuit, size, empty, place, labelOf, stageShown, newStage, extend}
+use Rattle.circuit.specs.Kinds.{Kind, kindOf, WordRule, shareCount, label, value, stage, random, like, share, before, registered, shape, words}
+use Rattle.circuit.specs.Circuit.{Circuit, size, empty, Lookup, found, hidden, lookUp, labelOf, stageShown, isRegistered, newStage, extend}
 
 -- nothing is broken; or the number of the first rule broken, the frame and the word
 pub data Judgement : Type 0 where
@@ -26,24 +25,24 @@ abbrev pub _then_ : Judgement → Judgement → Judgement
 pass then j = j
 refuse rule frame word then j = refuse rule frame word
 
-abbrev pub isNamed : Place → Bool
-isNamed (named l t) = true
-isNamed (inner t) = false
+abbrev pub isNamed : Lookup → Bool
+isNamed (found l t b) = true
+isNamed hidden = false
 
 -- a frame of number f on the circuit k, with these words after its kind
 module _ (k : Circuit) (f : ℕ) (ops : List ℕ) where
   -- the word x, of number w on the frame, where a wire is asked for: made, not inner, and of the right label and stage
   abbrev pub wireRule : (labelRight stageRight : Bool) → (w x : ℕ) → Judgement
   wireRule labelRight stageRight w x = need (ltb x (size k)) 8 f w
-      then need (isNamed (place k x)) 9 f w
+      then need (isNamed (lookUp k x)) 9 f w
       then need labelRight 10 f w
       then need stageRight 11 f w
 
   abbrev labelAt : ℕ → ℕ
-  labelAt x = labelOf (place k x)
+  labelAt x = labelOf (lookUp k x)
 
   abbrev stageAt : ℕ → ℕ
-  stageAt x = stageShown (place k x)
+  stageAt x = stageShown (lookUp k x)
 
   -- a word by its rule
   abbrev pub wordRule : WordRule → (w x : ℕ) → Judgement
@@ -55,6 +54,7 @@ module _ (k : Circuit) (f : ℕ) (ops : List ℕ) where
   wordRule (like p) w x = wireRule (eqb (labelAt x) (labelAt (nth ops p))) (eqb (stageAt x) (stageAt (nth ops p))) w x
   wordRule (share i p) w x = wireRule (eqb (labelAt x) i) (eqb (stageAt x) (stageAt (nth ops p))) w x
   wordRule (before i p) w x = wireRule (eqb (labelAt x) i) (eqb (suc (stageAt x)) (stageAt (nth ops p))) w x
+  wordRule (registered i p) w x = wireRule (eqb (labelAt x) i) (eqb (stageAt x) (stageAt (nth ops p))) w x then need (isRegistered (lookUp k x)) 22 f w
 
   -- word by word, from the number w on
   unfoldable pub wordsRule : ℕ → List WordRule → List ℕ → Judgement

@@ -1,5 +1,5 @@
 -- Document 01, "Frames": what a wire is.
-use mathlib.Core.Bool.{Bool}
+use mathlib.Core.Bool.{Bool, true, false}
 use mathlib.Core.List.{List}
 use Prim.Native.Nat.{ℕ}
 
@@ -13,6 +13,18 @@ pub data Gate : Type 0 where
   sum : List ℕ → Gate  -- modulo 2
   product : ℕ → ℕ → Gate
   andNot : ℕ → ℕ → Gate  -- (not x)·y
+
+-- document 01's term: a stop is an IN or CON wire, a random bit, or a register. A probe reads back to stops, and a wire is
+-- registered where its gate is one
+abbrev pub isStop : Gate → Bool
+isStop (input n) = true
+isStop (constant b) = true
+isStop random = true
+isStop (reg x) = true
+isStop (inverse x) = false
+isStop (sum xs) = false
+isStop (product x y) = false
+isStop (andNot x y) = false
 
 -- where a wire stands. Document 01's terms: a label is a wire's share, 0 to d−1; a stage is its clock, 0 to 255. An inner
 -- wire has no label, and its stage is not shown in the notes

@@ -1,31 +1,14 @@
--- The kind table in numbers: how many words each kind has, and that its numbers fit.
+-- The kind table in numbers: that they fit, and that the code holds them.
 use mathlib.Core.Path.{_≡_, refl, sym, ap, subst}
 use Prim.Native.Nat.{ℕ, zero, suc, _+_, _*_, _-_, _≤_, _<_}
 use native.Mathlib.Nat.{mul-le-mul}
 use native.Mathlib.Omega.{arith}
-use lib.ListN.{length, length-append}
-use Rattle.circuit.proofs.Sizes.{labels-map}
-use Rattle.circuit.specs.Kinds.{WordRule, share, before, row, Kind, HEAD, IN, CON, XOR, NOT, REG, AND, REF, OUT, kindOf, shape, words}
-use Rattle.circuit.specs.Circuit.{place, newStage}
+use Rattle.circuit.specs.Kinds.{Kind, HEAD, IN, CON, XOR, NOT, REG, AND, REF, OUT, kindOf, shape}
+use Rattle.circuit.specs.Circuit.{newStage}
 use Rattle.frames.specs.declared.kinds.Kind.{Kind as KindCode}
 use Rattle.frames.specs.declared.kinds.Form.{Form}
 use Rattle.frames.specs.declared.kinds.Shape.{Shape as ShapeCode}
 use Rattle.frames.specs.Walk.{formOf, Means, kindLine, shapeCode}
-
-pub row-length : (rule : ℕ → ℕ → WordRule) (place d : ℕ) → length (row rule place d) ≡ d
-row-length rule place d = labels-map d (λ i. rule i place)
-
-pub words-AND : (d : ℕ) → words d AND ≡ 1 + d + d
-unfolding shape
-words-AND d = omega (arith, length-append (row share 1 d) (row before 1 d), row-length share 1 d, row-length before 1 d)
-
-pub words-REF : (d : ℕ) → words d REF ≡ 1 + d
-unfolding shape
-words-REF d = omega (arith, row-length share 1 d)
-
-pub words-OUT : (d : ℕ) → words d OUT ≡ d
-unfolding shape
-words-OUT d = row-length share 0 d
 
 -- d(d−1) as the code computes it
 pub ordered : (d : ℕ) → d * d - d ≡ d * (d - 1)

@@ -6,8 +6,8 @@ use Prim.Native.Nat.{ℕ, _+_}
 use lib.Dec.{leb, ltb}
 use lib.ListN.{length, take, drop}
 use Rattle.circuit.specs.Lists.{nth}
-use Rattle.circuit.specs.Kinds.{Kind, HEAD, IN, CON, XOR, NOT, REG, AND, REF, OUT, kindOf, WordRule, shareCount, label, value, stage, random, like, share, before, row, shape, words}
-use Rattle.circuit.specs.Circuit.{Circuit, place, stageShown, newStage}
+use Rattle.circuit.specs.Kinds.{Kind, HEAD, IN, CON, XOR, NOT, REG, AND, REF, OUT, kindOf, WordRule, shareCount, label, value, stage, random, like, share, before, registered, row, shape, words}
+use Rattle.circuit.specs.Circuit.{Circuit, place, stageShown, newStage, lookUp}
 use Rattle.frames.specs.declared.kinds.Kind.{Kind as KindCode}
 use Rattle.frames.specs.declared.kinds.Kind.the-variants.{Head, In, Con, Xor, Not, Reg, And, Ref, Out}
 use Rattle.frames.specs.declared.kinds.Form.{Form}
@@ -54,7 +54,7 @@ rulesOf d Sum = like 0 ∷ like 0 ∷ []
 rulesOf d (Copy after) = like 0 ∷ []
 rulesOf d Product = random ∷ row share 1 d ++ row before 1 d
 rulesOf d Refresh = random ∷ row share 1 d
-rulesOf d Row = row share 0 d
+rulesOf d Row = row registered 0 d
 
 -- the stage of the wires that a form makes for others to name, from the stages that the wires at places of the frame show; of
 -- a row that makes none, that of its wires
@@ -71,7 +71,7 @@ stageMade Row ops shown = shown 0
 -- a form that means a kind: it asks the kind's rules of the words, and makes wires at the kind's stage
 pub record Means (d : ℕ) (form : Form) (kind : Kind) : Type 0 where
   pub rules : rulesOf d form ≡ shape d kind .rules
-  pub stages : (k : Circuit) (ops : List ℕ) → stageMade form ops (λ i. stageShown (place k (nth ops i))) ≡ newStage k ops kind
+  pub stages : (k : Circuit) (ops : List ℕ) → stageMade form ops (λ i. stageShown (lookUp k (nth ops i))) ≡ newStage k ops kind
 
 -- what a kind decides, as the code holds it
 abbrev pub kindLine : KindCode → Form → (words wires randoms inputs : ℕ) → ShapeCode

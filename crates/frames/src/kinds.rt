@@ -31,7 +31,7 @@ pub enum Form {
     Product,
     // the first random, and d wires
     Refresh,
-    // d wires
+    // d registered wires
     Row,
 }
 

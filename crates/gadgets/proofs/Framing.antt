@@ -53,7 +53,7 @@ frame-early k _ _ (fit-NOT x l t p) = named-made k x l t p
 frame-early k _ _ (fit-REG x l t p o) = named-made k x l t p
 frame-early k _ _ (fit-AND ops t len first p q o) = (len, (λ i l. named-made k (nth ops (1 + i)) i (suc t) (p i l)), (λ i l. named-made k (nth ops (1 + k .d + i)) i t (q i l)))
 frame-early k _ _ (fit-REF ops t len first p o) = (omega (arith, len), (λ i l. named-made k (nth ops (1 + i)) i t (p i l)))
-frame-early k _ _ (fit-OUT ops t len p) = tt
+frame-early k _ _ (fit-OUT ops t len p q) = tt
 
 pub frame-supplied : (d from used shares tape : ℕ) (ops : List ℕ) (kind : Kind) → from + d * shape d kind .inputs ≤ shares → used + shape d kind .randoms ≤ tape
     → FrameSupplied (frameCode (kindCode kind) ops) d from used shares tape

@@ -161,7 +161,7 @@ module _ {table : List ℕ} (a : AcceptedTable table) {at : ℕ} (b : Between ta
     fit-wide (fit-REG x l t p o) = omega arith
     fit-wide (fit-AND ops t len first p q o) = omega (arith, len)
     fit-wide (fit-REF ops t len first p o) = omega (arith, len)
-    fit-wide (fit-OUT ops t len p) = omega (arith, len, same-d, a .least)
+    fit-wide (fit-OUT ops t len p q) = omega (arith, len, same-d, a .least)
 
     abbrev onward : Between table (a .fs) (at + 1 + words (a .d) kind)
     onward = record {

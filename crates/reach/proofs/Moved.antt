@@ -9,12 +9,12 @@ use lib.Dec.{ltb, eqb}
 use lib.ListN.{length, set, length-set}
 use borrow.Author.Tests.{le-ltb, ltb-true, ltb-false}
 use Rattle.circuit.specs.Lists.{nth, range, mem}
-use Rattle.circuit.specs.Wires.{Gate, reg, sum, product, andNot, inverse}
+use Rattle.circuit.specs.Wires.{Gate, reg, sum, product, andNot, inverse, isStop}
 use Rattle.circuit.specs.Gadgets.{others}
 use Rattle.circuit.specs.Kinds.{pairs}
 use Rattle.circuit.proofs.Base.{cases, or-cases, or-left, or-right, In}
 use Rattle.circuit.proofs.Sizes.{pairs-twice}
-use Rattle.semantics.specs.Probes.{isStop, operands}
+use Rattle.semantics.specs.Probes.{operands}
 use Rattle.gadgets.specs.Internal.Places.{crossStart, pairAt, crossAt, productAt, outAt, maskAt, sumAt, heldAt}
 use Rattle.gadgets.specs.Internal.Gates.{gateAt, ProductGates, CrossGates, CrossRowGates, CrossAllGates, ProductsGates, OutGates, AndGates, RefGates}
 use Rattle.gadgets.proofs.Bits.{set-low}

@@ -9,10 +9,10 @@ use lib.ListN.{length, set}
 use borrow.Author.Tests.{eqb-true, eqb-false, ltb-true, ltb-false}
 use Rattle.circuit.specs.Lists.{nth, mem}
 use Rattle.circuit.specs.Circuit.{isSet}
-use Rattle.circuit.specs.Wires.{Wire, Gate}
+use Rattle.circuit.specs.Wires.{Wire, Gate, isStop}
 use Rattle.circuit.proofs.Base.{cases, or-cases, lt-ne, In, in-head, in-each, every-in, Every}
 use Rattle.circuit.proofs.Numbered.{all-get}
-use Rattle.semantics.specs.Probes.{isStop, operands, stops}
+use Rattle.semantics.specs.Probes.{operands, stops}
 use Rattle.semantics.proofs.Reading.{same-test, concatMap-in, probe, stop-reads, gate-reads}
 use Rattle.gadgets.specs.Internal.Gates.{nothing, gateAt, OrderedFrom}
 use Rattle.gadgets.proofs.Bits.{set-low, set-high}

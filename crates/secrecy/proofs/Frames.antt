@@ -8,12 +8,12 @@ use Rattle.circuit.specs.Lists.{nth}
 use Rattle.circuit.specs.Wires.{Gate, input, constant, reg, inverse, sum, named, Wire}
 use Rattle.circuit.specs.Gadgets.{labels}
 use Rattle.circuit.specs.Kinds.{Kind, HEAD, IN, CON, XOR, NOT, REG, AND, REF, OUT}
-use Rattle.circuit.specs.Circuit.{Circuit, size, place, labelOf, stageShown, isSet, newStage, made}
+use Rattle.circuit.specs.Circuit.{Circuit, size, place, labelOf, stageShown, isSet, newStage, made, lookUp}
 use Rattle.circuit.proofs.Base.{In, in-head, AllFrom, all-zip, all-map, all-unmap, all-every}
 use Rattle.circuit.proofs.Parts.{labels-lt}
 use Rattle.circuit.specs.Composition.{Fits, fit-IN, fit-CON, fit-XOR, fit-NOT, fit-REG, fit-AND, fit-REF, fit-OUT}
 use Rattle.circuit.proofs.Numbered.{all-get}
-use Rattle.circuit.proofs.Building.{named-made}
+use Rattle.circuit.proofs.Building.{named-made, label-told}
 use Rattle.semantics.specs.Values.{at}
 use Rattle.secrecy.proofs.Roles.{Role, lone}
 use Rattle.secrecy.proofs.Taken.{taken, taken-sub, chosen, Chosen}
@@ -33,7 +33,7 @@ module _ (isProbed : ℕ → Bool) (behind : List ℕ) (k : Circuit) where
   wireB ops i = nth ops (1 + k .d + i)
 
   abbrev stageAt : List ℕ → ℕ → ℕ
-  stageAt ops i = stageShown (place k (nth ops i))
+  stageAt ops i = stageShown (lookUp k (nth ops i))
 
   abbrev andSite : List ℕ → Site
   andSite ops = site isProbed (k .d) (size k) (wireA ops) (wireB ops) (stageAt ops (1 + k .d)) (newStage k ops AND) behind
@@ -46,7 +46,7 @@ module _ (isProbed : ℕ → Bool) (behind : List ℕ) (k : Circuit) where
   inEntry ops i = entry (input (k .inputs * k .d + i)) (named i (newStage k ops IN)) (lone i)
 
   abbrev alike : List ℕ → Kind → Gate → Entry
-  alike ops kind g = let l = labelOf (place k (nth ops 0)) in entry g (named l (newStage k ops kind)) (lone l)
+  alike ops kind g = let l = labelOf (lookUp k (nth ops 0)) in entry g (named l (newStage k ops kind)) (lone l)
 
   unfoldable pub entries : List ℕ → Kind → List Entry
   entries ops HEAD = []
@@ -131,12 +131,12 @@ module _ (isProbed : ℕ → Bool) (behind : List ℕ) (k : Circuit) where
     unfolding entries frameFlips
     frame-good (fit-IN t e) sh i h = inputs-good (t ∷ []) sh h
     frame-good (fit-CON l b t o e f) sh i h = single (constant (isSet b)) l (newStage k (l ∷ b ∷ t ∷ []) CON) (λ q. carry (h .0) refl refl tt)
-    frame-good (fit-XOR x y l t p q) sh i h = single (sum (x ∷ y ∷ [])) (labelOf (place k x)) (newStage k (x ∷ y ∷ []) XOR)
-        (λ z. let e : In l (before (x ∷ y ∷ []) XOR) = subst (λ (j : ℕ). In j (before (x ∷ y ∷ []) XOR)) (ap labelOf p) z in carry (h .0) refl refl (i x l t p e, (i y l t q e, tt)))
-    frame-good (fit-NOT x l t p) sh i h = single (inverse x) (labelOf (place k x)) (newStage k (x ∷ []) NOT)
-        (λ z. carry (h .0) refl refl (i x l t p (subst (λ (j : ℕ). In j (before (x ∷ []) NOT)) (ap labelOf p) z), tt))
-    frame-good (fit-REG x l t p e) sh i h = single (reg x) (labelOf (place k x)) (newStage k (x ∷ []) REG)
-        (λ z. carry (h .0) refl refl (i x l t p (subst (λ (j : ℕ). In j (before (x ∷ []) REG)) (ap labelOf p) z), tt))
+    frame-good (fit-XOR x y l t p q) sh i h = single (sum (x ∷ y ∷ [])) (labelOf (lookUp k x)) (newStage k (x ∷ y ∷ []) XOR)
+        (λ z. let e : In l (before (x ∷ y ∷ []) XOR) = subst (λ (j : ℕ). In j (before (x ∷ y ∷ []) XOR)) (label-told k x p) z in carry (h .0) refl refl (i x l t p e, (i y l t q e, tt)))
+    frame-good (fit-NOT x l t p) sh i h = single (inverse x) (labelOf (lookUp k x)) (newStage k (x ∷ []) NOT)
+        (λ z. carry (h .0) refl refl (i x l t p (subst (λ (j : ℕ). In j (before (x ∷ []) NOT)) (label-told k x p) z), tt))
+    frame-good (fit-REG x l t p e) sh i h = single (reg x) (labelOf (lookUp k x)) (newStage k (x ∷ []) REG)
+        (λ z. carry (h .0) refl refl (i x l t p (subst (λ (j : ℕ). In j (before (x ∷ []) REG)) (label-told k x p) z), tt))
     frame-good (fit-AND ops t n z p q s) sh i h =
         let e = ins-eq (andSite ops) in
         and-good isProbed (k .d) (size k) (wireA ops) (wireB ops) (stageAt ops (1 + k .d)) (newStage k ops AND) behind T h
@@ -144,7 +144,7 @@ module _ (isProbed : ℕ → Bool) (behind : List ℕ) (k : Circuit) where
     frame-good (fit-REF ops t n z p s) sh i h =
         let e = ins-eq (refSite ops) in
         ref-good isProbed (k .d) (size k) (wireA ops) (stageAt ops 1) (newStage k ops REF) behind T h (λ j l z. i (wireA ops j) j t (p j l) (rw e z))
-    frame-good (fit-OUT ops t n p) sh i h = tt
+    frame-good (fit-OUT ops t n p q) sh i h = tt
 
   -- no flip but AND's, which is decided by the wires a and b
   pub frame-decided : {kind : Kind} {ops : List ℕ} → Fits k kind ops → AllFrom (λ x e. Decided x (frameFlips ops kind (e .role))) (size k) (entries ops kind)
@@ -157,4 +157,4 @@ module _ (isProbed : ℕ → Bool) (behind : List ℕ) (k : Circuit) where
   frame-decided (fit-AND ops t n z p q s) = and-decided isProbed (k .d) (size k) (wireA ops) (wireB ops) (stageAt ops (1 + k .d)) (newStage k ops AND) behind
       (λ i l. named-made k (wireA ops i) i (suc t) (p i l)) (λ i l. named-made k (wireB ops i) i t (q i l))
   frame-decided (fit-REF ops t n z p s) = still-decided (size k) (entries ops REF)
-  frame-decided (fit-OUT ops t n p) = tt
+  frame-decided (fit-OUT ops t n p q) = tt

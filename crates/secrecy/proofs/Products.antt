@@ -11,7 +11,7 @@ use Rattle.circuit.specs.Lists.{_⊕_, nth}
 use Rattle.circuit.specs.Wires.{Gate, Wire}
 use Rattle.circuit.specs.Gadgets.{Part, r, R, B, m, M, u, U, v, V′, w, W, c, s, S, labels, others, sorted, gate, inAND, inREF, index}
 use Rattle.circuit.specs.Kinds.{AND, REF}
-use Rattle.circuit.specs.Circuit.{Circuit, size, place, stageShown, newStage, empty, made}
+use Rattle.circuit.specs.Circuit.{Circuit, size, stageShown, newStage, empty, made, lookUp}
 use Rattle.circuit.proofs.Base.{cases, no-flip, ltb-other, AllFrom}
 use Rattle.circuit.proofs.Parts.{index-at, Pair, other, label-lt, others-pair, InAND, is-R, is-B, is-m, is-M, is-u, is-U, is-v, is-V, is-w, is-W, and-has, added as is-s, ref-has}
 use Rattle.circuit.proofs.Building.{build-shares, gadget-parts, gadget-outputs}
@@ -116,13 +116,13 @@ module _ (d : ℕ) (fs before after : List Frame) (ops : List ℕ) (shares tape 
       let b : ℕ → ℕ = λ i. nth ops (1 + k .d + i) in
       let meets = made-meets d before (frame AND ops) after e ordered shares tape in
       rw (build-shares (empty d) before) at (and-adds (k .d) (size k) a b (at values) shares
-      (gadget-parts (k .d) (size k) a b (inAND (k .d)) c (stageShown (place k (nth ops (1 + k .d)))) (newStage k ops AND) Q meets)
-      (gadget-outputs (k .d) (size k) a b (inAND (k .d)) c (stageShown (place k (nth ops (1 + k .d)))) (newStage k ops AND) Q meets))
+      (gadget-parts (k .d) (size k) a b (inAND (k .d)) c (stageShown (lookUp k (nth ops (1 + k .d)))) (newStage k ops AND) Q meets)
+      (gadget-outputs (k .d) (size k) a b (inAND (k .d)) c (stageShown (lookUp k (nth ops (1 + k .d)))) (newStage k ops AND) Q meets))
 
   pub refresh-of : fs ≡ before ++ (frame REF ops ∷ after) → added d (output d before (inREF d)) values ≡ added d a values
   unfolding made
   refresh-of e =
       let meets = made-meets d before (frame REF ops) after e ordered shares tape in
       rw (build-shares (empty d) before) at (ref-adds (k .d) (size k) a (at values) shares
-      (gadget-parts (k .d) (size k) a a (inREF (k .d)) S (stageShown (place k (nth ops 1))) (newStage k ops REF) Q meets)
-      (gadget-outputs (k .d) (size k) a a (inREF (k .d)) S (stageShown (place k (nth ops 1))) (newStage k ops REF) Q meets))
+      (gadget-parts (k .d) (size k) a a (inREF (k .d)) S (stageShown (lookUp k (nth ops 1))) (newStage k ops REF) Q meets)
+      (gadget-outputs (k .d) (size k) a a (inREF (k .d)) S (stageShown (lookUp k (nth ops 1))) (newStage k ops REF) Q meets))

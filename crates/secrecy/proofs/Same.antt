@@ -5,10 +5,10 @@ use mathlib.Core.List.{List, []}
 use Prim.Native.Nat.{ℕ}
 use lib.Dec.{eqb}
 use borrow.Author.Tests.{eqb-true}
-use Rattle.circuit.specs.Wires.{Gate}
+use Rattle.circuit.specs.Wires.{Gate, isStop}
 use Rattle.circuit.proofs.Base.{cases, clash, or-cases, In, in-each, Every, every-imp, every-in}
 use Rattle.semantics.specs.Values.{value, isRandom}
-use Rattle.semantics.specs.Probes.{isStop, operands, reads}
+use Rattle.semantics.specs.Probes.{operands, reads}
 use Rattle.secrecy.proofs.Coupled.{Values, Shift, Bits, value-same}
 
 -- two evaluations, and what probes read

@@ -10,13 +10,13 @@ use Rattle.circuit.specs.Lists.{nth, concatMap}
 use Rattle.circuit.specs.Wires.{Gate, Wire}
 use Rattle.circuit.specs.Gadgets.{Part, r, R, B, m, u, v, V′, w, c, s, S, labels, above, others, sorted, gate, inAND, inREF, index, gadget}
 use Rattle.circuit.specs.Kinds.{Kind}
-use Rattle.circuit.specs.Circuit.{Circuit, size, empty, made}
+use Rattle.circuit.specs.Circuit.{Circuit, size, empty, made, wireAt}
 use Rattle.circuit.specs.Rules.{checked}
 use Rattle.circuit.proofs.Base.{In, in-head, in-tail, Has, has-left, Every, every-map, AllFrom}
 use Rattle.circuit.proofs.Numbered.{all-get, at-all}
 use Rattle.circuit.proofs.Parts.{index-lt, Before, before-append, before-each, More, Ready, ordered, label-lt, others-pair, output-every, InAND, is-M, is-U, is-W, and-has, cell1, cell2, cell3, sec1, sec2, sec3, has1, added, fresh1, fresh-has, ref-has, sorted-at}
 use Rattle.circuit.specs.Composition.{Frame, Fits, fit-IN, fit-CON, fit-XOR, fit-NOT, fit-REG, fit-AND, fit-REF, fit-OUT, AllFit, build}
-use Rattle.circuit.proofs.Building.{named-made, wireAt, gadget-all, Lawful, build-all}
+use Rattle.circuit.proofs.Building.{named-made, gadget-all, Lawful, build-all}
 use Rattle.circuit.proofs.Exact.{Accepted}
 use Rattle.semantics.specs.Probes.{operands}
 
@@ -125,7 +125,7 @@ early-new k _ _ (fit-AND ops t len first p q o) = and-early (k .d) (size k) (λ 
     (λ i l. named-made k (nth ops (1 + i)) i _ (p i l)) (λ i l. named-made k (nth ops (1 + k .d + i)) i _ (q i l)) _ _
 early-new k _ _ (fit-REF ops t len first p o) = ref-early (k .d) (size k) (λ i. nth ops (1 + i)) (λ i. nth ops (1 + i))
     (λ i l. named-made k (nth ops (1 + i)) i _ (p i l)) (λ i l. named-made k (nth ops (1 + i)) i _ (p i l)) _ _
-early-new k _ _ (fit-OUT ops t len p) = tt
+early-new k _ _ (fit-OUT ops t len p q) = tt
 
 pub build-early : (d : ℕ) (fs : List Frame) → fewestShares ≤ d → AllFit (empty d) fs → Lawful EarlyIn (build (empty d) fs)
 build-early d fs ge fit = build-all EarlyIn (λ k ops kind x wire l h. h) (λ k ops kind g h. early-new k ops kind) fs ge fit tt

@@ -9,7 +9,7 @@ use lib.ListN.{length, getD, replicate, length-append}
 use borrow.Author.Tests.{eqb-true}
 use Rattle.circuit.specs.Limits.{wireLimit, fewestShares}
 use Rattle.circuit.specs.Lists.{nth, mem, range, concatMap}
-use Rattle.circuit.specs.Wires.{Gate, constant, sum, inner, Wire, _placed_}
+use Rattle.circuit.specs.Wires.{Gate, constant, sum, inner, Wire, _placed_, isStop}
 use Rattle.circuit.specs.Gadgets.{Part, M, U, W, c, others, gate, inAND, index}
 use Rattle.circuit.specs.Kinds.{AND}
 use Rattle.circuit.specs.Circuit.{Circuit, size, empty, made, extend}
@@ -20,7 +20,7 @@ use Rattle.circuit.proofs.Sizes.{gadget-size}
 use Rattle.circuit.specs.Composition.{Frame, Fits, AllFit, next, build}
 use Rattle.circuit.proofs.Building.{Lawful, build-more, build-append, build-shares, fit-split, part-at, output-at}
 use Rattle.semantics.specs.Values.{at, byte, valuesOf}
-use Rattle.semantics.specs.Probes.{isStop, operands, reads, readBy, stopsFrom, stops, sheet, readingOf}
+use Rattle.semantics.specs.Probes.{operands, reads, readBy, stopsFrom, stops, sheet, readingOf}
 use Rattle.semantics.proofs.Stops.{found-kept, stops-append, stops-length, stops-settled}
 use Rattle.semantics.proofs.Earlier.{OperandsBefore, EarlyIn, early-new, build-early}
 

@@ -9,13 +9,13 @@ use Rattle.circuit.specs.Lists.{nth}
 use Rattle.circuit.specs.Wires.{Gate, input, constant, random, reg, inverse, sum, product, andNot, named, inner, Wire, _placed_}
 use Rattle.circuit.specs.Gadgets.{Part, r, R, c, s, S, others, sorted, gate, delay, inAND, inREF, index}
 use Rattle.circuit.specs.Kinds.{Kind, AND, REF}
-use Rattle.circuit.specs.Circuit.{Circuit, size, empty, place, stageShown, stageOf, newStage, made, extend}
+use Rattle.circuit.specs.Circuit.{Circuit, size, empty, place, stageShown, stageOf, newStage, made, extend, wireAt, lookUp}
 use Rattle.circuit.specs.Rules.{checked}
 use Rattle.circuit.proofs.Base.{Every, every-map, every-imp, AllFrom, all-of, all-imp, all-zip}
 use Rattle.circuit.proofs.Numbered.{all-get, at-all}
 use Rattle.circuit.proofs.Parts.{others-pair, output-every, InAND, is-r, is-R, is-B, is-m, is-M, is-u, is-U, is-v, is-V, is-w, is-W, and-parts, and-has, InREF, fresh, added, ref-parts, ref-has, sorted-at}
 use Rattle.circuit.specs.Composition.{Frame, Fits, fit-IN, fit-CON, fit-XOR, fit-NOT, fit-REG, fit-AND, fit-REF, fit-OUT, AllFit, build}
-use Rattle.circuit.proofs.Building.{named-made, wireAt, gadget-all, part-at, place-old, row-first, Lawful, build-all}
+use Rattle.circuit.proofs.Building.{named-made, stage-told, gadget-all, part-at, place-old, row-first, Lawful, build-all}
 use Rattle.circuit.proofs.Exact.{Accepted}
 use Rattle.semantics.specs.Probes.{operands}
 use Rattle.semantics.proofs.Earlier.{OperandsBefore, early-new}
@@ -92,14 +92,14 @@ unfolding made newStage
 follows-new k ops kind ge (fit-IN t o) = at-all (FollowsIn (extend k ops kind)) _ (size k) 0 (k .d) (λ i l. tt)
 follows-new k ops kind ge (fit-CON l b t o p q) = (tt, tt)
 follows-new k ops kind ge (fit-XOR x y l t p q) =
-    let s = ap stageShown p in ((omega (arith, old-stage k ops kind x l t p), (omega (arith, old-stage k ops kind y l t q), tt)), tt)
-follows-new k ops kind ge (fit-NOT x l t p) = let s = ap stageShown p in ((omega (arith, old-stage k ops kind x l t p), tt), tt)
-follows-new k ops kind ge (fit-REG x l t p o) = let s = ap stageShown p in ((omega (arith, old-stage k ops kind x l t p), tt), tt)
+    let s = stage-told k x p in ((omega (arith, old-stage k ops kind x l t p), (omega (arith, old-stage k ops kind y l t q), tt)), tt)
+follows-new k ops kind ge (fit-NOT x l t p) = let s = stage-told k x p in ((omega (arith, old-stage k ops kind x l t p), tt), tt)
+follows-new k ops kind ge (fit-REG x l t p o) = let s = stage-told k x p in ((omega (arith, old-stage k ops kind x l t p), tt), tt)
 follows-new k _ _ ge (fit-AND ops t len first p q o) =
     let a : ℕ → ℕ = λ i. nth ops (1 + i) in
     let b : ℕ → ℕ = λ i. nth ops (1 + k .d + i) in
-    let start = stageShown (place k (nth ops (1 + k .d))) in
-    let end = suc (stageShown (place k (nth ops 1))) in
+    let start = stageShown (lookUp k (nth ops (1 + k .d))) in
+    let end = suc (stageShown (lookUp k (nth ops 1))) in
     let wire : Part → ℕ = λ z. size k + index z (inAND (k .d)) in
     let at = row-first k ops (1 + k .d) t ge q in
     let stage = stageIn (extend k ops AND) in
@@ -112,7 +112,7 @@ follows-new k _ _ ge (fit-AND ops t len first p q o) =
     (λ x i n l. and-output (k .d) a b wire stage start sa sb known end i (omega (arith, row-first k ops 1 (suc t) ge p)) l)
 follows-new k _ _ ge (fit-REF ops t len first p o) =
     let a : ℕ → ℕ = λ i. nth ops (1 + i) in
-    let start = stageShown (place k (nth ops 1)) in
+    let start = stageShown (lookUp k (nth ops 1)) in
     let wire : Part → ℕ = λ z. size k + index z (inREF (k .d)) in
     let at = row-first k ops 1 t ge p in
     let stage = stageIn (extend k ops REF) in
@@ -122,7 +122,7 @@ follows-new k _ _ ge (fit-REF ops t len first p o) =
     gadget-all (k .d) (size k) a a (inREF (k .d)) S start (suc start) (FollowsIn (extend k ops REF))
     (all-of _ (InREF (k .d)) (size k) (inREF (k .d)) (λ x z l i. ref-inner (k .d) a a wire stage start sa known i) (ref-parts (k .d)))
     (λ x i n l. ref-output (k .d) a a wire stage start sa known (suc start) i refl l)
-follows-new k _ _ ge (fit-OUT ops t len p) = tt
+follows-new k _ _ ge (fit-OUT ops t len p q) = tt
 
 -- with its operands earlier, a wire keeps following them when frames are added
 abbrev Settled : Circuit → ℕ → Wire → Type 0

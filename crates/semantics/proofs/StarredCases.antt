@@ -6,7 +6,7 @@ use Prim.Native.Nat.{ℕ}
 use lib.Dec.{eqb}
 use borrow.Author.Tests.{eqb-true}
 use Rattle.circuit.specs.Limits.{notesRoom}
-use Rattle.circuit.specs.Gadgets.{inAND, index, gadget}
+use Rattle.circuit.specs.Gadgets.{inAND, inREF, index, gadget}
 use Rattle.circuit.specs.Kinds.{kindOf, shape}
 use Rattle.circuit.specs.Circuit.{newStage, made}
 use Rattle.circuit.specs.Rules.{Judgement, pass, refuse, wordsRule, frameRule, frames, headRule, checked}
@@ -82,7 +82,7 @@ all-sound [] h = tt
 all-sound (k ∷ ks) h = both (right k) (allRight ks) h (λ p q. (right-sound k p, all-sound ks q))
 
 computed : allRight cases ≡ true
-unfolding cases allRight right checked headRule frames frameRule wordsRule kindOf shape newStage made gadget index inAND stops sheet bytesRule probesRule sheetsRule callRule
+unfolding cases allRight right checked headRule frames frameRule wordsRule kindOf shape newStage made gadget index inAND inREF stops sheet bytesRule probesRule sheetsRule callRule
 computed = refl
 
 pub starred-cases : EveryRight cases

@@ -7,9 +7,9 @@ use native.Mathlib.Omega.{arith}
 use lib.ListN.{length, length-append, List·getD-append}
 use lib.Seq.{getD-append-seam}
 use Rattle.circuit.specs.Lists.{concatMap}
-use Rattle.circuit.specs.Wires.{Gate, Wire}
+use Rattle.circuit.specs.Wires.{Gate, Wire, isStop}
 use Rattle.circuit.proofs.Base.{Every, every-imp, AllFrom}
-use Rattle.semantics.specs.Probes.{isStop, operands, reads, readBy, stopsFrom}
+use Rattle.semantics.specs.Probes.{operands, reads, readBy, stopsFrom}
 
 -- what is found is kept
 pub found-kept : (found : List (List ℕ)) (ws : List Wire) (y : ℕ) → y < length found → readBy (stopsFrom found ws) y ≡ readBy found y

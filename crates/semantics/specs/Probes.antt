@@ -1,23 +1,12 @@
 -- Document 01, "What a probe reads".
-use mathlib.Core.Bool.{Bool, true, false, cond}
+use mathlib.Core.Bool.{Bool, cond}
 use mathlib.Core.List.{List, [], _∷_, _++_, map}
 use Prim.Native.Nat.{ℕ}
 use lib.ListN.{length, getD}
 use Rattle.circuit.specs.Limits.{wireLimit}
 use Rattle.circuit.specs.Lists.{mem, range, concatMap}
-use Rattle.circuit.specs.Wires.{Gate, input, constant, random, reg, inverse, sum, product, andNot, Wire}
+use Rattle.circuit.specs.Wires.{Gate, input, constant, random, reg, inverse, sum, product, andNot, isStop, Wire}
 use Rattle.semantics.specs.Values.{byte, at, valuesOf}
-
--- document 01's term: a stop is an IN or CON wire, a random bit, or a register
-abbrev pub isStop : Gate → Bool
-isStop (input n) = true
-isStop (constant b) = true
-isStop random = true
-isStop (reg x) = true
-isStop (inverse x) = false
-isStop (sum xs) = false
-isStop (product x y) = false
-isStop (andNot x y) = false
 
 -- the wires that a gate takes
 abbrev pub operands : Gate → List ℕ

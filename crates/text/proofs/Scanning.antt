@@ -8,7 +8,7 @@ use lib.Dec.{leb, ltb, eqb}
 use lib.ListN.{length, getD, drop, length-drop}
 use borrow.Author.Tests.{leb-true, leb-false, le-leb}
 use Rattle.circuit.proofs.Base.{cases}
-use Rattle.frames.proofs.KindTable.{words-AND, words-REF, words-OUT}
+use Rattle.circuit.proofs.Sizes.{words-AND, words-REF, words-OUT}
 use Rattle.circuit.specs.Limits.{tableLimit}
 use Rattle.circuit.specs.Circuit.{empty}
 use Rattle.circuit.specs.Kinds.{Kind, HEAD, IN, CON, XOR, NOT, REG, AND, REF, OUT, shareCount, shape, kindOf, words}

@@ -11,8 +11,8 @@ use borrow.Author.Tests.{le-leb}
 use Rattle.circuit.specs.Limits.{tableLimit, notesRoom, stageLimit, wireLimit}
 use Rattle.circuit.specs.Lists.{nth, concatMap}
 use Rattle.circuit.specs.Gadgets.{labels}
-use Rattle.circuit.specs.Kinds.{Kind, HEAD, IN, CON, XOR, NOT, REG, AND, REF, OUT, kindOf, WordRule, shareCount, label, value, stage, random, like, share, before, row, shape, words}
-use Rattle.circuit.specs.Circuit.{Circuit, size, empty, place, labelOf, stageShown, newStage, extend}
+use Rattle.circuit.specs.Kinds.{Kind, HEAD, IN, CON, XOR, NOT, REG, AND, REF, OUT, kindOf, WordRule, shareCount, label, value, stage, random, like, share, before, registered, row, shape, words}
+use Rattle.circuit.specs.Circuit.{Circuit, size, empty, labelOf, stageShown, isRegistered, newStage, extend, lookUp}
 use Rattle.circuit.specs.Rules.{Judgement, pass, refuse, need, _then_, isNamed, wireRule, wordRule, wordsRule, frameRule, Checked, onward, frames, headRule, checked}
 use Rattle.circuit.specs.Composition.{kindWord}
 use Rattle.circuit.proofs.Base.{Every, every-map, every-append}
@@ -48,12 +48,10 @@ NotShareCount random = Unit {0}
 NotShareCount (like p) = Unit {0}
 NotShareCount (share i p) = Unit {0}
 NotShareCount (before i p) = Unit {0}
+NotShareCount (registered i p) = Unit {0}
 
-shares : (place d : ℕ) → Every NotShareCount (row share place d)
-shares place d = every-map NotShareCount (λ i. share i place) (labels d) (λ i h. tt)
-
-befores : (place d : ℕ) → Every NotShareCount (row before place d)
-befores place d = every-map NotShareCount (λ i. before i place) (labels d) (λ i h. tt)
+row-not : (rule : ℕ → ℕ → WordRule) (place d : ℕ) → ((i : ℕ) → NotShareCount (rule i place)) → Every NotShareCount (row rule place d)
+row-not rule place d h = every-map NotShareCount (λ i. rule i place) (labels d) (λ i l. h i)
 
 no-share-count : (d : ℕ) (kind : Kind) → 1 ≤ kindWord kind → Every NotShareCount (shape d kind .rules)
 unfolding shape
@@ -63,23 +61,23 @@ no-share-count d CON h = (tt, (tt, (tt, tt)))
 no-share-count d XOR h = (tt, (tt, tt))
 no-share-count d NOT h = (tt, tt)
 no-share-count d REG h = (tt, tt)
-no-share-count d AND h = (tt, every-append NotShareCount (row share 1 d) (row before 1 d) (shares 1 d) (befores 1 d))
-no-share-count d REF h = (tt, shares 1 d)
-no-share-count d OUT h = shares 0 d
+no-share-count d AND h = (tt, every-append NotShareCount (row share 1 d) (row before 1 d) (row-not share 1 d (λ i. tt)) (row-not before 1 d (λ i. tt)))
+no-share-count d REF h = (tt, row-not share 1 d (λ i. tt))
+no-share-count d OUT h = row-not registered 0 d (λ i. tt)
 
 module _ (k : Circuit) (f : ℕ) (ops : List ℕ) where
   -- the label and the stage that a wire shows
   abbrev l : ℕ → ℕ
-  l x = labelOf (place k x)
+  l x = labelOf (lookUp k x)
 
   abbrev t : ℕ → ℕ
-  t x = stageShown (place k x)
+  t x = stageShown (lookUp k x)
 
   past-wire : (labelRight stageRight : Bool) (w x : ℕ) → PastSix (wireRule k f ops labelRight stageRight w x)
   past-wire labelRight stageRight w x =
-      past-then (need (ltb x (size k)) 8 f w) (need (isNamed (place k x)) 9 f w then need labelRight 10 f w then need stageRight 11 f w)
+      past-then (need (ltb x (size k)) 8 f w) (need (isNamed (lookUp k x)) 9 f w then need labelRight 10 f w then need stageRight 11 f w)
       (past-need (ltb x (size k)) 8 f w (omega arith))
-      (past-then (need (isNamed (place k x)) 9 f w) (need labelRight 10 f w then need stageRight 11 f w) (past-need (isNamed (place k x)) 9 f w (omega arith))
+      (past-then (need (isNamed (lookUp k x)) 9 f w) (need labelRight 10 f w then need stageRight 11 f w) (past-need (isNamed (lookUp k x)) 9 f w (omega arith))
       (past-then (need labelRight 10 f w) (need stageRight 11 f w) (past-need labelRight 10 f w (omega arith)) (past-need stageRight 11 f w (omega arith))))
 
   past-word : (r : WordRule) (w x : ℕ) → NotShareCount r → PastSix (wordRule k f ops r w x)
@@ -91,6 +89,8 @@ module _ (k : Circuit) (f : ℕ) (ops : List ℕ) where
   past-word (like p) w x h = past-wire (eqb (l x) (l (nth ops p))) (eqb (t x) (t (nth ops p))) w x
   past-word (share i p) w x h = past-wire (eqb (l x) i) (eqb (t x) (t (nth ops p))) w x
   past-word (before i p) w x h = past-wire (eqb (l x) i) (eqb (suc (t x)) (t (nth ops p))) w x
+  past-word (registered i p) w x h = past-then (wireRule k f ops (eqb (l x) i) (eqb (t x) (t (nth ops p))) w x) (need (isRegistered (lookUp k x)) 22 f w)
+      (past-wire (eqb (l x) i) (eqb (t x) (t (nth ops p))) w x) (past-need (isRegistered (lookUp k x)) 22 f w (omega arith))
 
   past-words : (w : ℕ) (rs : List WordRule) (xs : List ℕ) → Every NotShareCount rs → PastSix (wordsRule k f ops w rs xs)
   unfolding wordsRule

@@ -1,6 +1,6 @@
 -- A frame judged by its words, then by rules 13 and 14, and added to the circuit so far.
 use mathlib.Core.Path.{_≡_}
-use mathlib.Core.Bool.{cond, _&&_}
+use mathlib.Core.Bool.{Bool, true, false, cond, _&&_}
 use mathlib.Core.List.{List, [], _∷_}
 use Prim.Native.Nat.{ℕ, zero, suc, _+_, _*_, _-_, _≤_}
 use lib.Dec.{leb, ltb, eqb}
@@ -52,12 +52,12 @@ randomNumber used x = cond (eqb x used) 0 12
 
 -- a wire like another
 abbrev pub likeNumber : (other own : Found) → ℕ
-likeNumber other own = wireNumber own (labelFound other) (stageFound other) 0
+likeNumber other own = wireNumber own (labelFound other) (stageFound other) 0 false
 
 -- what wires in a row break, from a word and a label on
-unfoldable pub rowBroken : (look : ℕ → Found) (stage ahead word label : ℕ) → List ℕ → Spot
-rowBroken look t ahead w i [] = none
-rowBroken look t ahead w i (x ∷ xs) = orElse (wireNumber (look x) i t ahead) w (rowBroken look t ahead (suc w) (suc i) xs)
+unfoldable pub rowBroken : (look : ℕ → Found) (stage ahead : ℕ) (register : Bool) (word label : ℕ) → List ℕ → Spot
+rowBroken look t ahead register w i [] = none
+rowBroken look t ahead register w i (x ∷ xs) = orElse (wireNumber (look x) i t ahead register) w (rowBroken look t ahead register (suc w) (suc i) xs)
 
 -- what the words of a form break
 module _ (d used : ℕ) (look : ℕ → Found) (ops : List ℕ) where
@@ -66,10 +66,10 @@ module _ (d used : ℕ) (look : ℕ → Found) (ops : List ℕ) where
 
   abbrev pub productBroken : Spot
   productBroken = orElse (randomNumber used (nth ops 0)) 1
-      (rowBroken look (stageAt 1) 0 2 0 (take d (drop 1 ops)) andThen rowBroken look (stageAt 1) 1 (2 + d) 0 (drop d (drop 1 ops)))
+      (rowBroken look (stageAt 1) 0 false 2 0 (take d (drop 1 ops)) andThen rowBroken look (stageAt 1) 1 false (2 + d) 0 (drop d (drop 1 ops)))
 
   abbrev pub refreshBroken : Spot
-  refreshBroken = orElse (randomNumber used (nth ops 0)) 1 (rowBroken look (stageAt 1) 0 2 0 (drop 1 ops))
+  refreshBroken = orElse (randomNumber used (nth ops 0)) 1 (rowBroken look (stageAt 1) 0 false 2 0 (drop 1 ops))
 
   abbrev pub brokenIn : Form → Spot
   brokenIn ShareCount = none
@@ -79,24 +79,24 @@ module _ (d used : ℕ) (look : ℕ → Found) (ops : List ℕ) where
   brokenIn (Copy after) = spot (likeNumber (look (nth ops 0)) (look (nth ops 0))) 1 andThen none
   brokenIn Product = productBroken
   brokenIn Refresh = refreshBroken
-  brokenIn Row = rowBroken look (stageAt 0) 0 1 0 ops
+  brokenIn Row = rowBroken look (stageAt 0) 0 true 1 0 ops
 
 -- the wires that a form makes: of a row, none, but its stage counts
-abbrev pub wiresAt : (named label stage : ℕ) → Made
-wiresAt n l t = record { inner = 0; named = n; label = l; stage = t }
+abbrev pub wiresAt : (named label stage : ℕ) (registered : Bool) → Made
+wiresAt n l t registered = record { inner = 0; named = n; label = l; stage = t; registered = registered }
 
-abbrev pub gadgetAfter : (inner d stage : ℕ) → Made
-gadgetAfter n d t = record { inner = n; named = d; label = 0; stage = t + 1 }
+abbrev pub gadgetAfter : (inner d stage : ℕ) (registered : Bool) → Made
+gadgetAfter n d t registered = record { inner = n; named = d; label = 0; stage = t + 1; registered = registered }
 
 abbrev pub madeIn : Form → (d inner : ℕ) (look : ℕ → Found) (ops : List ℕ) → Made
-madeIn ShareCount d n look ops = wiresAt 0 0 0
-madeIn Stage d n look ops = wiresAt d 0 (nth ops 0)
-madeIn Constant d n look ops = wiresAt 1 (nth ops 0) (nth ops 2)
-madeIn Sum d n look ops = wiresAt 1 (labelFound (look (nth ops 0))) (stageFound (look (nth ops 0)))
-madeIn (Copy after) d n look ops = wiresAt 1 (labelFound (look (nth ops 0))) (stageFound (look (nth ops 0)) + after)
-madeIn Product d n look ops = gadgetAfter n d (stageFound (look (nth ops 1)))
-madeIn Refresh d n look ops = gadgetAfter n d (stageFound (look (nth ops 1)))
-madeIn Row d n look ops = wiresAt 0 0 (stageFound (look (nth ops 0)))
+madeIn ShareCount d n look ops = wiresAt 0 0 0 false
+madeIn Stage d n look ops = wiresAt d 0 (nth ops 0) true
+madeIn Constant d n look ops = wiresAt 1 (nth ops 0) (nth ops 2) true
+madeIn Sum d n look ops = wiresAt 1 (labelFound (look (nth ops 0))) (stageFound (look (nth ops 0))) false
+madeIn (Copy after) d n look ops = wiresAt 1 (labelFound (look (nth ops 0))) (stageFound (look (nth ops 0)) + after) (eqb after 1)
+madeIn Product d n look ops = gadgetAfter n d (stageFound (look (nth ops 1))) false
+madeIn Refresh d n look ops = gadgetAfter n d (stageFound (look (nth ops 1))) true
+madeIn Row d n look ops = wiresAt 0 0 (stageFound (look (nth ops 0))) false
 
 -- rules 13 and 14 of new wires behind so many; the notes with them, where no rule is broken
 abbrev pub limitBroken : Made → (wires : ℕ) → Spot

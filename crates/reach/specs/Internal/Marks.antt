@@ -6,10 +6,10 @@ use Prim.Native.Nat.{ℕ, zero, suc, _+_, _-_, _≤_, _<_}
 use lib.Dec.{ltb}
 use lib.ListN.{length, set}
 use Rattle.circuit.specs.Lists.{nth}
-use Rattle.circuit.specs.Wires.{Gate, Wire}
+use Rattle.circuit.specs.Wires.{Gate, Wire, isStop}
 use Rattle.circuit.specs.Circuit.{isSet}
 use Rattle.circuit.proofs.Base.{In}
-use Rattle.semantics.specs.Probes.{isStop, stops}
+use Rattle.semantics.specs.Probes.{stops}
 use Rattle.semantics.proofs.Reading.{probe}
 use Rattle.gadgets.specs.Internal.Places.{crossStart, productAt}
 use Rattle.gadgets.specs.Internal.Gates.{gateAt, OrderedFrom}

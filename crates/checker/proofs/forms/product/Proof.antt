@@ -1,6 +1,7 @@
 -- The first random, then the rows a and b, each told once by the stage of a's first wire; where they name no rule the wires
 -- are put.
 use mathlib.Core.Path.{_≡_, refl, sym, ap, _∙_}
+use mathlib.Core.Bool.{false}
 use Prim.Native.Nat.{_+_, _-_}
 use native.Mathlib.Omega.{arith}
 use lib.ListN.{length, take, drop, length-drop}
@@ -20,17 +21,17 @@ abbrev shown : tie.After-row-rule → tie.After-stage-shown
 shown c = c .before .before .before .before .before
 
 a-row : (c : tie.After-row-rule) → let a = entry (shown c) .args in
-    c .row-rule .result ≡ rowBroken (noted (a .notes .now) (a .wires)) (shown c .stage-shown .result) 0 2 0 (take (a .d) (drop 1 (a .ops .now)))
+    c .row-rule .result ≡ rowBroken (noted (a .notes .now) (a .wires)) (shown c .stage-shown .result) 0 false 2 0 (take (a .d) (drop 1 (a .ops .now)))
 a-row c = let a = entry (shown c) .args in let e : 1 + a .d - 1 ≡ a .d = omega arith in
-    c .row-rule .ensures ∙ ap (λ n. rowBroken (noted (a .notes .now) (a .wires)) (shown c .stage-shown .result) 0 2 0 (take n (drop 1 (a .ops .now)))) e
+    c .row-rule .ensures ∙ ap (λ n. rowBroken (noted (a .notes .now) (a .wires)) (shown c .stage-shown .result) 0 false 2 0 (take n (drop 1 (a .ops .now)))) e
 
 abbrev before-b : tie.After-row-rule2 → tie.After-row-rule
 before-b c = c .before .before .before .before .before
 
 b-row : (c : tie.After-row-rule2) → let a = entry (shown (before-b c)) .args in
-    c .row-rule2 .result ≡ rowBroken (noted (a .notes .now) (a .wires)) (shown (before-b c) .stage-shown .result) 1 (2 + a .d) 0 (drop (a .d) (drop 1 (a .ops .now)))
+    c .row-rule2 .result ≡ rowBroken (noted (a .notes .now) (a .wires)) (shown (before-b c) .stage-shown .result) 1 false (2 + a .d) 0 (drop (a .d) (drop 1 (a .ops .now)))
 b-row c = let a = entry (shown (before-b c)) .args in
-    c .row-rule2 .ensures ∙ ap (rowBroken (noted (a .notes .now) (a .wires)) (shown (before-b c) .stage-shown .result) 1 (2 + a .d) 0)
+    c .row-rule2 .ensures ∙ ap (rowBroken (noted (a .notes .now) (a .wires)) (shown (before-b c) .stage-shown .result) 1 false (2 + a .d) 0)
     (take-all (length (a .ops .now) - (1 + a .d)) (drop (1 + a .d) (a .ops .now)) (omega (arith, length-drop (1 + a .d) (a .ops .now))) ∙ sym (drop-drop (a .d) 1 (a .ops .now)))
 
 pub product-spec : {M : Type 1} → statement M

@@ -1,5 +1,6 @@
 -- The first random, then the row, told once by the stage of its first wire; where they name no rule the wires are put.
 use mathlib.Core.Path.{_≡_, refl, ap, _∙_}
+use mathlib.Core.Bool.{false}
 use Prim.Native.Nat.{_-_}
 use native.Mathlib.Omega.{arith}
 use lib.ListN.{length, drop, length-drop}
@@ -19,9 +20,9 @@ abbrev shown : tie.After-row-rule → tie.After-stage-shown
 shown c = c .before .before .before .before .before
 
 a-row : (c : tie.After-row-rule) → let a = entry (shown c) .args in
-    c .row-rule .result ≡ rowBroken (noted (a .notes .now) (a .wires)) (shown c .stage-shown .result) 0 2 0 (drop 1 (a .ops .now))
+    c .row-rule .result ≡ rowBroken (noted (a .notes .now) (a .wires)) (shown c .stage-shown .result) 0 false 2 0 (drop 1 (a .ops .now))
 a-row c = let a = entry (shown c) .args in
-    c .row-rule .ensures ∙ ap (rowBroken (noted (a .notes .now) (a .wires)) (shown c .stage-shown .result) 0 2 0) (take-all (length (a .ops .now) - 1) (drop 1 (a .ops .now)) (omega (arith, length-drop 1 (a .ops .now))))
+    c .row-rule .ensures ∙ ap (rowBroken (noted (a .notes .now) (a .wires)) (shown c .stage-shown .result) 0 false 2 0) (take-all (length (a .ops .now) - 1) (drop 1 (a .ops .now)) (omega (arith, length-drop 1 (a .ops .now))))
 
 pub refresh-spec : {M : Type 1} → statement M
 refresh-spec =

@@ -12,30 +12,30 @@ use Rattle.checker.proofs.forms.row_rule.Statement.{statement}
 use Rattle.checker.proofs.forms.row_rule.Tie as tie
 
 abbrev Inv-loop : tie.InvT-loop
-Inv-loop row word stage ahead wires notes i₀ i =
-    (i ≤ length row) × (rowBroken (noted notes wires) stage ahead word 0 row ≡ rowBroken (noted notes wires) stage ahead (word + i) i (drop i row))
+Inv-loop row word stage ahead register wires notes i₀ i =
+    (i ≤ length row) × (rowBroken (noted notes wires) stage ahead register word 0 row ≡ rowBroken (noted notes wires) stage ahead register (word + i) i (drop i row))
 
 abbrev μ-loop : tie.MeasureT-loop
-μ-loop row word stage ahead wires notes i₀ i = length row - i
+μ-loop row word stage ahead register wires notes i₀ i = length row - i
 
 loop-holds : tie.Need-loop-holds Inv-loop μ-loop
 loop-holds c = let a = c .before .before .args in let e : a .word ≡ a .word + 0 = omega arith in
-    (search needs, ap (λ w. rowBroken (noted (a .notes .now) (a .wires)) (a .stage) (a .ahead) w 0 (a .row .now)) e)
+    (search needs, ap (λ w. rowBroken (noted (a .notes .now) (a .wires)) (a .stage) (a .ahead) (a .register) w 0 (a .row .now)) e)
 
 -- behind a wire's rule: the row's first spot is this wire's, or that of the wires behind it
 turn : (c : tie.After-wire-rule Inv-loop μ-loop) → let a = c .before .before .before .before .before .before .args in let i = c .before .before .before .loop .i in
-    rowBroken (noted (a .notes .now) (a .wires)) (a .stage) (a .ahead) (a .word) 0 (a .row .now)
-    ≡ orElse (c .wire-rule .result) (a .word + i) (rowBroken (noted (a .notes .now) (a .wires)) (a .stage) (a .ahead) (a .word + (i + 1)) (i + 1) (drop (i + 1) (a .row .now)))
+    rowBroken (noted (a .notes .now) (a .wires)) (a .stage) (a .ahead) (a .register) (a .word) 0 (a .row .now)
+    ≡ orElse (c .wire-rule .result) (a .word + i) (rowBroken (noted (a .notes .now) (a .wires)) (a .stage) (a .ahead) (a .register) (a .word + (i + 1)) (i + 1) (drop (i + 1) (a .row .now)))
 turn c =
     let a = c .before .before .before .before .before .before .args in
     let l = c .before .before .before .loop in
-    l .inv .1 ∙ row-turn _ (a .stage) (a .ahead) (a .word) (l .i) (a .row .now) (c .before .before .loop-test .taken)
-    ∙ ap (λ n. orElse n (a .word + l .i) (rowBroken (noted (a .notes .now) (a .wires)) (a .stage) (a .ahead) (a .word + (l .i + 1)) (l .i + 1) (drop (l .i + 1) (a .row .now)))) (sym (c .wire-rule .ensures))
+    l .inv .1 ∙ row-turn _ (a .stage) (a .ahead) (a .register) (a .word) (l .i) (a .row .now) (c .before .before .loop-test .taken)
+    ∙ ap (λ n. orElse n (a .word + l .i) (rowBroken (noted (a .notes .now) (a .wires)) (a .stage) (a .ahead) (a .register) (a .word + (l .i + 1)) (l .i + 1) (drop (l .i + 1) (a .row .now)))) (sym (c .wire-rule .ensures))
 
 returns-2 : tie.Need-returns-2 Inv-loop μ-loop
 unfolding rowBroken
 returns-2 c = let l = c .before .loop in let row = c .before .before .before .before .args .row .now in
-    sym (l .inv .1 ∙ ap (rowBroken _ _ _ _ _) (drop-of-length-le row {i = l .i} (c .loop-test .left)))
+    sym (l .inv .1 ∙ ap (rowBroken _ _ _ _ _ _) (drop-of-length-le row {i = l .i} (c .loop-test .left)))
 
 pub row-rule-spec : {M : Type 1} → statement M
 row-rule-spec =

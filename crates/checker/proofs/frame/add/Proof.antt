@@ -1,5 +1,6 @@
 -- Each form's function judges by the form's words and wires; the counts then fit, and the answer is the definition's.
 use mathlib.Core.Path.{_≡_, refl, ap}
+use mathlib.Core.Bool.{Bool, true, false}
 use Prim.Native.Nat.{ℕ, _-_}
 use native.Mathlib.Omega.{arith}
 use borrow.Author.Needs.{needs}
@@ -16,13 +17,13 @@ module _ (s : tie.Start) where
   abbrev look : ℕ → Found
   look = noted (s .args .notes .now) (s .args .tally .wires)
 
-  made-after : {inner : ℕ} → inner ≡ s .args .shape .wires - s .args .d
-      → gadgetAfter inner (s .args .d) (stageFound (look (nth (s .args .ops .now) 1))) ≡ gadgetAfter (s .args .shape .wires - s .args .d) (s .args .d) (stageFound (look (nth (s .args .ops .now) 1)))
-  made-after e = ap (λ n. gadgetAfter n (s .args .d) (stageFound (look (nth (s .args .ops .now) 1)))) e
+  made-after : {inner : ℕ} (registered : Bool) → inner ≡ s .args .shape .wires - s .args .d
+      → gadgetAfter inner (s .args .d) (stageFound (look (nth (s .args .ops .now) 1))) registered ≡ gadgetAfter (s .args .shape .wires - s .args .d) (s .args .d) (stageFound (look (nth (s .args .ops .now) 1))) registered
+  made-after registered e = ap (λ n. gadgetAfter n (s .args .d) (stageFound (look (nth (s .args .ops .now) 1))) registered) e
 
   row-spot : {t : ℕ} → t ≡ stageFound (look (nth (s .args .ops .now) 0))
-      → rowBroken look t 0 1 0 (s .args .ops .now) ≡ rowBroken look (stageFound (look (nth (s .args .ops .now) 0))) 0 1 0 (s .args .ops .now)
-  row-spot e = ap (λ t. rowBroken look t 0 1 0 (s .args .ops .now)) e
+      → rowBroken look t 0 true 1 0 (s .args .ops .now) ≡ rowBroken look (stageFound (look (nth (s .args .ops .now) 0))) 0 true 1 0 (s .args .ops .now)
+  row-spot e = ap (λ t. rowBroken look t 0 true 1 0 (s .args .ops .now)) e
 
 pub add-spec : {M : Type 1} → statement M
 add-spec =
@@ -51,10 +52,10 @@ add-spec =
     (λ c κs. let p = c .before .before in let s = p .before .before .before .before .before .before .before .before in fits (s .pre .1) (p .before .before .before .before .form .given .1) (p .copy .ensures) refl refl (s .pre .0))
     (λ c. search needs) (λ c κs. search needs)
     (λ c κs. let s = c .before .before .before .before .before .before in (s .pre .0 .wires, omega (arith, s .pre .0 .room), omega (arith, s .pre .1 .least), s .pre .1 .most, asked (s .pre .1) (c .before .before .enum-told5 .given .1)))
-    (λ c κs. let p = c .before .before in let s = p .before .before .before .before .before .before .before in fits (s .pre .1) (p .before .before .before .enum-told5 .given .1) (p .product .ensures) refl (made-after s (p .before .before .less .ensures)) (s .pre .0))
+    (λ c κs. let p = c .before .before in let s = p .before .before .before .before .before .before .before in fits (s .pre .1) (p .before .before .before .enum-told5 .given .1) (p .product .ensures) refl (made-after s false (p .before .before .less .ensures)) (s .pre .0))
     (λ c. search needs) (λ c κs. search needs)
     (λ c κs. let s = c .before .before .before .before .before .before in (s .pre .0 .wires, omega (arith, s .pre .0 .room), omega (arith, s .pre .1 .least), s .pre .1 .most, asked (s .pre .1) (c .before .before .enum-told6 .given .1)))
-    (λ c κs. let p = c .before .before in let s = p .before .before .before .before .before .before .before in fits (s .pre .1) (p .before .before .before .enum-told6 .given .1) (p .refresh .ensures) refl (made-after s (p .before .before .less2 .ensures)) (s .pre .0))
+    (λ c κs. let p = c .before .before in let s = p .before .before .before .before .before .before .before in fits (s .pre .1) (p .before .before .before .enum-told6 .given .1) (p .refresh .ensures) refl (made-after s true (p .before .before .less2 .ensures)) (s .pre .0))
     (λ c. search needs)
     (λ c. omega (arith, asked (c .before .before .before .before .before .before .pre .1) (c .before .before .enum-told7 .given .1)))
     (λ c κs. search needs)
@@ -63,7 +64,7 @@ add-spec =
     (λ c κs.
     let p = c .before .before .before in
     let s = p .before .before .before .before .before .before .before .before .before in
-    fits (s .pre .1) (p .before .before .before .before .before .enum-told7 .given .1) (p .row .ensures) (row-spot s (p .before .before .stage-shown .ensures .0)) (ap (wiresAt 0 0) (p .before .before .stage-shown .ensures .0)) (s .pre .0))
+    fits (s .pre .1) (p .before .before .before .before .before .enum-told7 .given .1) (p .row .ensures) (row-spot s (p .before .before .stage-shown .ensures .0)) (ap (λ t. wiresAt 0 0 t false) (p .before .before .stage-shown .ensures .0)) (s .pre .0))
     (λ c. adds (c .before .before .before .before .before .pre .1) (c .before .enum-told .given .1) (nothing-made _ _ (c .before .before .before .before .before .pre .0 .wires)) refl refl (c .grown .ensures) refl)
     (λ c. search needs)
     (λ c. let p = c .before .before .before in let s = p .before .before .before .before .before .before .before in adds (s .pre .1) (p .before .before .before .enum-told2 .given .1) (p .stage .ensures) refl refl (c .grown2 .ensures) refl)
@@ -74,11 +75,11 @@ add-spec =
     (λ c. search needs)
     (λ c. let p = c .before .before .before in let s = p .before .before .before .before .before .before .before .before in adds (s .pre .1) (p .before .before .before .before .form .given .1) (p .copy .ensures) refl refl (c .grown5 .ensures) refl)
     (λ c. search needs)
-    (λ c. let p = c .before .before .before in let s = p .before .before .before .before .before .before .before in adds (s .pre .1) (p .before .before .before .enum-told5 .given .1) (p .product .ensures) refl (made-after s (p .before .before .less .ensures)) (c .grown6 .ensures) refl)
+    (λ c. let p = c .before .before .before in let s = p .before .before .before .before .before .before .before in adds (s .pre .1) (p .before .before .before .enum-told5 .given .1) (p .product .ensures) refl (made-after s false (p .before .before .less .ensures)) (c .grown6 .ensures) refl)
     (λ c. search needs)
-    (λ c. let p = c .before .before .before in let s = p .before .before .before .before .before .before .before in adds (s .pre .1) (p .before .before .before .enum-told6 .given .1) (p .refresh .ensures) refl (made-after s (p .before .before .less2 .ensures)) (c .grown7 .ensures) refl)
+    (λ c. let p = c .before .before .before in let s = p .before .before .before .before .before .before .before in adds (s .pre .1) (p .before .before .before .enum-told6 .given .1) (p .refresh .ensures) refl (made-after s true (p .before .before .less2 .ensures)) (c .grown7 .ensures) refl)
     (λ c. search needs)
     (λ c.
     let p = c .before .before .before .before in
     let s = p .before .before .before .before .before .before .before .before .before in
-    adds (s .pre .1) (p .before .before .before .before .before .enum-told7 .given .1) (p .row .ensures) (row-spot s (p .before .before .stage-shown .ensures .0)) (ap (wiresAt 0 0) (p .before .before .stage-shown .ensures .0)) (c .grown8 .ensures) (c .before .larger .ensures)))
+    adds (s .pre .1) (p .before .before .before .before .before .enum-told7 .given .1) (p .row .ensures) (row-spot s (p .before .before .stage-shown .ensures .0)) (ap (λ t. wiresAt 0 0 t false) (p .before .before .stage-shown .ensures .0)) (c .grown8 .ensures) (c .before .larger .ensures)))

@@ -6,7 +6,8 @@ use borrow.Author.Needs.{needs}
 use Rattle.circuit.specs.Kinds.{kindOf, shape}
 use Rattle.frames.specs.declared.kinds.Form.the-variants.{Product, Refresh, Row}
 use Rattle.frames.specs.declared.kinds.Kind.the-variants.{And, Ref, Out}
-use Rattle.frames.proofs.KindTable.{words-AND, words-REF, words-OUT, ordered, square-least, square-most, no-kind, same-line, decided}
+use Rattle.circuit.proofs.Sizes.{words-AND, words-REF, words-OUT}
+use Rattle.frames.proofs.KindTable.{ordered, square-least, square-most, no-kind, same-line, decided}
 use Rattle.frames.proofs.kinds.decide.Statement.{statement}
 use Rattle.frames.proofs.kinds.decide.Tie as tie
 
