@@ -104,3 +104,40 @@ fn row(random: &mut Random, builder: &Builder, pool: &Pool) -> Vec<u16> {
     }
     row
 }
+
+#[cfg(test)]
+mod tests {
+    use super::*;
+    use crate::generate::circuit::{circuit, Shape};
+    use crate::reference::check::{walk, Rules};
+    use crate::reference::circuit::Source;
+    use std::collections::BTreeSet;
+
+    /// The rule that refuses the last frame, an OUT, at a wire without a register; and that wire's kind of gate.
+    fn met(random: &mut Random) -> Option<(u64, &'static str)> {
+        let shape = Shape::random(random, 40);
+        let mut builder = circuit(random, shape);
+        let words = near_frame(random, &builder);
+        builder.table.extend(&words);
+        let (circuit, refusal) = walk(&builder.table, Rules::All);
+        let refusal = refusal.filter(|refusal| words[0] == 8 && refusal.rule != 8)?;
+        let wire = &circuit.wires[usize::from(words[refusal.word])];
+        let gate = match (wire.place, &wire.source) {
+            (None, _) => "inner",
+            (Some(_), Source::Not(_)) => "NOT",
+            (Some(_), Source::Sum(terms)) if terms.len() == 2 => "XOR",
+            (Some(_), Source::Sum(_)) => "AND",
+            _ => return None,
+        };
+        Some((refusal.rule, gate))
+    }
+
+    #[test]
+    fn outs_without_registers() {
+        let met: BTreeSet<_> =
+            (0..4000).filter_map(|case| met(&mut Random::of_case(1, case))).collect();
+        let gates = ["AND", "NOT", "XOR"];
+        let wanted = [10, 11, 22].iter().flat_map(|&rule| gates.map(|gate| (rule, gate)));
+        assert_eq!(met, wanted.chain([(9, "inner")]).collect());
+    }
+}

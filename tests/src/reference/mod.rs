@@ -13,6 +13,8 @@ pub mod text;
 #[cfg(test)]
 mod cases;
 #[cfg(test)]
+mod ends;
+#[cfg(test)]
 mod slips;
 
 use crate::calls::{Answer, Calls};
