@@ -34,7 +34,10 @@ def frame_wires(kind: int, d: int) -> int:
 
 @dataclass(frozen=True)
 class Wire:
-    """A wire: its frame, its name there, and the label and stage that frames see (None of an inner wire)."""
+    """A wire: its frame, its name there, and the label and stage that frames see (None of an inner wire).
+
+    A wire that frames see is registered where a probe stops at it.
+    """
 
     frame: int
     kind: int
