@@ -181,10 +181,12 @@ impl Pass<'_> {
     #[inline(always)]
     fn xor(&mut self, x: u16, y: u16) -> Result<u16, Fault> {
         let (label, stage) = self.named(x, 1)?;
-        let wanted = (label | REGISTERED, stage);
-        let other = self.noted(y, 2)?;
-        if (other.0 | REGISTERED, other.1) != wanted {
-            return Err((broken(other, wanted), 2));
+        let (other, other_stage) = self.named(y, 2)?;
+        if other | REGISTERED != label | REGISTERED {
+            return Err((10, 2));
+        }
+        if other_stage != stage {
+            return Err((11, 2));
         }
         self.one(label & !REGISTERED, stage)
     }
