@@ -72,9 +72,9 @@ enum masked_rule {
  * notes   at least 16,384 words. Word 2w is wire w's label (0 to 7), plus MASKED_REGISTERED (8) where the wire is registered: of an
  *         IN, a CON or a REG, or an output of a REF. Word 2w+1 is its stage. Both are MASKED_INNER (FFFF) for an inner wire of a
  *         gadget, a register too; no frame may name it.
- *         accepted:        the notes of all wires are written; the words behind the last wire's are as they were
- *         rules 1 to 4:    as they were
- *         rules 5 to 14, 22: the notes of the wires of all frames before the refused one are written; the rest is as it was */
+ *         accepted:               the notes of all wires are written; the words behind the last wire's are as they were
+ *         rules 1 to 4:           as they were
+ *         rules 5 to 14 and 22:   the notes of the wires of all frames before the refused one are written; the rest is as it was */
 uint64_t masked_check(const uint16_t *table, size_t table_len, uint16_t *notes, size_t notes_len,
                       uint64_t *a, uint64_t *b, uint64_t *c);
 

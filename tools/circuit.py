@@ -34,10 +34,7 @@ def frame_wires(kind: int, d: int) -> int:
 
 @dataclass(frozen=True)
 class Wire:
-    """A wire: its frame, its name there, and the label and stage that frames see (None of an inner wire).
-
-    A wire that frames see is registered where a probe stops at it.
-    """
+    """A wire: its frame, its name there, and the label and stage that frames see (None of an inner wire)."""
 
     frame: int
     kind: int

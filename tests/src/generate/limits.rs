@@ -88,7 +88,7 @@ fn fill(random: &mut Random, builder: &mut Builder, target: usize) {
     }
 }
 
-/// Rows of registers, AND and REF up to stage 255 and at times past it; then at times an OUT of the last row, AND's too.
+/// Rows of registers, AND and REF up to stage 255 and at times past it; then at times an OUT of the last, also of an AND.
 fn many_stages(random: &mut Random) -> Builder {
     let mut builder = Builder::new(random.within(2, 8));
     let mut stage = random.within(200, 254);

@@ -123,7 +123,7 @@ mod tests {
         let refusal = refusal.filter(|refusal| words[0] == 8 && refusal.rule != 8)?;
         let wire = &circuit.wires[usize::from(words[refusal.word])];
         let gate = match (wire.place, &wire.source) {
-            (None, _) => "inner",
+            (None, source) if !source.is_stop() => "inner",
             (Some(_), Source::Not(_)) => "NOT",
             (Some(_), Source::Sum(terms)) if terms.len() == 2 => "XOR",
             (Some(_), Source::Sum(_)) => "AND",

@@ -36,7 +36,7 @@ pub struct Counts {
     pub latency: usize,
 }
 
-/// A refusal: the rule's number in 01's table, and where it was met.
+/// A refusal: the rule's number, and where it was met.
 #[derive(Clone, Copy, Debug, PartialEq, Eq)]
 pub struct Refusal {
     pub rule: u64,
