@@ -15,7 +15,8 @@
  *
  * A frame is a line of the text, counted from 0 (HEAD), and word 0 is its kind. Rules 1 to 3 and 15 to 17 are told at frame 0,
  * word 0; rule 4 at frame 0, word 1; rules 18 and 19 at frame 0, the word being the index of the byte (the tape's count on from the
- * shares') or of the probe; rules 5, 6, 13, 14, 20 and 21 at word 0 of the frame or line; rules 7 to 12 at the word that breaks it.
+ * shares') or of the probe; rules 5, 6, 13, 14, 20 and 21 at word 0 of the frame or line; rules 7 to 12 and 22 at the word that
+ * breaks it.
  *
  * Every call ends on any input, keeps nothing, and leans on no earlier call. Calls with different buffers may run at one time. */
 #ifndef MASKED_H
@@ -33,6 +34,7 @@ enum {
     MASKED_MOST_WIRES = 8192,   /* wires of a circuit, and least bytes of values and reading */
     MASKED_NOTES_WORDS = 16384, /* least words of notes */
     MASKED_INNER = 0xFFFF,      /* both words of an inner wire's note */
+    MASKED_REGISTERED = 8,      /* the bit of a registered wire in its note's first word, beside the label */
     MASKED_UNREAD = 2           /* a reading's byte for a wire that no probe reads */
 };
 
@@ -60,21 +62,23 @@ enum masked_rule {
     MASKED_BYTE_NOT_A_BIT = 18,   /* every byte of the shares and of the tape is 0 or 1 */
     MASKED_NO_SUCH_PROBE = 19,    /* every probe names a wire of the circuit */
     MASKED_LINE_FORM = 20,        /* a line is words of four digits 0-9A-F, one space between, and a line feed behind the last */
-    MASKED_NO_ROOM = 21           /* the words of all lines fit a table of 8,192 words */
+    MASKED_NO_ROOM = 21,          /* the words of all lines fit a table of 8,192 words */
+    MASKED_NOT_REGISTERED = 22    /* every wire of an OUT is registered: of an IN, a CON or a REG, or an output of a REF */
 };
 
-/* Checks a table: the words of all frames, one behind the other. Rules 1 to 14. (In a table, without lines, rule 6 is broken where
- * the table ends inside a frame.)
+/* Checks a table: the words of all frames, one behind the other. Rules 1 to 14 and 22. (In a table, without lines, rule 6 is broken
+ * where the table ends inside a frame; 22 is asked of each word of an OUT, behind that word's 8 to 11.)
  *
- * notes   at least 16,384 words; words 2w and 2w+1 are wire w's label and stage, or MASKED_INNER (FFFF) twice for an inner wire of a
- *         gadget, which no frame may name.
- *         accepted:        the notes of all wires are written; the words behind the last wire's are as they were
- *         rules 1 to 4:    as they were
- *         rules 5 to 14:   the notes of the wires of all frames before the refused one are written; the rest is as it was */
+ * notes   at least 16,384 words. Word 2w is wire w's label (0 to 7), plus MASKED_REGISTERED (8) where the wire is registered: of an
+ *         IN, a CON or a REG, or an output of a REF. Word 2w+1 is its stage. Both are MASKED_INNER (FFFF) for an inner wire of a
+ *         gadget, a register too; no frame may name it.
+ *         accepted:               the notes of all wires are written; the words behind the last wire's are as they were
+ *         rules 1 to 4:           as they were
+ *         rules 5 to 14 and 22:   the notes of the wires of all frames before the refused one are written; the rest is as it was */
 uint64_t masked_check(const uint16_t *table, size_t table_len, uint16_t *notes, size_t notes_len,
                       uint64_t *a, uint64_t *b, uint64_t *c);
 
-/* Checks, then evaluates. Rules 1 to 14 as masked_check, then 15 to 18.
+/* Checks, then evaluates. Rules 1 to 14 and 22 as masked_check, then 15 to 18.
  *
  * shares  d bytes 0 or 1 for each IN: IN by IN in the table's order, label by label
  * tape    a byte 0 or 1 for each random bit, in the order in which AND and REF use them
@@ -86,7 +90,8 @@ uint64_t masked_evaluate(const uint16_t *table, size_t table_len, uint16_t *note
                          const uint8_t *shares, size_t shares_len, const uint8_t *tape, size_t tape_len,
                          uint8_t *values, size_t values_len, uint64_t *a, uint64_t *b, uint64_t *c);
 
-/* Checks, evaluates, and tells what probes read. Rules 1 to 18 as masked_evaluate (17 for values and for the reading), then 19.
+/* Checks, evaluates, and tells what probes read. Rules 1 to 18 and 22 as masked_evaluate (17 for values and for the reading),
+ * then 19.
  *
  * notes, values   as masked_evaluate leaves them; rule 19 leaves the notes as accepted and the values as they were
  * probes  numbers of wires, inner ones too; one that is named twice counts once, and there may be none

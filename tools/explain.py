@@ -37,6 +37,7 @@ MEANINGS = {
     19: "every probe names a wire of the circuit",
     20: "a line is words of four digits 0-9A-F, one space between, and a line feed behind the last",
     21: "the words of all lines fit a table of 8,192 words",
+    22: "every wire of an OUT is registered: of an IN, a CON or a REG, or an output of a REF",
 }
 
 
@@ -176,6 +177,14 @@ def first_random(spot: Spot) -> Finding:
                    {"found": spot.named, "wanted": spot.circuit.randoms})
 
 
+def unregistered(spot: Spot) -> Finding:
+    wire = spot.circuit.wires[spot.named]
+    what = "{name}, an output of" if wire.kind == AND else "made by"
+    later = "; a REG of it is, one stage later" if wire.stage < LAST_STAGE else "; no REG can follow at the last stage"
+    return Finding("wire {wire} ({wire:04X}) is " + what + " the " + KINDS[wire.kind] + " of line {line}, and not registered" + later,
+                   {"wire": spot.named, "kind": wire.kind, "line": wire.frame + 1, "name": wire.name})
+
+
 def late_stage(spot: Spot) -> Finding:
     place = 2 if spot.kind in (AND, REF) else 1
     stage = spot.circuit.wires[spot.words[place]].stage
@@ -190,7 +199,7 @@ def many_wires(spot: Spot) -> Finding:
 
 
 OF_THE_CHECK = {7: out_of_range, 8: not_made, 9: inner, 10: wrong_label, 11: wrong_stage, 12: first_random, 13: late_stage,
-                14: many_wires}
+                14: many_wires, 22: unregistered}
 
 
 def finding(text: bytes, rule: int, frame: int, word: int) -> Finding:
@@ -221,7 +230,7 @@ def shown(line: bytes) -> str:
 
 def explanation(text: bytes, rule: int, frame: int, word: int, name: str = "") -> str:
     """The lines that explain a refusal; `name` stands in front where several files are judged."""
-    place = f"word {word}: " if 7 <= rule <= 12 else ""
+    place = f"word {word}: " if 7 <= rule <= 12 or rule == 22 else ""
     lines = lines_of(text[:JUDGED_BYTES])
     line = shown(lines[frame]) if frame < len(lines) else ""
     return "\n".join((

@@ -1,7 +1,7 @@
 """Shows what stands in a masked circuit: its wires, their values, and what probes read. `./show --help` says more.
 
-Verdicts, labels, stages, values and readings are the proved calls' (bindings/python/masked.py); the names of wires are
-circuit.py's.
+Verdicts, labels, stages, registers, values and readings are the proved calls' (bindings/python/masked.py); the names of wires
+are circuit.py's.
 """
 from __future__ import annotations
 
@@ -33,7 +33,8 @@ FILE is a circuit's text, as docs/FORMAT.md describes it; - is standard input.
 The proved library is built on first use, which takes three to five minutes
 and needs the Rattle toolchain (rt) and a C compiler (cc).
 Exit status: 0 shown, 1 refused by a rule, 2 trouble."""
-WIRES_HELP = "the number (decimal, hexadecimal), line, name, label and stage of each wire, and whether a probe stops at it"
+WIRES_HELP = ("the number (decimal, hexadecimal), line, name, label and stage of each wire, whether it is registered, "
+              "and whether a probe stops at it")
 VALUES_HELP = "the value of each wire, and the shares of each IN and OUT with their sum"
 READING_HELP = "the wires that the probes read together, with their values"
 
@@ -132,16 +133,20 @@ def place(number: int, circuit: Circuit) -> str:
 PLACE = " wire   hex   line  kind  name   "
 
 
+def yes(holds: bool) -> str:
+    return "yes" if holds else "no"
+
+
 def show_wires(circuit: Circuit, lines: list[bytes], notes: array, answer: masked.Accepted) -> list[str]:
-    rows = [PLACE + "  label  stage  stop"]
+    rows = [PLACE + "  label  stage  registered  stop"]
     numbers = iter(range(answer.wires))
     number = next(numbers, None)
     for frame, line in enumerate(lines):
         rows.append(f"line {frame + 1}: {shown(line)}")
         while number is not None and circuit.wires[number].frame == frame:
-            known = masked.label_and_stage(notes, number)
-            label, stage = ("inner", "-") if known is None else known
-            rows.append(f"{place(number, circuit)}  {label:>5}  {stage:>5}  {'yes' if circuit.wires[number].stop else 'no'}")
+            known = masked.place(notes, number)
+            label, stage, registered = ("inner", "-", "-") if known is None else (known.label, known.stage, yes(known.registered))
+            rows.append(f"{place(number, circuit)}  {label:>5}  {stage:>5}  {registered:10}  {yes(circuit.wires[number].stop)}")
             number = next(numbers, None)
     rows.append(f"next wire {answer.wires} ({answer.wires:04X}), next free random number {answer.randoms} ({answer.randoms:04X})")
     return rows

@@ -2,7 +2,7 @@
 
     import masked
     table = masked.read_text(open("examples/circuit-a.hex", "rb").read())
-    masked.check(table)                                        # Accepted(wires=26, randoms=1, latency=2)
+    masked.check(table)                                        # Accepted(wires=28, randoms=1, latency=3)
     values = bytearray(masked.MOST_WIRES)
     masked.evaluate(table, [1, 0, 1, 1], [1], values)          # values[24] is 1
     reading = bytearray(masked.MOST_WIRES)
@@ -27,6 +27,7 @@ MOST_WORDS = 8192
 MOST_WIRES = 8192
 NOTES_WORDS = 16384
 INNER = 0xFFFF
+REGISTERED = 8
 LIBRARY = Path(__file__).resolve().parents[2] / "target" / "shared" / "libmasked.so"
 
 
@@ -54,6 +55,7 @@ class Rule(enum.IntEnum):
     NO_SUCH_PROBE = 19
     LINE_FORM = 20
     NO_ROOM = 21
+    NOT_REGISTERED = 22
 
 
 class Accepted(NamedTuple):
@@ -72,14 +74,22 @@ class Refused(Exception):
         self.rule, self.frame, self.word = Rule(rule), frame, word
 
 
-def label_and_stage(notes: array.array, wire: int) -> tuple[int, int] | None:
+class Place(NamedTuple):
+    """A wire's label and stage, and whether it is registered: of an IN, a CON or a REG, or an output of a REF."""
+
+    label: int
+    stage: int
+    registered: bool
+
+
+def place(notes: array.array, wire: int) -> Place | None:
     """What the notes of a check say of a wire; None of an inner one."""
-    label, stage = notes[2 * wire], notes[2 * wire + 1]
-    return None if label == INNER else (label, stage)
+    first, stage = notes[2 * wire], notes[2 * wire + 1]
+    return None if first == INNER else Place(first & ~REGISTERED, stage, bool(first & REGISTERED))
 
 
 def check(table: Iterable[int], notes: array.array | None = None) -> Accepted:
-    """masked_check: judges a table of 16-bit words. `notes`: 16,384 words; a wire's label and stage."""
+    """masked_check: judges a table of 16-bit words. `notes`: 16,384 words, which `place` tells of a wire."""
     return _answer(_call("masked_check", 3, words(table), _words_for(notes)))
 
 

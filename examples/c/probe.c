@@ -13,7 +13,9 @@ static const char text[] =
     "0001 0001\n"
     "0001 0000\n"
     "0006 0000 0000 0001 0002 0003\n"
-    "0008 0018 0019\n";
+    "0005 0018\n"
+    "0005 0019\n"
+    "0008 001A 001B\n";
 
 static uint16_t table[MASKED_MOST_WORDS];
 static uint16_t notes[MASKED_NOTES_WORDS];
@@ -25,6 +27,14 @@ static int refused(uint64_t rule, uint64_t frame, uint64_t word)
 {
     printf("refused %" PRIu64 " frame %" PRIu64 " word %" PRIu64 "\n", rule, frame, word);
     return 1;
+}
+
+/* What the notes and the values say of a wire that frames may name. */
+static void print_wire(size_t wire)
+{
+    unsigned first = notes[2 * wire];
+    printf("wire %zu has label %u, stage %u and the value %u, and is %s\n", wire, first & ~MASKED_REGISTERED, notes[2 * wire + 1],
+           values[wire], first & MASKED_REGISTERED ? "registered" : "not registered");
 }
 
 int main(void)
@@ -45,7 +55,8 @@ int main(void)
                            values, MASKED_MOST_WIRES, &a, &b, &c);
     if (rule != MASKED_ACCEPTED)
         return refused(rule, a, b);
-    printf("wire 24 has label %u, stage %u and the value %u\n", notes[2 * 24], notes[2 * 24 + 1], values[24]);
+    print_wire(24);
+    print_wire(26);
 
     rule = masked_read_probes(table, words, notes, MASKED_NOTES_WORDS, shares, sizeof shares, tape, sizeof tape,
                               values, MASKED_MOST_WIRES, probes, 1, reading, MASKED_MOST_WIRES, &a, &b, &c);

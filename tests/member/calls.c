@@ -76,15 +76,17 @@ static void empty_slices(void)
 static void buffers(void)
 {
     const uint8_t shares[] = {1, 0, 1, 1}, tape[] = {1}, wrong[] = {1, 0, 1, 2};
-    const uint16_t probe[] = {24}, none[] = {26};
-    size_t words = read_text("0000 0002\n0001 0001\n0001 0000\n0006 0000 0000 0001 0002 0003\n0008 0018 0019\n");
+    const uint16_t probe[] = {24}, none[] = {28};
+    size_t words = read_text("0000 0002\n0001 0001\n0001 0000\n0006 0000 0000 0001 0002 0003\n"
+                             "0005 0018\n0005 0019\n0008 001A 001B\n");
     junk();
     answer("accepted", masked_read_probes(table, words, notes, MASKED_NOTES_WORDS, shares, 4, tape, 1, values, MASKED_MOST_WIRES,
-                                          probe, 1, reading, sizeof reading, &a, &b, &c), MASKED_ACCEPTED, 26, 1, 2);
+                                          probe, 1, reading, sizeof reading, &a, &b, &c), MASKED_ACCEPTED, 28, 1, 3);
     is("an output's note", notes[48] == 0 && notes[49] == 2 && notes[50] == 1 && notes[51] == 2);
+    is("a registered wire's note", notes[52] == MASKED_REGISTERED && notes[53] == 3 && notes[54] == MASKED_REGISTERED + 1);
     is("an inner wire's note", notes[46] == MASKED_INNER && notes[47] == MASKED_INNER);
-    is("notes behind the last wire", kept(notes, 2 * 2 * 26, sizeof notes));
-    is("values", values[24] == 1 && values[18] == 1 && values[23] == 0 && kept(values, 26, sizeof values));
+    is("notes behind the last wire", kept(notes, 2 * 2 * 28, sizeof notes));
+    is("values", values[24] == 1 && values[18] == 1 && values[23] == 0 && values[27] == 1 && kept(values, 28, sizeof values));
     is("the reading", reading[8] == 1 && reading[13] == 0 && reading[17] == 0 && reading[24] == MASKED_UNREAD
                           && reading[MASKED_MOST_WIRES - 1] == MASKED_UNREAD && kept(reading, MASKED_MOST_WIRES, sizeof reading));
     junk();
@@ -96,9 +98,13 @@ static void buffers(void)
                                          none, 1, reading, MASKED_MOST_WIRES, &a, &b, &c), MASKED_NO_SUCH_PROBE, 0, 0, 0);
     is("19 leaves values and reading", kept(values, 0, sizeof values) && kept(reading, 0, sizeof reading));
     junk();
-    table[words - 1] = 26;
-    answer("rule 8", masked_check(table, words, notes, MASKED_NOTES_WORDS, &a, &b, &c), MASKED_WIRE_NOT_MADE, 4, 2, 0);
-    is("8 leaves the earlier frames' notes", notes[48] == 0 && notes[49] == 2 && kept(notes, 2 * 2 * 26, sizeof notes));
+    table[words - 1] = 28;
+    answer("rule 8", masked_check(table, words, notes, MASKED_NOTES_WORDS, &a, &b, &c), MASKED_WIRE_NOT_MADE, 6, 2, 0);
+    is("8 leaves the earlier frames' notes", notes[52] == 8 && notes[53] == 3 && kept(notes, 2 * 2 * 28, sizeof notes));
+    junk();
+    table[words - 2] = 24;
+    answer("rule 22", masked_check(table, words, notes, MASKED_NOTES_WORDS, &a, &b, &c), MASKED_NOT_REGISTERED, 6, 1, 0);
+    is("22 leaves the earlier frames' notes", notes[52] == 8 && notes[53] == 3 && kept(notes, 2 * 2 * 28, sizeof notes));
     junk();
     table[1] = 9;
     answer("rule 4", masked_check(table, words, notes, MASKED_NOTES_WORDS, &a, &b, &c), MASKED_SHARE_COUNT, 0, 1, 0);

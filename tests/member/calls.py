@@ -15,7 +15,7 @@ import masked
 
 TEXT = (ROOT / "examples" / "circuit-a.hex").read_bytes()
 TABLE = masked.read_text(TEXT)
-A1 = [1, 0, 1, 1, 1, 1, 1, 1, 1, 1, 0, 0, 0, 0, 0, 0, 0, 0, 1, 1, 0, 0, 0, 0, 1, 1]
+A1 = [1, 0, 1, 1, 1, 1, 1, 1, 1, 1, 0, 0, 0, 0, 0, 0, 0, 0, 1, 1, 0, 0, 0, 0, 1, 1, 1, 1]
 
 
 def words(count: int) -> array:
@@ -30,19 +30,21 @@ class Functions(unittest.TestCase):
 
     def test_check(self) -> None:
         notes = words(masked.NOTES_WORDS)
-        self.assertEqual((26, 1, 2), masked.check(TABLE, notes))
-        self.assertEqual((0, 2), masked.label_and_stage(notes, 24))
-        self.assertIsNone(masked.label_and_stage(notes, 23))
-        self.assertEqual(0xA5A5, notes[52])
+        self.assertEqual((28, 1, 3), masked.check(TABLE, notes))
+        self.assertEqual((1, 2, False), masked.place(notes, 25))
+        self.assertEqual((1, 3, True), masked.place(notes, 27))
+        self.assertIsNone(masked.place(notes, 23))
+        self.assertEqual(0xA5A5, notes[56])
         self.refused(2, 0, 0, masked.check, TABLE, words(16383))
-        self.refused(8, 4, 1, masked.check, list(TABLE[:-2]) + [26, 25])
+        self.refused(8, 6, 1, masked.check, list(TABLE[:-2]) + [28, 27])
+        self.refused(22, 6, 1, masked.check, list(TABLE[:-2]) + [24, 25])
         self.refused(1, 0, 0, masked.check, [0] * 8193)
 
     def test_evaluate(self) -> None:
         values = bytearray(b"\xa5" * masked.MOST_WIRES)
-        self.assertEqual((26, 1, 2), masked.evaluate(TABLE, [1, 0, 1, 1], [1], values))
-        self.assertEqual(A1, list(values[:26]))
-        self.assertEqual(0xA5, values[26])
+        self.assertEqual((28, 1, 3), masked.evaluate(TABLE, [1, 0, 1, 1], [1], values))
+        self.assertEqual(A1, list(values[:28]))
+        self.assertEqual(0xA5, values[28])
         self.refused(15, 0, 0, masked.evaluate, TABLE, [1, 0, 1], [1])
         self.refused(18, 0, 4, masked.evaluate, TABLE, [1, 0, 1, 1], [2])
         self.refused(17, 0, 0, masked.evaluate, TABLE, [1, 0, 1, 1], [1], bytearray(8191))
@@ -52,12 +54,12 @@ class Functions(unittest.TestCase):
         for probe, read in ((24, {8: 1, 13: 0, 17: 0}), (14, {3: 1, 4: 1}), (16, {0: 1, 15: 0})):
             masked.read_probes(TABLE, [1, 0, 1, 1], [1], [probe], reading)
             self.assertEqual(read, {wire: value for wire, value in enumerate(reading) if value != 2})
-        self.refused(19, 0, 1, masked.read_probes, TABLE, [1, 0, 1, 1], [1], [0, 26], reading)
+        self.refused(19, 0, 1, masked.read_probes, TABLE, [1, 0, 1, 1], [1], [0, 28], reading)
 
     def test_read_text(self) -> None:
         table = words(20)
-        self.assertEqual(15, len(masked.read_text(TEXT, table)))
-        self.assertEqual((2, 0xA5A5), (table[1], table[15]))
+        self.assertEqual(19, len(masked.read_text(TEXT, table)))
+        self.assertEqual((2, 0xA5A5), (table[1], table[19]))
         self.refused(21, 3, 0, masked.read_text, TEXT, words(10))
         self.refused(20, 1, 0, masked.read_text, b"0000 0002\n0001 00f0\n")
 

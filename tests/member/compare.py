@@ -20,7 +20,7 @@ import masked
 import show
 from circuit import circuit_of, lines_of
 
-RULES = [*range(3, 15), 20, 21]
+RULES = [*range(3, 15), *range(20, 23)]
 CAUSES = ["empty line", "byte order mark", "no line feed", "spaces alone", "space in front", "space behind", "two spaces", "tab",
           "carriage return", "behind the words", "digits", "lower case", "no digit"]
 

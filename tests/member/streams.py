@@ -54,9 +54,9 @@ def at_a_terminal() -> tuple[int, str, str]:
 
 
 def main() -> int:
-    accepted = "accepted wires 26 random 1 latency 2\n"
+    accepted = "accepted wires 28 random 1 latency 3\n"
     cases = [
-        ("judge, a connection reset after four of five lines", of_a_reset(["./judge"]),
+        ("judge, a connection reset after four of seven lines", of_a_reset(["./judge"]),
          (2, "", "judge: standard input: not all of it could be read (Connection reset by peer)\n")),
         ("show, the same", of_a_reset(["./show", "wires", "-"]), (2, "", "show: standard input: Connection reset by peer\n")),
         ("judge at a terminal", at_a_terminal(),

@@ -1,7 +1,12 @@
 //! Writes frames into a table and keeps the numbers of the wires they make.
 
-/// A wire's label and stage.
-pub type Place = (usize, usize);
+/// A wire's label, its stage, and whether it is registered: of an IN, a CON or a REG, or an output of a REF.
+#[derive(Clone, Copy)]
+pub struct Place {
+    pub label: usize,
+    pub stage: usize,
+    pub registered: bool,
+}
 
 #[derive(Clone)]
 pub struct Builder {
@@ -41,13 +46,13 @@ impl Builder {
         self.table.extend(words);
     }
 
-    fn open(&mut self, label: usize, stage: usize) -> u16 {
-        self.places.push(Some((label, stage)));
+    fn open(&mut self, label: usize, stage: usize, registered: bool) -> u16 {
+        self.places.push(Some(Place { label, stage, registered }));
         (self.places.len() - 1) as u16
     }
 
-    fn open_row(&mut self, stage: usize) -> Vec<u16> {
-        (0..self.d).map(|label| self.open(label, stage)).collect()
+    fn open_row(&mut self, stage: usize, registered: bool) -> Vec<u16> {
+        (0..self.d).map(|label| self.open(label, stage, registered)).collect()
     }
 
     fn inner(&mut self, count: usize) {
@@ -57,31 +62,36 @@ impl Builder {
     pub fn input(&mut self, stage: usize) -> Vec<u16> {
         self.frame(&[1, stage as u16]);
         self.inputs += 1;
-        self.open_row(stage)
+        self.open_row(stage, true)
     }
 
     pub fn constant(&mut self, label: usize, value: u16, stage: usize) -> u16 {
         self.frame(&[2, label as u16, value, stage as u16]);
-        self.open(label, stage)
+        self.open(label, stage, true)
     }
 
     /// The result has the first wire's label, also where the second has another.
     pub fn xor(&mut self, x: u16, y: u16) -> u16 {
         self.frame(&[3, x, y]);
-        let (label, stage) = self.place(x);
-        self.open(label, stage)
+        let Place { label, stage, .. } = self.place(x);
+        self.open(label, stage, false)
     }
 
     pub fn not(&mut self, x: u16) -> u16 {
         self.frame(&[4, x]);
-        let (label, stage) = self.place(x);
-        self.open(label, stage)
+        let Place { label, stage, .. } = self.place(x);
+        self.open(label, stage, false)
     }
 
     pub fn register(&mut self, x: u16) -> u16 {
         self.frame(&[5, x]);
-        let (label, stage) = self.place(x);
-        self.open(label, stage + 1)
+        let Place { label, stage, .. } = self.place(x);
+        self.open(label, stage + 1, true)
+    }
+
+    /// A row one stage later.
+    pub fn registers(&mut self, row: &[u16]) -> Vec<u16> {
+        row.iter().map(|&wire| self.register(wire)).collect()
     }
 
     /// Random bits of one gadget.
@@ -100,21 +110,22 @@ impl Builder {
     }
 
     pub fn and(&mut self, a: &[u16], b: &[u16]) -> Vec<u16> {
-        let stage = self.place(a[0]).1;
+        let stage = self.place(a[0]).stage;
         self.frame(&[&[6, self.randoms as u16], a, b].concat());
         self.randoms += self.pairs();
         self.inner(self.and_wires() - self.d);
-        self.open_row(stage + 1)
+        self.open_row(stage + 1, false)
     }
 
     pub fn refresh(&mut self, row: &[u16]) -> Vec<u16> {
-        let stage = self.place(row[0]).1;
+        let stage = self.place(row[0]).stage;
         self.frame(&[&[7, self.randoms as u16], row].concat());
         self.randoms += self.pairs();
         self.inner(self.refresh_wires() - self.d);
-        self.open_row(stage + 1)
+        self.open_row(stage + 1, true)
     }
 
+    /// OUT as it stands; the checker asks registered wires.
     pub fn output(&mut self, row: &[u16]) {
         self.frame(&[&[8], row].concat());
     }

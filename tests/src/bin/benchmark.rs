@@ -107,7 +107,7 @@ fn gates(d: usize, words: usize) -> Builder {
         let summed: Vec<u16> = row.iter().map(|&wire| builder.xor(wire, wire)).collect();
         row = summed.iter().map(|&wire| builder.not(wire)).collect();
         if stage < 200 && builder.table.len().is_multiple_of(5) {
-            row = row.iter().map(|&wire| builder.register(wire)).collect();
+            row = builder.registers(&row);
             stage += 1;
         }
     }
@@ -120,7 +120,7 @@ fn products(d: usize, wires: usize) -> Builder {
     let (mut b, mut a) = (builder.input(0), builder.input(1));
     while builder.wires() + builder.and_wires() <= wires {
         let output = builder.and(&a, &b);
-        if builder.place(a[0]).1 < 250 {
+        if builder.place(a[0]).stage < 250 {
             b = a;
             a = output;
         }

@@ -52,11 +52,12 @@ fn leak(random: &mut Random, circuit: &Circuit, most_sets: usize) -> Option<Diff
     sets.iter().find_map(|set| difference(circuit, &outcomes, set))
 }
 
-/// IN at stages 1 and 0 and their AND.
+/// IN at stages 1 and 0 and their AND, its outputs registered.
 fn and(d: usize) -> Builder {
     let mut builder = Builder::new(d);
     let (a, b) = (builder.input(1), builder.input(0));
-    let output = builder.and(&a, &b);
+    let product = builder.and(&a, &b);
+    let output = builder.registers(&product);
     builder.output(&output);
     builder
 }
@@ -65,8 +66,9 @@ fn and(d: usize) -> Builder {
 fn square(d: usize) -> Builder {
     let mut builder = Builder::new(d);
     let b = builder.input(0);
-    let a: Vec<u16> = b.iter().map(|&wire| builder.register(wire)).collect();
-    let output = builder.and(&a, &b);
+    let a = builder.registers(&b);
+    let product = builder.and(&a, &b);
+    let output = builder.registers(&product);
     builder.output(&output);
     builder
 }
@@ -84,9 +86,10 @@ fn chain(d: usize) -> Builder {
     let mut builder = Builder::new(d);
     let (a, b) = (builder.input(1), builder.input(0));
     let product = builder.and(&a, &b);
-    let output = builder.and(&product, &a);
-    let sum: Vec<u16> = (0..d).map(|i| builder.xor(output[i], output[i])).collect();
-    builder.output(&sum);
+    let second = builder.and(&product, &a);
+    let sum: Vec<u16> = second.iter().map(|&wire| builder.xor(wire, wire)).collect();
+    let output = builder.registers(&sum);
+    builder.output(&output);
     builder
 }
 
@@ -145,8 +148,8 @@ fn joined_at_random(tally: &mut Tally, random: &mut Random, count: usize) {
             continue;
         }
         let (x, y) = (random.pick(&open), random.pick(&open));
-        let ((label, stage), other) = (builder.place(x), builder.place(y));
-        if label == other.0 || stage != other.1 {
+        let (place, other) = (builder.place(x), builder.place(y));
+        if place.label == other.label || place.stage != other.stage {
             continue;
         }
         builder.xor(x, y);

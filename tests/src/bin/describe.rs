@@ -12,7 +12,7 @@ use masked_tests::generate::slips::with_slip;
 use masked_tests::options;
 use masked_tests::reference::check::{walk, Rules};
 use masked_tests::reference::found::found;
-use masked_tests::reference::names::{frame_of, is_stop, names, shown};
+use masked_tests::reference::names::{frame_of, names, shown};
 
 const KINDS: [&str; 9] = ["HEAD", "IN", "CON", "XOR", "NOT", "REG", "AND", "REF", "OUT"];
 
@@ -20,7 +20,7 @@ fn hex(bytes: &[u8]) -> String {
     bytes.iter().map(|byte| format!("{byte:02x}")).collect()
 }
 
-/// A row as `show wires` has it: number, hexadecimal number, line, kind, name, label, stage, stop.
+/// A row as `show wires` has it: number, hexadecimal number, line, kind, name, label, stage, registered, stop.
 fn rows(builder: &Builder) -> Vec<String> {
     let (circuit, refusal) = walk(&builder.table, Rules::All);
     assert!(refusal.is_none(), "the generator makes accepted circuits");
@@ -29,14 +29,15 @@ fn rows(builder: &Builder) -> Vec<String> {
     let row = |number: usize| {
         let wire = &circuit.wires[number];
         let frame = frame_of(&circuit, number);
-        let (label, stage) = match wire.place {
-            Some(place) => (place.label.to_string(), place.stage.to_string()),
-            None => ("inner".to_string(), "-".to_string()),
+        let yes = |holds: bool| if holds { "yes" } else { "no" };
+        let place = match wire.place {
+            Some(place) => format!("{} {} {}", place.label, place.stage, yes(place.registered)),
+            None => "inner - -".to_string(),
         };
-        let stop = if is_stop(&wire.source) { "yes" } else { "no" };
+        let stop = yes(wire.source.is_stop());
         let kind = KINDS[usize::from(kinds[frame])];
         format!(
-            "{number} {number:04X} {} {kind} {} {label} {stage} {stop}",
+            "{number} {number:04X} {} {kind} {} {place} {stop}",
             frame + 1,
             shown(&names[number])
         )

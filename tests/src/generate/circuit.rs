@@ -1,6 +1,6 @@
 //! Valid random circuits, built frame by frame from a pool of wires by label and stage.
 use super::random::Random;
-use crate::builder::Builder;
+use crate::builder::{Builder, Place};
 use std::collections::BTreeMap;
 
 const MOST: usize = 8192;
@@ -19,15 +19,26 @@ impl Pool {
 
     /// All that a circuit has made.
     pub fn of(builder: &Builder) -> Pool {
+        Pool::with(builder, |_| true)
+    }
+
+    /// Those of them that an OUT may name.
+    pub fn registered(builder: &Builder) -> Pool {
+        Pool::with(builder, |place| place.registered)
+    }
+
+    fn with(builder: &Builder, wanted: fn(&Place) -> bool) -> Pool {
         let mut pool = Pool::new(builder.d);
-        for wire in (0..builder.wires()).filter(|&wire| builder.places[wire].is_some()) {
-            pool.add(builder, wire as u16);
+        for (wire, place) in builder.places.iter().enumerate() {
+            if place.as_ref().is_some_and(wanted) {
+                pool.add(builder, wire as u16);
+            }
         }
         pool
     }
 
     fn add(&mut self, builder: &Builder, wire: u16) {
-        let (label, stage) = builder.place(wire);
+        let Place { label, stage, .. } = builder.place(wire);
         self.wires.entry(stage).or_insert_with(|| vec![Vec::new(); self.d])[label].push(wire);
     }
 
@@ -105,7 +116,8 @@ fn step(random: &mut Random, shape: Shape, builder: &mut Builder, pool: &Pool) -
             vec![builder.constant(label, value, stage)]
         }
         3..=5 => gate(random, kind, builder, pool),
-        _ => gadget(random, kind, builder, pool),
+        6 | 7 => gadget(random, kind, builder, pool),
+        _ => end(random, builder, pool),
     }
 }
 
@@ -134,13 +146,12 @@ fn gate(random: &mut Random, kind: usize, builder: &mut Builder, pool: &Pool) ->
     made
 }
 
-/// AND, REF or OUT, where the pool has the rows for it.
+/// AND or REF, where the pool has the rows for it.
 fn gadget(random: &mut Random, kind: usize, builder: &mut Builder, pool: &Pool) -> Vec<u16> {
     let full = pool.full_stages();
     let fits = |stage: &usize| match kind {
         6 => *stage < LAST_STAGE && *stage > 0 && full.contains(&(stage - 1)),
-        7 => *stage < LAST_STAGE,
-        _ => true,
+        _ => *stage < LAST_STAGE,
     };
     let stages: Vec<usize> = full.iter().copied().filter(fits).collect();
     if stages.is_empty() {
@@ -153,10 +164,26 @@ fn gadget(random: &mut Random, kind: usize, builder: &mut Builder, pool: &Pool) 
             let b = pool.row(random, stage - 1);
             builder.and(&row, &b)
         }
-        7 => builder.refresh(&row),
-        _ => {
-            builder.output(&row);
-            Vec::new()
-        }
+        _ => builder.refresh(&row),
     }
+}
+
+/// OUT: of wires that are registered already, or of a row that gets its REGs first.
+fn end(random: &mut Random, builder: &mut Builder, pool: &Pool) -> Vec<u16> {
+    let registered = Pool::registered(builder);
+    let stages = registered.full_stages();
+    if !stages.is_empty() && random.once_in(2) {
+        let stage = random.pick(&stages);
+        builder.output(&registered.row(random, stage));
+        return Vec::new();
+    }
+    let mut stages = pool.full_stages();
+    stages.retain(|&stage| stage < LAST_STAGE);
+    if stages.is_empty() {
+        return Vec::new();
+    }
+    let stage = random.pick(&stages);
+    let row = builder.registers(&pool.row(random, stage));
+    builder.output(&row);
+    row
 }

@@ -40,7 +40,7 @@ fn many_gadgets(random: &mut Random) -> Builder {
     let mut a = builder.input(1);
     let only_and = random.once_in(2);
     let target = random.within(8189, 8194);
-    while builder.wires() + builder.and_wires() <= target && builder.place(a[0]).1 < 255 {
+    while builder.wires() + builder.and_wires() <= target && builder.place(a[0]).stage < 255 {
         if only_and || random.once_in(2) {
             let output = builder.and(&a, &b);
             if random.once_in(8) {
@@ -55,7 +55,7 @@ fn many_gadgets(random: &mut Random) -> Builder {
     builder
 }
 
-/// INs and CONs only, up to the limit of wires; then at times a frame that passes stage 255 too.
+/// INs and CONs only, up to the limit of wires; then at times a frame that passes stage 255 too, or an OUT.
 fn many_inputs(random: &mut Random) -> Builder {
     let mut builder = Builder::new(random.within(2, 8));
     let target = random.within(8189, 8194);
@@ -70,6 +70,7 @@ fn many_inputs(random: &mut Random) -> Builder {
         0 => drop(builder.register(row[0])),
         1 => drop(builder.refresh(&row)),
         2 => drop(builder.and(&row, &before)),
+        3 => builder.output(&row),
         _ => (),
     }
     builder
@@ -87,7 +88,7 @@ fn fill(random: &mut Random, builder: &mut Builder, target: usize) {
     }
 }
 
-/// Rows of registers, AND and REF up to stage 255 and at times past it.
+/// Rows of registers, AND and REF up to stage 255 and at times past it; then at times an OUT of the last, also of an AND.
 fn many_stages(random: &mut Random) -> Builder {
     let mut builder = Builder::new(random.within(2, 8));
     let mut stage = random.within(200, 254);
@@ -98,7 +99,7 @@ fn many_stages(random: &mut Random) -> Builder {
         let next: Vec<u16> = match random.below(6) {
             0 => builder.refresh(&row),
             1 if builder.wires() < 4000 => builder.and(&row, &before),
-            _ => row.iter().map(|&wire| builder.register(wire)).collect(),
+            _ => builder.registers(&row),
         };
         before = row;
         row = next;

@@ -17,14 +17,18 @@ struct Masking {
     nets: Vec<Rows>,
 }
 
-/// Masks with d shares; all inputs stand at stage 0, all outputs at one stage.
+/// Masks with d shares; all inputs stand at stage 0, all outputs at one stage and behind registers.
 pub fn mask(netlist: &Netlist, d: usize) -> Masked {
     let mut masking = Masking { builder: Builder::new(d), nets: Vec::new() };
     for gate in &netlist.gates {
         let (stage, row) = masking.gate(*gate);
         masking.nets.push(BTreeMap::from([(stage, row)]));
     }
-    let last = netlist.outputs.iter().map(|&net| masking.first_stage(net)).max().unwrap_or(0);
+    let registered = |&net: &usize| match netlist.gates[net] {
+        Gate::Input => masking.first_stage(net),
+        _ => masking.first_stage(net) + 1,
+    };
+    let last = netlist.outputs.iter().map(registered).max().unwrap_or(0);
     let outputs: Vec<Vec<u16>> =
         netlist.outputs.iter().map(|&net| masking.row_at(net, last)).collect();
     for row in &outputs {
@@ -43,7 +47,7 @@ impl Masking {
         let (&from, row) = self.nets[net].range(..=stage).next_back().expect("made by that stage");
         let mut row = row.clone();
         for next in from + 1..=stage {
-            row = row.iter().map(|&wire| self.builder.register(wire)).collect();
+            row = self.builder.registers(&row);
             self.nets[net].insert(next, row.clone());
         }
         row

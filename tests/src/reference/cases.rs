@@ -4,7 +4,8 @@ use crate::calls::{Answer, Calls};
 use crate::verdict::verdict_line;
 
 pub const CIRCUIT_A: &str = "0000 0002\n0001 0001\n0001 0000\n\
-                             0006 0000 0000 0001 0002 0003\n0008 0018 0019\n";
+                             0006 0000 0000 0001 0002 0003\n\
+                             0005 0018\n0005 0019\n0008 001A 001B\n";
 
 fn judge(text: &str) -> String {
     verdict_line(&Reference, text.as_bytes())
@@ -30,7 +31,7 @@ fn run_a(probes: &[u16]) -> (Vec<u8>, Vec<u8>) {
         probes,
         &mut reading,
     );
-    assert_eq!(answer, Answer::new(0, [26, 1, 2]));
+    assert_eq!(answer, Answer::new(0, [28, 1, 3]));
     (values, reading)
 }
 
@@ -41,15 +42,16 @@ fn read(reading: &[u8]) -> Vec<(usize, u8)> {
 
 #[test]
 fn circuit_a() {
-    assert_eq!(judge(CIRCUIT_A), "accepted wires 26 random 1 latency 2");
+    assert_eq!(judge(CIRCUIT_A), "accepted wires 28 random 1 latency 3");
 }
 
 #[test]
 fn a1_values() {
     let (values, reading) = run_a(&[]);
-    let wanted = [1, 0, 1, 1, 1, 1, 1, 1, 1, 1, 0, 0, 0, 0, 0, 0, 0, 0, 1, 1, 0, 0, 0, 0, 1, 1];
-    assert_eq!(values[..26], wanted);
-    assert!(values[26..].iter().all(|&value| value == 9));
+    let wanted =
+        [1, 0, 1, 1, 1, 1, 1, 1, 1, 1, 0, 0, 0, 0, 0, 0, 0, 0, 1, 1, 0, 0, 0, 0, 1, 1, 1, 1];
+    assert_eq!(values[..28], wanted);
+    assert!(values[28..].iter().all(|&value| value == 9));
     assert!(reading.iter().all(|&value| value == 2));
 }
 
@@ -66,8 +68,8 @@ fn a5_to_a8_refusals() {
     let change = |from: &str, to: &str| judge(&CIRCUIT_A.replace(from, to));
     assert_eq!(change("0001 0001\n", "0001 0000\n"), "refused 11 frame 3 word 4");
     assert_eq!(change("0000 0001 0002", "0001 0000 0002"), "refused 10 frame 3 word 2");
-    assert_eq!(change("0018", "0017"), "refused 9 frame 4 word 1");
-    assert_eq!(change("0018", "001A"), "refused 8 frame 4 word 1");
+    assert_eq!(change("001A", "0017"), "refused 9 frame 6 word 1");
+    assert_eq!(change("001A", "001C"), "refused 8 frame 6 word 1");
     assert_eq!(change("0006 0000", "0006 0001"), "refused 12 frame 3 word 1");
 }
 
@@ -86,10 +88,10 @@ fn b_c_and_d() {
 fn notes_of_circuit_a() {
     let mut notes = vec![7; 16390];
     Reference.check(&table(CIRCUIT_A), &mut notes);
-    assert_eq!(notes[..8], [0, 1, 1, 1, 0, 0, 1, 0]);
+    assert_eq!(notes[..8], [8, 1, 9, 1, 8, 0, 9, 0]);
     assert!(notes[8..48].iter().all(|&word| word == 0xFFFF));
-    assert_eq!(notes[48..52], [0, 2, 1, 2]);
-    assert!(notes[52..].iter().all(|&word| word == 7));
+    assert_eq!(notes[48..56], [0, 2, 1, 2, 8, 3, 9, 3]);
+    assert!(notes[56..].iter().all(|&word| word == 7));
 }
 
 #[test]
@@ -97,7 +99,7 @@ fn notes_keep_the_frames_before_a_refusal() {
     let mut notes = vec![7; 16384];
     let answer = Reference.check(&[0, 2, 1, 5, 3, 0, 1], &mut notes);
     assert_eq!(answer, Answer::new(10, [2, 2, 0]));
-    assert_eq!(notes[..5], [0, 5, 1, 5, 7]);
+    assert_eq!(notes[..5], [8, 5, 9, 5, 7]);
 }
 
 #[test]
@@ -151,7 +153,7 @@ fn buffers_of_calls() {
     assert_eq!(run(&[1, 0, 1, 1], &[1], 8192, &[], 8191), Answer::new(17, [0, 0, 0]));
     assert_eq!(run(&[1, 0, 1, 2], &[2], 8192, &[99], 8192), Answer::new(18, [0, 3, 0]));
     assert_eq!(run(&[1, 0, 1, 0], &[2], 8192, &[99], 8192), Answer::new(18, [0, 4, 0]));
-    assert_eq!(run(&[1, 0, 1, 0], &[0], 8192, &[25, 26], 8192), Answer::new(19, [0, 1, 0]));
+    assert_eq!(run(&[1, 0, 1, 0], &[0], 8192, &[27, 28], 8192), Answer::new(19, [0, 1, 0]));
     assert_eq!(Reference.check(&vec![0; 8193], &mut []), Answer::new(1, [0, 0, 0]));
     assert_eq!(Reference.check(&[], &mut notes[1..]), Answer::new(2, [0, 0, 0]));
     assert_eq!(Reference.check(&[0], notes), Answer::new(3, [0, 0, 0]));

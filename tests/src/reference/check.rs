@@ -1,4 +1,4 @@
-//! The checker: the refusals 1 to 14, frame by frame, and the notes.
+//! The checker: the refusals 1 to 14 and 22, frame by frame, and the notes.
 use super::circuit::{Circuit, NewWires, Place, Source};
 use super::gadgets::{and, pairs, refresh};
 use super::{Refusal, LAST_STAGE, MOST_WIRES, MOST_WORDS, NOTES_WORDS};
@@ -10,6 +10,9 @@ pub enum Rules {
     /// XOR may join wires of different labels; the result has the first's.
     WithoutXorLabel,
 }
+
+/// What a registered wire's note has beside its label.
+const REGISTERED: u16 = 8;
 
 /// A refusal inside one frame: rule and word.
 type Fault = (u64, usize);
@@ -37,16 +40,20 @@ pub fn check(table: &[u16], notes: &mut [u16]) -> Result<Circuit, Refusal> {
     }
     let (circuit, refusal) = walk(table, Rules::All);
     for (number, wire) in circuit.wires.iter().enumerate() {
-        let (label, stage) = match wire.place {
-            Some(place) => (place.label as u16, place.stage as u16),
-            None => (0xFFFF, 0xFFFF),
-        };
-        notes[2 * number] = label;
-        notes[2 * number + 1] = stage;
+        notes[2 * number..2 * number + 2].copy_from_slice(&note(wire.place));
     }
     match refusal {
         Some(refusal) => Err(refusal),
         None => Ok(circuit),
+    }
+}
+
+/// A wire's two words of the notes.
+fn note(place: Option<Place>) -> [u16; 2] {
+    match place {
+        None => [0xFFFF, 0xFFFF],
+        Some(place) if place.registered => [place.label as u16 + REGISTERED, place.stage as u16],
+        Some(place) => [place.label as u16, place.stage as u16],
     }
 }
 
@@ -95,11 +102,7 @@ fn take_frame(circuit: &mut Circuit, words: &[u16], rules: Rules) -> Result<(), 
         }
         6 => take_and(circuit, words),
         7 => take_ref(circuit, words),
-        _ => {
-            let stage = row(circuit, words, 1, None)?;
-            circuit.latency = circuit.latency.max(stage);
-            Ok(())
-        }
+        _ => take_out(circuit, words),
     }
 }
 
@@ -120,8 +123,25 @@ fn named(circuit: &Circuit, words: &[u16], word: usize) -> Result<Place, Fault> 
     }
 }
 
+/// One wire of a row: rules 8 to 11. `stage` is what it must have, where that is fixed; it may be -1, which none has.
+fn row_wire(
+    circuit: &Circuit,
+    words: &[u16],
+    word: usize,
+    label: usize,
+    stage: Option<i64>,
+) -> Result<Place, Fault> {
+    let place = named(circuit, words, word)?;
+    if place.label != label {
+        return Err((10, word));
+    }
+    if stage.is_some_and(|stage| stage != place.stage as i64) {
+        return Err((11, word));
+    }
+    Ok(place)
+}
+
 /// d wires in a row: the i-th has label i, all have one stage, which it gives.
-/// `first_stage` is what the first must have, where that is fixed; it may be -1, which none has.
 fn row(
     circuit: &Circuit,
     words: &[u16],
@@ -130,17 +150,9 @@ fn row(
 ) -> Result<usize, Fault> {
     let mut wanted = first_stage;
     let mut stage = 0;
-    for i in 0..circuit.d {
-        let word = first_word + i;
-        let place = named(circuit, words, word)?;
-        if place.label != i {
-            return Err((10, word));
-        }
-        if wanted.is_some_and(|wanted| wanted != place.stage as i64) {
-            return Err((11, word));
-        }
-        wanted = Some(place.stage as i64);
-        stage = place.stage;
+    for label in 0..circuit.d {
+        stage = row_wire(circuit, words, first_word + label, label, wanted)?.stage;
+        wanted = Some(stage as i64);
     }
     Ok(stage)
 }
@@ -223,6 +235,21 @@ fn take_ref(circuit: &mut Circuit, words: &[u16]) -> Result<(), Fault> {
     refresh(&mut new, first, &inputs, stage + 1);
     add(circuit, stage + 1, new)?;
     circuit.randoms += pairs(circuit.d);
+    Ok(())
+}
+
+/// OUT: a row of registered wires, rule 22 behind each word's others.
+fn take_out(circuit: &mut Circuit, words: &[u16]) -> Result<(), Fault> {
+    let (mut wanted, mut latency) = (None, circuit.latency);
+    for label in 0..circuit.d {
+        let place = row_wire(circuit, words, 1 + label, label, wanted)?;
+        if !place.registered {
+            return Err((22, 1 + label));
+        }
+        wanted = Some(place.stage as i64);
+        latency = latency.max(place.stage);
+    }
+    circuit.latency = latency;
     Ok(())
 }
 

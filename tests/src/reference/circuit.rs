@@ -1,11 +1,13 @@
 //! A circuit as a list of wires, each with its place and where its value comes from.
 use super::Counts;
 
-/// A wire's label (its share, 0 to d-1) and stage (its clock).
+/// What looking a wire up tells: its label (its share, 0 to d-1), its stage (its clock), and whether it is
+/// registered, which is so where its source is a stop.
 #[derive(Clone, Copy, Debug, PartialEq, Eq)]
 pub struct Place {
     pub label: usize,
     pub stage: usize,
+    pub registered: bool,
 }
 
 /// Where a wire's value comes from. The numbers are wires, except in the first three.
@@ -23,6 +25,16 @@ pub enum Source {
     Product(usize, usize),
     /// (not the first) times the second.
     NotProduct(usize, usize),
+}
+
+impl Source {
+    /// True where a probe stops: an IN or CON wire, a random bit, or a register.
+    pub fn is_stop(&self) -> bool {
+        matches!(
+            self,
+            Source::Share(_) | Source::Constant(_) | Source::Random(_) | Source::Register(_)
+        )
+    }
 }
 
 /// `place` is None for an inner wire, which no frame may name.
@@ -79,6 +91,6 @@ impl NewWires {
 
     /// Makes a wire that later frames may name.
     pub fn open(&mut self, label: usize, stage: usize, source: Source) -> usize {
-        self.push(Some(Place { label, stage }), source)
+        self.push(Some(Place { label, stage, registered: source.is_stop() }), source)
     }
 }

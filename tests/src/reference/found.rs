@@ -99,6 +99,7 @@ fn by_check(circuit: &Circuit, lines: &[&[u8]], refusal: Refusal) -> Facts {
             let before = place(circuit, operand).stage;
             Facts::of(&[("before", before), ("stage", before + 1), ("most", LAST_STAGE)])
         }
+        22 => unregistered(circuit, lines, named),
         _ => {
             let makes = made(circuit.d, words[0]);
             Facts::of(&[
@@ -137,8 +138,21 @@ fn range(circuit: &Circuit, words: &[u16], word: usize) -> Facts {
     Facts::of(&[("found", words[word].into()), ("most", most)]).because(cause)
 }
 
+/// The kind of each line.
+fn kinds(lines: &[&[u8]]) -> Vec<u16> {
+    lines.iter().map(|line| numbers(line)[0]).collect()
+}
+
+/// What makes the wire that is not registered: an AND, an XOR or a NOT.
+fn unregistered(circuit: &Circuit, lines: &[&[u8]], wire: usize) -> Facts {
+    let (kinds, frame) = (kinds(lines), frame_of(circuit, wire));
+    let kind = usize::from(kinds[frame]);
+    let mut facts = Facts::of(&[("wire", wire), ("kind", kind), ("line", frame + 1)]);
+    facts.text("name", &shown(&names(circuit, &kinds)[wire]));
+    facts
+}
+
 fn inner(circuit: &Circuit, lines: &[&[u8]], wire: usize) -> Facts {
-    let kinds: Vec<u16> = lines.iter().map(|line| numbers(line)[0]).collect();
     let frame = frame_of(circuit, wire);
     let end = circuit.starts.get(frame + 1).copied().unwrap_or(circuit.wires.len());
     let mut facts = Facts::of(&[
@@ -147,7 +161,7 @@ fn inner(circuit: &Circuit, lines: &[&[u8]], wire: usize) -> Facts {
         ("first", end - circuit.d),
         ("last", end - 1),
     ]);
-    facts.text("name", &shown(&names(circuit, &kinds)[wire]));
+    facts.text("name", &shown(&names(circuit, &kinds(lines))[wire]));
     facts
 }
 

@@ -13,6 +13,8 @@ pub mod text;
 #[cfg(test)]
 mod cases;
 #[cfg(test)]
+mod ends;
+#[cfg(test)]
 mod slips;
 
 use crate::calls::{Answer, Calls};
@@ -34,7 +36,7 @@ pub struct Counts {
     pub latency: usize,
 }
 
-/// A refusal: the rule's number in 01's table, and where it was met.
+/// A refusal: the rule's number, and where it was met.
 #[derive(Clone, Copy, Debug, PartialEq, Eq)]
 pub struct Refusal {
     pub rule: u64,

@@ -91,11 +91,3 @@ fn of_ref(circuit: &Circuit, names: &[Name], wire: usize, frame: usize) -> Name 
         _ => unreachable!("REF has no other gates"),
     }
 }
-
-/// True where a probe stops at the wire.
-pub fn is_stop(source: &Source) -> bool {
-    matches!(
-        source,
-        Source::Share(_) | Source::Constant(_) | Source::Random(_) | Source::Register(_)
-    )
-}

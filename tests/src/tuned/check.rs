@@ -1,7 +1,9 @@
-//! The checker in one pass; the notes themselves hold the labels and stages it looks up.
+//! The checker in one pass; the notes themselves hold the labels, registers and stages it looks up.
 use super::{Found, Refused, Sizes};
 
 const INNER: u16 = 0xFFFF;
+/// The bit of a registered wire beside its label.
+const REGISTERED: u16 = 8;
 
 struct Pass<'a> {
     notes: &'a mut [u16; 16384],
@@ -63,46 +65,59 @@ impl Pass<'_> {
             3 => self.xor(words[1], words[2]),
             4 | 5 => {
                 let (label, stage) = self.named(words[1], 1)?;
-                self.one(label, stage + (kind & 1))
+                let register = kind & 1;
+                self.one(label & !REGISTERED | register * REGISTERED, stage + register)
             }
             6 => self.gadget(words[1], &words[2..], made, true),
             7 => self.gadget(words[1], &words[2..], made, false),
-            _ => self.row(&words[1..], 1),
+            _ => self.row::<true>(&words[1..], 1),
         }
     }
 
+    /// A made wire's note.
     #[inline(always)]
-    fn named(&self, wire: u16, word: usize) -> Result<(u16, u16), Fault> {
+    fn noted(&self, wire: u16, word: usize) -> Result<(u16, u16), Fault> {
         let wire = usize::from(wire);
         if wire >= self.wires {
             return Err((8, word));
         }
-        let label = self.notes[2 * wire];
-        if label == INNER {
+        Ok((self.notes[2 * wire], self.notes[2 * wire + 1]))
+    }
+
+    /// The note of a wire that is not inner.
+    #[inline(always)]
+    fn named(&self, wire: u16, word: usize) -> Result<(u16, u16), Fault> {
+        let note = self.noted(wire, word)?;
+        if note.0 == INNER {
             return Err((9, word));
         }
-        Ok((label, self.notes[2 * wire + 1]))
+        Ok(note)
     }
 
     #[inline(always)]
-    fn row(&self, words: &[u16], first_word: usize) -> Result<u16, Fault> {
+    fn row<const OUT: bool>(&self, words: &[u16], first_word: usize) -> Result<u16, Fault> {
         let stage = match words {
             [] => 0,
             [first, ..] => self.named(*first, first_word)?.1,
         };
-        self.row_at(words, first_word, stage)?;
+        self.row_at::<OUT>(words, first_word, stage)?;
         Ok(stage)
     }
 
+    /// OUT asks the bit of a register, others pass over it; INNER is no label either way.
     #[inline(always)]
-    fn row_at(&self, words: &[u16], first_word: usize, stage: u16) -> Result<(), Fault> {
+    fn row_at<const OUT: bool>(
+        &self,
+        words: &[u16],
+        first_word: usize,
+        stage: u16,
+    ) -> Result<(), Fault> {
+        let passed_over = if OUT { 0 } else { REGISTERED };
         for (i, &wire) in words.iter().enumerate() {
-            let (label, own_stage) = self.named(wire, first_word + i)?;
-            if usize::from(label) != i {
-                return Err((10, first_word + i));
-            }
-            if own_stage != stage {
-                return Err((11, first_word + i));
+            let wanted = (i as u16 | REGISTERED, stage);
+            let note = self.noted(wire, first_word + i)?;
+            if (note.0 | passed_over, note.1) != wanted {
+                return Err((broken(note, wanted), first_word + i));
             }
         }
         Ok(())
@@ -128,11 +143,12 @@ impl Pass<'_> {
         Ok(0)
     }
 
+    /// `register` is REGISTERED or 0.
     #[inline(always)]
-    fn open_row(&mut self, stage: u16) {
+    fn open_row(&mut self, stage: u16, register: u16) {
         let row = &mut self.notes[2 * self.wires..2 * (self.wires + self.d)];
         for (label, note) in row.chunks_exact_mut(2).enumerate() {
-            note[0] = label as u16;
+            note[0] = label as u16 | register;
             note[1] = stage;
         }
         self.wires += self.d;
@@ -144,7 +160,7 @@ impl Pass<'_> {
             return Err((7, 1));
         }
         self.room(stage, self.d)?;
-        self.open_row(stage);
+        self.open_row(stage, REGISTERED);
         Ok(0)
     }
 
@@ -159,20 +175,20 @@ impl Pass<'_> {
         if stage > 255 {
             return Err((7, 3));
         }
-        self.one(label, stage)
+        self.one(label | REGISTERED, stage)
     }
 
     #[inline(always)]
     fn xor(&mut self, x: u16, y: u16) -> Result<u16, Fault> {
         let (label, stage) = self.named(x, 1)?;
-        let (other_label, other_stage) = self.named(y, 2)?;
-        if other_label != label {
+        let (other, other_stage) = self.named(y, 2)?;
+        if other | REGISTERED != label | REGISTERED {
             return Err((10, 2));
         }
         if other_stage != stage {
             return Err((11, 2));
         }
-        self.one(label, stage)
+        self.one(label & !REGISTERED, stage)
     }
 
     #[inline(always)]
@@ -181,16 +197,27 @@ impl Pass<'_> {
             return Err((12, 1));
         }
         let (a, b) = wires.split_at(self.d);
-        let stage = self.row(a, 2)?;
+        let stage = self.row::<false>(a, 2)?;
         if and {
-            self.row_at(b, 2 + self.d, stage.wrapping_sub(1))?;
+            self.row_at::<false>(b, 2 + self.d, stage.wrapping_sub(1))?;
         }
         self.room(stage + 1, made)?;
         let outputs = self.wires + made - self.d;
         self.notes[2 * self.wires..2 * outputs].fill(INNER);
         self.wires = outputs;
-        self.open_row(stage + 1);
+        self.open_row(stage + 1, if and { 0 } else { REGISTERED });
         self.randoms += self.pairs;
         Ok(0)
+    }
+}
+
+/// The first rule that a wire of another note than the wanted one breaks; that one has the bit of a register.
+#[cold]
+fn broken(note: (u16, u16), wanted: (u16, u16)) -> u64 {
+    match note {
+        (INNER, _) => 9,
+        (label, _) if label | REGISTERED != wanted.0 => 10,
+        (_, stage) if stage != wanted.1 => 11,
+        _ => 22,
     }
 }
