@@ -128,6 +128,19 @@ fn products(d: usize, wires: usize) -> Builder {
     builder
 }
 
+/// OUTs of one row that goes through registers in between, up to a number of words.
+fn outputs(d: usize, words: usize) -> Builder {
+    let mut builder = Builder::new(d);
+    let mut row = builder.input(0);
+    while builder.table.len() + 3 * d < words {
+        if builder.place(row[0]).stage < 200 {
+            row = builder.registers(&row);
+        }
+        builder.output(&row);
+    }
+    builder
+}
+
 /// A line for each circuit: of each call both medians and their ratio.
 fn print_lines(
     circuits: Vec<(String, Builder)>,
@@ -169,6 +182,8 @@ fn main() {
         ("gates, d 8".to_string(), gates(8, 8192)),
         ("AND chain, d 2".to_string(), products(2, 8192)),
         ("AND chain, d 8".to_string(), products(8, 8192)),
+        ("OUT rows, d 2".to_string(), outputs(2, 8192)),
+        ("OUT rows, d 8".to_string(), outputs(8, 8192)),
     ];
     print_lines(largest, random, subject.as_ref(), rounds);
     println!("growth with the size");
