@@ -155,7 +155,7 @@ pub(crate) fn sum(first: u16, second: u16, wires: usize, notes: &mut [u16]) -> S
     }
 }
 
-// NOT, and one stage later, registered, REG: one wire.
+// NOT, and REG, whose wire stands one stage later and is registered: one wire.
 pub(crate) fn copy(wire: u16, after: usize, wires: usize, notes: &mut [u16]) -> Spot
     requires { ⌜ (wires ≤ wireLimit) × (notesRoom ≤ length (now notes)) × (after < 65536) ⌝ }
     ensures { λ r. ⌜ Judges (spot (likeNumber (noted (now (notes .entry)) wires wire) (noted (now (notes .entry)) wires wire)) 1 andThen none)

@@ -1,5 +1,5 @@
-// Decides whether a table of words is a circuit that keeps document 01's rules, and writes each wire's label and stage into
-// the notes.
+// Decides whether a table of words is a circuit that keeps rules 1 to 14 and 22, and writes into the notes what looking each
+// wire up tells: its label, its stage and whether it is registered.
 ghost use mathlib.Core.Path.{_≡_};
 ghost use lib.ListN.{length};
 ghost use Rattle.circuit.specs.Rules.{checked};

@@ -44,6 +44,10 @@ module _ (k : Circuit) (f : ℕ) (ops : List ℕ) where
   abbrev stageAt : ℕ → ℕ
   stageAt x = stageShown (lookUp k x)
 
+  -- a wire with the label i, at the stage of the wire at place p of the frame
+  abbrev shareRule : (i p w x : ℕ) → Judgement
+  shareRule i p w x = wireRule (eqb (labelAt x) i) (eqb (stageAt x) (stageAt (nth ops p))) w x
+
   -- a word by its rule
   abbrev pub wordRule : WordRule → (w x : ℕ) → Judgement
   wordRule shareCount w x = need (leb fewestShares x && leb x mostShares) 4 f w
@@ -51,10 +55,10 @@ module _ (k : Circuit) (f : ℕ) (ops : List ℕ) where
   wordRule value w x = need (leb x 1) 7 f w
   wordRule stage w x = need (leb x stageLimit) 7 f w
   wordRule random w x = need (eqb x (k .randoms)) 12 f w
-  wordRule (like p) w x = wireRule (eqb (labelAt x) (labelAt (nth ops p))) (eqb (stageAt x) (stageAt (nth ops p))) w x
-  wordRule (share i p) w x = wireRule (eqb (labelAt x) i) (eqb (stageAt x) (stageAt (nth ops p))) w x
+  wordRule (like p) w x = shareRule (labelAt (nth ops p)) p w x
+  wordRule (share i p) w x = shareRule i p w x
   wordRule (before i p) w x = wireRule (eqb (labelAt x) i) (eqb (suc (stageAt x)) (stageAt (nth ops p))) w x
-  wordRule (registered i p) w x = wireRule (eqb (labelAt x) i) (eqb (stageAt x) (stageAt (nth ops p))) w x then need (isRegistered (lookUp k x)) 22 f w
+  wordRule (registered i p) w x = shareRule i p w x then need (isRegistered (lookUp k x)) 22 f w
 
   -- word by word, from the number w on
   unfoldable pub wordsRule : ℕ → List WordRule → List ℕ → Judgement
