@@ -34,7 +34,7 @@ enum {
     MASKED_MOST_WIRES = 8192,   /* wires of a circuit, and least bytes of values and reading */
     MASKED_NOTES_WORDS = 16384, /* least words of notes */
     MASKED_INNER = 0xFFFF,      /* both words of an inner wire's note */
-    MASKED_REGISTERED = 8,      /* the bit of a registered wire in its note's first word, beside the label */
+    MASKED_REGISTERED = 8,      /* what a registered wire's first word has beside its label; ask for MASKED_INNER before */
     MASKED_UNREAD = 2           /* a reading's byte for a wire that no probe reads */
 };
 
@@ -63,15 +63,15 @@ enum masked_rule {
     MASKED_NO_SUCH_PROBE = 19,    /* every probe names a wire of the circuit */
     MASKED_LINE_FORM = 20,        /* a line is words of four digits 0-9A-F, one space between, and a line feed behind the last */
     MASKED_NO_ROOM = 21,          /* the words of all lines fit a table of 8,192 words */
-    MASKED_NOT_REGISTERED = 22    /* every wire of an OUT is registered: of an IN, a CON or a REG, or an output of a REF */
+    MASKED_NOT_REGISTERED = 22    /* every wire that an OUT names is registered: made by an IN, a CON or a REG, or an output of a REF */
 };
 
 /* Checks a table: the words of all frames, one behind the other. Rules 1 to 14 and 22. (In a table, without lines, rule 6 is broken
  * where the table ends inside a frame; 22 is asked of each word of an OUT, behind that word's 8 to 11.)
  *
- * notes   at least 16,384 words. Word 2w is wire w's label (0 to 7), plus MASKED_REGISTERED (8) where the wire is registered: of an
- *         IN, a CON or a REG, or an output of a REF. Word 2w+1 is its stage. Both are MASKED_INNER (FFFF) for an inner wire of a
- *         gadget, a register too; no frame may name it.
+ * notes   at least 16,384 words. Word 2w is wire w's label (0 to 7), plus MASKED_REGISTERED (8) where the wire is registered: made
+ *         by an IN, a CON or a REG, or an output of a REF. Word 2w+1 is its stage. Both are MASKED_INNER (FFFF) for an inner wire of
+ *         a gadget, even where that is a register; no frame may name it. Ask for MASKED_INNER first: FFFF has the 8 in it too.
  *         accepted:               the notes of all wires are written; the words behind the last wire's are as they were
  *         rules 1 to 4:           as they were
  *         rules 5 to 14 and 22:   the notes of the wires of all frames before the refused one are written; the rest is as it was */

@@ -37,7 +37,7 @@ MEANINGS = {
     19: "every probe names a wire of the circuit",
     20: "a line is words of four digits 0-9A-F, one space between, and a line feed behind the last",
     21: "the words of all lines fit a table of 8,192 words",
-    22: "every wire of an OUT is registered: of an IN, a CON or a REG, or an output of a REF",
+    22: "every wire that an OUT names is registered: made by an IN, a CON or a REG, or an output of a REF",
 }
 
 
@@ -180,8 +180,9 @@ def first_random(spot: Spot) -> Finding:
 def unregistered(spot: Spot) -> Finding:
     wire = spot.circuit.wires[spot.named]
     what = "{name}, an output of" if wire.kind == AND else "made by"
-    later = "; a REG of it is, one stage later" if wire.stage < LAST_STAGE else "; no REG can follow at the last stage"
-    return Finding("wire {wire} ({wire:04X}) is " + what + " the " + KINDS[wire.kind] + " of line {line}, and not registered" + later,
+    later = ("a REG line for each wire of the row gives a registered row, one stage later" if wire.stage < LAST_STAGE
+             else "no REG can follow, since stage 255 is the last")
+    return Finding("wire {wire} ({wire:04X}) is " + what + " the " + KINDS[wire.kind] + " of line {line}; it is not registered; " + later,
                    {"wire": spot.named, "kind": wire.kind, "line": wire.frame + 1, "name": wire.name})
 
 

@@ -75,7 +75,7 @@ class Refused(Exception):
 
 
 class Place(NamedTuple):
-    """A wire's label and stage, and whether it is registered: of an IN, a CON or a REG, or an output of a REF."""
+    """A wire's label and stage, and whether it is registered: made by an IN, a CON or a REG, or an output of a REF."""
 
     label: int
     stage: int

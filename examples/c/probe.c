@@ -29,10 +29,14 @@ static int refused(uint64_t rule, uint64_t frame, uint64_t word)
     return 1;
 }
 
-/* What the notes and the values say of a wire that frames may name. */
+/* What the notes and the values say of a wire. FFFF has the bit of a register too, so inner wires are told first. */
 static void print_wire(size_t wire)
 {
     unsigned first = notes[2 * wire];
+    if (first == MASKED_INNER) {
+        printf("wire %zu is inner and has the value %u\n", wire, values[wire]);
+        return;
+    }
     printf("wire %zu has label %u, stage %u and the value %u, and is %s\n", wire, first & ~MASKED_REGISTERED, notes[2 * wire + 1],
            values[wire], first & MASKED_REGISTERED ? "registered" : "not registered");
 }
@@ -55,6 +59,7 @@ int main(void)
                            values, MASKED_MOST_WIRES, &a, &b, &c);
     if (rule != MASKED_ACCEPTED)
         return refused(rule, a, b);
+    print_wire(23);
     print_wire(24);
     print_wire(26);
 

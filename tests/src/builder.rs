@@ -1,6 +1,7 @@
 //! Writes frames into a table and keeps the numbers of the wires they make.
 
-/// A wire's label, its stage, and whether it is registered: of an IN, a CON or a REG, or an output of a REF.
+/// A wire's label, its stage, and whether it is registered: made by an IN, a CON or a REG, or an
+/// output of a REF.
 #[derive(Clone, Copy)]
 pub struct Place {
     pub label: usize,
@@ -125,7 +126,7 @@ impl Builder {
         self.open_row(stage + 1, true)
     }
 
-    /// OUT as it stands; the checker asks registered wires.
+    /// OUT as it stands; the checker asks for registered wires.
     pub fn output(&mut self, row: &[u16]) {
         self.frame(&[&[8], row].concat());
     }

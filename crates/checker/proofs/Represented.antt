@@ -14,7 +14,7 @@ use Rattle.circuit.specs.Lists.{nth, overwrite}
 use Rattle.circuit.specs.Wires.{Wire, inner, constant, _placed_}
 use Rattle.circuit.specs.Gadgets.{c, S, inAND, inREF}
 use Rattle.circuit.specs.Kinds.{Kind}
-use Rattle.circuit.specs.Circuit.{Circuit, size, Lookup, found, hidden, shownBy, lookUp, labelOf, newStage, made, extend}
+use Rattle.circuit.specs.Circuit.{Circuit, size, Lookup, found, hidden, shownBy, lookUp, labelShown, newStage, made, extend}
 use Rattle.circuit.specs.Answer.{note, notesOf, notesAfter}
 use Rattle.circuit.proofs.Base.{cases, AllFrom, all-any}
 use Rattle.circuit.proofs.Numbered.{at-all, all-default}
@@ -56,10 +56,10 @@ words-at (w ∷ ws) rest (suc x) h =
 
 -- every label is a share
 abbrev pub Labelled : Circuit → ℕ → Wire → Type 0
-Labelled k x wire = labelOf (shownBy wire) < k .d
+Labelled k x wire = labelShown (shownBy wire) < k .d
 
-label-old : (k : Circuit) → 0 < k .d → Lawful Labelled k → (x : ℕ) → labelOf (lookUp k x) < k .d
-label-old k least law x = all-default (λ wire. labelOf (shownBy wire) < k .d) (constant false placed inner 0) least 0 (k .wires) x law
+label-old : (k : Circuit) → 0 < k .d → Lawful Labelled k → (x : ℕ) → labelShown (lookUp k x) < k .d
+label-old k least law x = all-default (λ wire. labelShown (shownBy wire) < k .d) (constant false placed inner 0) least 0 (k .wires) x law
 
 -- the words of a label below 8 tell it, and whether the wire is registered
 told : (l t : ℕ) (registered : Bool) → l < mostShares → foundIn (firstWord l registered) t ≡ Named l t registered
@@ -71,7 +71,7 @@ pub represents : (k : Circuit) (notes : List ℕ) → k .d ≤ mostShares → 0 
 unfolding notesAfter
 represents k notes most least law x = cases (ltb x (size k)) (λ e. rw e (inside (ltb-true x (size k) e))) (λ e. rw e)
   where
-    same : (p : Lookup) → labelOf p < k .d → foundIn (firstNote p) (secondNote p) ≡ shown p
+    same : (p : Lookup) → labelShown p < k .d → foundIn (firstNote p) (secondNote p) ≡ shown p
     same (found l t registered) h = told l t registered (omega arith)
     same hidden h = refl
 

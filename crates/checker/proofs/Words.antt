@@ -10,8 +10,8 @@ use lib.Seq.{length-take-le}
 use borrow.Author.Tests.{ltb-false}
 use Rattle.circuit.specs.Lists.{nth, range}
 use Rattle.circuit.specs.Kinds.{WordRule, like, share, before, registered, row}
-use Rattle.circuit.specs.Circuit.{Circuit, size, Lookup, found, hidden, shownBy, lookUp, labelOf, stageShown, isRegistered}
-use Rattle.circuit.specs.Rules.{Judgement, pass, need, _then_, isNamed, wireRule, wordRule, wordsRule}
+use Rattle.circuit.specs.Circuit.{Circuit, size, Lookup, found, hidden, shownBy, lookUp, labelShown, stageShown, isRegistered, isNamed}
+use Rattle.circuit.specs.Rules.{Judgement, pass, need, _then_, wireRule, wordRule, wordsRule}
 use Rattle.circuit.proofs.Base.{cases}
 use Rattle.circuit.proofs.Fitting.{one-word, two-words, three-words}
 use Rattle.frames.specs.declared.kinds.Form.{Form}
@@ -33,7 +33,7 @@ module _ (k : Circuit) where
   found-by : {A : Type 0} (f : Found → A) (g : Lookup → A) → f Missing ≡ g hidden → ((p : Lookup) → f (shown p) ≡ g p) → (x : ℕ) → f (foundOf k x) ≡ g (lookUp k x)
   found-by f g e h x = cases (ltb x (size k)) (λ l. rw l (h (lookUp k x))) (λ l. rw (l, past x (ltb-false x (size k) l)) e)
 
-  label-shown : (p : Lookup) → labelFound (shown p) ≡ labelOf p
+  label-shown : (p : Lookup) → labelFound (shown p) ≡ labelShown p
   label-shown (found l t b) = refl
   label-shown hidden = refl
 
@@ -41,8 +41,8 @@ module _ (k : Circuit) where
   stage-in (found l t b) = refl
   stage-in hidden = refl
 
-  pub label-found : (x : ℕ) → labelFound (foundOf k x) ≡ labelOf (lookUp k x)
-  label-found = found-by labelFound labelOf refl label-shown
+  pub label-found : (x : ℕ) → labelFound (foundOf k x) ≡ labelShown (lookUp k x)
+  label-found = found-by labelFound labelShown refl label-shown
 
   pub stage-found : (x : ℕ) → stageFound (foundOf k x) ≡ stageShown (lookUp k x)
   stage-found = found-by stageFound stageShown refl stage-in
@@ -58,7 +58,7 @@ module _ (k : Circuit) (f : ℕ) (ops : List ℕ) where
   asked false held w = pass
 
   wire-number : (w x l t ahead : ℕ) (register : Bool) → judged (wireNumber (foundOf k x) l t ahead register) f w
-      ≡ (wireRule k f ops (eqb (labelOf (lookUp k x)) l) (eqb (stageShown (lookUp k x) + ahead) t) w x then asked register (isRegistered (lookUp k x)) w)
+      ≡ (wireRule k f ops (eqb (labelShown (lookUp k x)) l) (eqb (stageShown (lookUp k x) + ahead) t) w x then asked register (isRegistered (lookUp k x)) w)
   wire-number w x l t ahead register = go (ltb x (size k)) (lookUp k x)
     where
       tests : (a b register c : Bool) → judged (cond a (cond b (cond register (cond c 0 22) 0) 11) 10) f w ≡ ((need a 10 f w then need b 11 f w) then asked register c w)
@@ -69,7 +69,7 @@ module _ (k : Circuit) (f : ℕ) (ops : List ℕ) where
       tests false b register c = refl
 
       go : (b : Bool) (p : Lookup) → judged (wireNumber (cond b (shown p) Missing) l t ahead register) f w
-          ≡ ((need b 8 f w then need (isNamed p) 9 f w then need (eqb (labelOf p) l) 10 f w then need (eqb (stageShown p + ahead) t) 11 f w) then asked register (isRegistered p) w)
+          ≡ ((need b 8 f w then need (isNamed p) 9 f w then need (eqb (labelShown p) l) 10 f w then need (eqb (stageShown p + ahead) t) 11 f w) then asked register (isRegistered p) w)
       go false p = refl
       go true hidden = refl
       go true (found a s c) = tests (eqb a l) (eqb (s + ahead) t) register c
@@ -77,16 +77,16 @@ module _ (k : Circuit) (f : ℕ) (ops : List ℕ) where
   -- the same so many stages ahead, by the stage that has to be equal
   registered-at : (w x l p ahead s : ℕ) (register : Bool) → stageShown (lookUp k x) + ahead ≡ s
       → judged (wireNumber (foundOf k x) l (stageFound (foundOf k (nth ops p))) ahead register) f w
-      ≡ (wireRule k f ops (eqb (labelOf (lookUp k x)) l) (eqb s (stageShown (lookUp k (nth ops p)))) w x then asked register (isRegistered (lookUp k x)) w)
+      ≡ (wireRule k f ops (eqb (labelShown (lookUp k x)) l) (eqb s (stageShown (lookUp k (nth ops p)))) w x then asked register (isRegistered (lookUp k x)) w)
   registered-at w x l p ahead s register e = rw (stage-found k (nth ops p)) (wire-number w x l (stageShown (lookUp k (nth ops p))) ahead register
-      ∙ ap (λ n. wireRule k f ops (eqb (labelOf (lookUp k x)) l) (eqb n (stageShown (lookUp k (nth ops p)))) w x then asked register (isRegistered (lookUp k x)) w) e)
+      ∙ ap (λ n. wireRule k f ops (eqb (labelShown (lookUp k x)) l) (eqb n (stageShown (lookUp k (nth ops p)))) w x then asked register (isRegistered (lookUp k x)) w) e)
 
   wire-at : (w x l p ahead s : ℕ) → stageShown (lookUp k x) + ahead ≡ s → judged (wireNumber (foundOf k x) l (stageFound (foundOf k (nth ops p))) ahead false) f w
-      ≡ wireRule k f ops (eqb (labelOf (lookUp k x)) l) (eqb s (stageShown (lookUp k (nth ops p)))) w x
+      ≡ wireRule k f ops (eqb (labelShown (lookUp k x)) l) (eqb s (stageShown (lookUp k (nth ops p)))) w x
   wire-at w x l p ahead s e = registered-at w x l p ahead s false e ∙ pass-last _
 
   like-is : (p w x : ℕ) → judged (likeNumber (foundOf k (nth ops p)) (foundOf k x)) f w ≡ wordRule k f ops (like p) w x
-  like-is p w x = rw (label-found k (nth ops p)) (wire-at w x (labelOf (lookUp k (nth ops p))) p 0 (stageShown (lookUp k x)) (omega arith))
+  like-is p w x = rw (label-found k (nth ops p)) (wire-at w x (labelShown (lookUp k (nth ops p))) p 0 (stageShown (lookUp k x)) (omega arith))
 
   share-is : (p i w x : ℕ) → judged (wireNumber (foundOf k x) i (stageFound (foundOf k (nth ops p))) 0 false) f w ≡ wordRule k f ops (share i p) w x
   share-is p i w x = wire-at w x i p 0 (stageShown (lookUp k x)) (omega arith)

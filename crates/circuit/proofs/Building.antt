@@ -13,7 +13,7 @@ use Rattle.circuit.specs.Lists.{nth}
 use Rattle.circuit.specs.Wires.{constant, isStop, Place, named, inner, Wire, _placed_}
 use Rattle.circuit.specs.Gadgets.{Part, r, R, B, m, M, u, U, v, V′, w, W, c, s, S, labels, gate, delay, inAND, inREF, index, gadget}
 use Rattle.circuit.specs.Kinds.{Kind, shape}
-use Rattle.circuit.specs.Circuit.{Circuit, size, empty, wireAt, place, showing, lookUp, labelOf, stageShown, isRegistered, stageOf, newStage, made, extend}
+use Rattle.circuit.specs.Circuit.{Circuit, size, empty, wireAt, place, showing, lookUp, labelShown, stageShown, isRegistered, stageOf, newStage, made, extend}
 use Rattle.circuit.proofs.Base.{cases, AllFrom, Has, all-append, all-left, all-right, all-map, all-unmap, all-of, all-any}
 use Rattle.circuit.proofs.Numbered.{get-all, all-below, all-at, at-all, all-default}
 use Rattle.circuit.proofs.Parts.{index-at, InREF, fresh, added, ref-parts}
@@ -66,8 +66,8 @@ named-made k x l t h = cases (ltb x (size k)) (ltb-true x (size k))
     absurd (let y : _≡_ {A = ℕ} 0 1 = cc in omega arith))
 
 -- and looking it up tells its label, its stage and whether it is registered
-pub label-told : (k : Circuit) (x : ℕ) {l t : ℕ} → place k x ≡ named l t → labelOf (lookUp k x) ≡ l
-label-told k x h = ap (λ p. labelOf (showing p (isStop (wireAt k x .gate)))) h
+pub label-told : (k : Circuit) (x : ℕ) {l t : ℕ} → place k x ≡ named l t → labelShown (lookUp k x) ≡ l
+label-told k x h = ap (λ p. labelShown (showing p (isStop (wireAt k x .gate)))) h
 
 pub stage-told : (k : Circuit) (x : ℕ) {l t : ℕ} → place k x ≡ named l t → stageShown (lookUp k x) ≡ t
 stage-told k x h = ap (λ p. stageShown (showing p (isStop (wireAt k x .gate)))) h

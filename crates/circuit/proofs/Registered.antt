@@ -8,10 +8,21 @@ use Rattle.circuit.specs.Wires.{isStop, named, inner, Wire}
 use Rattle.circuit.specs.Gadgets.{c, S, inAND, inREF}
 use Rattle.circuit.specs.Kinds.{Kind, HEAD, IN, CON, XOR, NOT, REG, AND, REF, OUT}
 use Rattle.circuit.specs.Circuit.{Circuit, size, newStage, made}
-use Rattle.circuit.specs.Composition.{registeredKind}
 use Rattle.circuit.proofs.Base.{AllFrom, all-any}
 use Rattle.circuit.proofs.Numbered.{at-all}
 use Rattle.circuit.proofs.Building.{gadget-all}
+
+-- document 02's list: an IN, CON or REG wire, or a REF output
+abbrev pub registeredKind : Kind → Bool
+registeredKind HEAD = false
+registeredKind IN = true
+registeredKind CON = true
+registeredKind XOR = false
+registeredKind NOT = false
+registeredKind REG = true
+registeredKind AND = false
+registeredKind REF = true
+registeredKind OUT = false
 
 -- a wire that frames may name is registered where its frame's kind says so
 abbrev pub RegisteredBy : Kind → ℕ → Wire → Type 0

@@ -1,4 +1,4 @@
--- Document 01, "Calls and their sheets": the answers' numbers, and the notes after a call.
+-- Document 01, "Calls and their sheets": the answers' numbers, and the notes after a call, with document 02's mark of registered wires.
 use mathlib.Core.Bool.{cond}
 use mathlib.Core.List.{List, [], _∷_}
 use Prim.Native.Nat.{ℕ, _+_}

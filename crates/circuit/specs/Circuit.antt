@@ -30,7 +30,7 @@ wireAt k x = getD (k .wires) x (constant false placed inner 0)
 abbrev pub place : Circuit → ℕ → Place
 place k x = wireAt k x .place
 
--- what looking a wire up tells other frames: its label, its stage and whether it is registered, or that it is hidden, being inner
+-- what looking a wire up tells other frames: its label, its stage and whether it is registered; or that it is hidden, being inner
 pub data Lookup : Type 0 where
   found : (label stage : ℕ) (registered : Bool) → Lookup
   hidden : Lookup
@@ -45,10 +45,14 @@ shownBy wire = showing (wire .place) (isStop (wire .gate))
 abbrev pub lookUp : Circuit → ℕ → Lookup
 lookUp k x = shownBy (wireAt k x)
 
--- the parts of the answer; a hidden wire tells nothing, and rule 9 is tested before this counts
-abbrev pub labelOf : Lookup → ℕ
-labelOf (found l t registered) = l
-labelOf hidden = 0
+-- the parts of the answer; a hidden wire tells nothing else, and rule 9 is tested before this counts
+abbrev pub isNamed : Lookup → Bool
+isNamed (found l t registered) = true
+isNamed hidden = false
+
+abbrev pub labelShown : Lookup → ℕ
+labelShown (found l t registered) = l
+labelShown hidden = 0
 
 abbrev pub stageShown : Lookup → ℕ
 stageShown (found l t registered) = t
@@ -58,7 +62,7 @@ abbrev pub isRegistered : Lookup → Bool
 isRegistered (found l t registered) = registered
 isRegistered hidden = false
 
--- the stage at which a wire stands
+-- the stage at which a wire stands, shown or not
 abbrev pub stageOf : Place → ℕ
 stageOf (named l t) = t
 stageOf (inner t) = t
@@ -71,7 +75,7 @@ isSet (suc n) = true
 -- what a frame with these words after its kind adds to a circuit
 module _ (k : Circuit) (ops : List ℕ) where
   abbrev label : ℕ → ℕ
-  label i = labelOf (lookUp k (nth ops i))
+  label i = labelShown (lookUp k (nth ops i))
 
   abbrev stage : ℕ → ℕ
   stage i = stageShown (lookUp k (nth ops i))

@@ -1,7 +1,7 @@
--- Document 01's composition rules said a second way: a predicate on a list of frames, with no walk over words. `Exact` proves
+-- The composition rules of documents 01 and 02 said a second way: a predicate on a list of frames, with no walk over words. `Exact` proves
 -- that the checker accepts exactly these.
 use mathlib.Core.Path.{_≡_}
-use mathlib.Core.Bool.{Bool, true, false}
+use mathlib.Core.Bool.{true}
 use mathlib.Core.List.{List, [], _∷_, _++_}
 use Prim.Native.Nat.{ℕ, suc, _+_, _≤_, _<_}
 use lib.ListN.{length}
@@ -9,7 +9,7 @@ use Rattle.circuit.specs.Limits.{wireLimit, stageLimit}
 use Rattle.circuit.specs.Lists.{nth}
 use Rattle.circuit.specs.Wires.{isStop, named}
 use Rattle.circuit.specs.Kinds.{Kind, HEAD, IN, CON, XOR, NOT, REG, AND, REF, OUT, shape}
-use Rattle.circuit.specs.Circuit.{Circuit, size, empty, wireAt, place, extend}
+use Rattle.circuit.specs.Circuit.{Circuit, size, wireAt, place, extend}
 
 -- a frame: its kind and the words after the kind
 pub record Frame : Type 0 where
@@ -23,12 +23,13 @@ frame kind ops = record { kind = kind; ops = ops }
 abbrev pub Row : Circuit → (ops : List ℕ) (from stage : ℕ) → Type 0
 Row k ops from t = (i : ℕ) → i < k .d → place k (nth ops (from + i)) ≡ named i t
 
--- d wires, likewise from a place on, that are all registered: their gates are stops
+-- d wires, likewise from a place on, that are all registered: their gates are stops. (Said of the gates, apart from what looking
+-- a wire up tells)
 abbrev pub Registered : Circuit → (ops : List ℕ) (from : ℕ) → Type 0
 Registered k ops from = (i : ℕ) → i < k .d → isStop (wireAt k (nth ops (from + i)) .gate) ≡ true
 
--- a frame that names earlier wires, none of them inner, with the labels and stages that they must have, and makes no stage
--- over the limit
+-- a frame that names earlier wires, none of them inner, with the labels and stages that they must have, and for OUT registered;
+-- it makes no stage over the limit
 pub data Fits (k : Circuit) : Kind → List ℕ → Type 0 where
   fit-IN : (t : ℕ) → t ≤ stageLimit → Fits k IN (t ∷ [])
   fit-CON : (l b t : ℕ) → l < k .d → b ≤ 1 → t ≤ stageLimit → Fits k CON (l ∷ b ∷ t ∷ [])
@@ -51,18 +52,6 @@ pub data AllFit : Circuit → List Frame → Type 0 where
 abbrev pub build : Circuit → List Frame → Circuit
 build k [] = k
 build k (f ∷ fs) = build (extend k (f .ops) (f .kind)) fs
-
--- the kinds whose wires are registered: an IN, CON or REG wire, or a REF output
-abbrev pub registeredKind : Kind → Bool
-registeredKind HEAD = false
-registeredKind IN = true
-registeredKind CON = true
-registeredKind XOR = false
-registeredKind NOT = false
-registeredKind REG = true
-registeredKind AND = false
-registeredKind REF = true
-registeredKind OUT = false
 
 -- the kind word of a kind, and the words of frames
 abbrev pub kindWord : Kind → ℕ

@@ -1,4 +1,4 @@
--- Document 01, the table of "Frames": what the kind word decides, once d is known.
+-- Document 01, the table of "Frames": what the kind word decides, once d is known. (That OUT's wires are registered is document 02's.)
 use mathlib.Core.List.{List, [], _∷_, _++_, map}
 use Prim.Native.Nat.{ℕ, _+_, _*_, _-_, _/_}
 use lib.ListN.{length, getD}

@@ -1,4 +1,4 @@
--- The definitions of document 01 that decide which tables are accepted. A reader must believe these files, in this order.
+-- The definitions of documents 01 and 02 that decide which tables are accepted. A reader must believe these files, in this order.
 pub mod Limits
 pub mod Lists
 pub mod Wires

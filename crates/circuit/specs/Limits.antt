@@ -1,4 +1,4 @@
--- Document 01's limits.
+-- Document 01's limits, and the words of the notes.
 use Prim.Native.Nat.{ℕ}
 
 -- the most words of a table; the most wires of a circuit, and the length of value and reading sheets

@@ -1,4 +1,4 @@
--- Document 01, "Where each refusal is met": rules 1 to 14, in the order of its table, and rule 22 behind 11.
+-- Document 01, "Where each refusal is met": rules 1 to 14, in the order of its table, with document 02's rule 22 behind 11.
 use mathlib.Core.Bool.{Bool, true, false, _&&_}
 use mathlib.Core.List.{List, [], _∷_}
 use Prim.Native.Nat.{ℕ, zero, suc, _+_}
@@ -7,7 +7,7 @@ use lib.ListN.{length, take, drop}
 use Rattle.circuit.specs.Limits.{tableLimit, wireLimit, notesRoom, stageLimit, fewestShares, mostShares}
 use Rattle.circuit.specs.Lists.{nth}
 use Rattle.circuit.specs.Kinds.{Kind, kindOf, WordRule, shareCount, label, value, stage, random, like, share, before, registered, shape, words}
-use Rattle.circuit.specs.Circuit.{Circuit, size, empty, Lookup, found, hidden, lookUp, labelOf, stageShown, isRegistered, newStage, extend}
+use Rattle.circuit.specs.Circuit.{Circuit, size, empty, lookUp, isNamed, labelShown, stageShown, isRegistered, newStage, extend}
 
 -- nothing is broken; or the number of the first rule broken, the frame and the word
 pub data Judgement : Type 0 where
@@ -25,10 +25,6 @@ abbrev pub _then_ : Judgement → Judgement → Judgement
 pass then j = j
 refuse rule frame word then j = refuse rule frame word
 
-abbrev pub isNamed : Lookup → Bool
-isNamed (found l t b) = true
-isNamed hidden = false
-
 -- a frame of number f on the circuit k, with these words after its kind
 module _ (k : Circuit) (f : ℕ) (ops : List ℕ) where
   -- the word x, of number w on the frame, where a wire is asked for: made, not inner, and of the right label and stage
@@ -39,7 +35,7 @@ module _ (k : Circuit) (f : ℕ) (ops : List ℕ) where
       then need stageRight 11 f w
 
   abbrev labelAt : ℕ → ℕ
-  labelAt x = labelOf (lookUp k x)
+  labelAt x = labelShown (lookUp k x)
 
   abbrev stageAt : ℕ → ℕ
   stageAt x = stageShown (lookUp k x)

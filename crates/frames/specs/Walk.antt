@@ -7,7 +7,7 @@ use lib.Dec.{leb, ltb}
 use lib.ListN.{length, take, drop}
 use Rattle.circuit.specs.Lists.{nth}
 use Rattle.circuit.specs.Kinds.{Kind, HEAD, IN, CON, XOR, NOT, REG, AND, REF, OUT, kindOf, WordRule, shareCount, label, value, stage, random, like, share, before, registered, row, shape, words}
-use Rattle.circuit.specs.Circuit.{Circuit, place, stageShown, newStage, lookUp}
+use Rattle.circuit.specs.Circuit.{Circuit, stageShown, newStage, lookUp}
 use Rattle.frames.specs.declared.kinds.Kind.{Kind as KindCode}
 use Rattle.frames.specs.declared.kinds.Kind.the-variants.{Head, In, Con, Xor, Not, Reg, And, Ref, Out}
 use Rattle.frames.specs.declared.kinds.Form.{Form}

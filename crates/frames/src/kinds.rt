@@ -25,7 +25,7 @@ pub enum Form {
     Constant,
     // two wires of one label and stage
     Sum,
-    // one wire, so many stages before the one that is made
+    // one wire, so many stages before the one that is made: 0, or 1 for a register
     Copy { after: u16 },
     // the first random, d wires a, and d wires b one stage before them
     Product,

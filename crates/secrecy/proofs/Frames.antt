@@ -1,5 +1,5 @@
 -- The frames: every probed wire, and every named wire whose label is among the share indices behind, looks the same.
-use mathlib.Core.Path.{_≡_, refl, sym, ap, subst, _∙_}
+use mathlib.Core.Path.{_≡_, refl, sym, subst, _∙_}
 use mathlib.Core.Bool.{Bool, true}
 use mathlib.Core.List.{List, [], _∷_, map, map-map}
 use Prim.Native.Nat.{ℕ, suc, _+_, _*_, _<_}
@@ -8,7 +8,7 @@ use Rattle.circuit.specs.Lists.{nth}
 use Rattle.circuit.specs.Wires.{Gate, input, constant, reg, inverse, sum, named, Wire}
 use Rattle.circuit.specs.Gadgets.{labels}
 use Rattle.circuit.specs.Kinds.{Kind, HEAD, IN, CON, XOR, NOT, REG, AND, REF, OUT}
-use Rattle.circuit.specs.Circuit.{Circuit, size, place, labelOf, stageShown, isSet, newStage, made, lookUp}
+use Rattle.circuit.specs.Circuit.{Circuit, size, place, labelShown, stageShown, isSet, newStage, made, lookUp}
 use Rattle.circuit.proofs.Base.{In, in-head, AllFrom, all-zip, all-map, all-unmap, all-every}
 use Rattle.circuit.proofs.Parts.{labels-lt}
 use Rattle.circuit.specs.Composition.{Fits, fit-IN, fit-CON, fit-XOR, fit-NOT, fit-REG, fit-AND, fit-REF, fit-OUT}
@@ -46,7 +46,7 @@ module _ (isProbed : ℕ → Bool) (behind : List ℕ) (k : Circuit) where
   inEntry ops i = entry (input (k .inputs * k .d + i)) (named i (newStage k ops IN)) (lone i)
 
   abbrev alike : List ℕ → Kind → Gate → Entry
-  alike ops kind g = let l = labelOf (lookUp k (nth ops 0)) in entry g (named l (newStage k ops kind)) (lone l)
+  alike ops kind g = let l = labelShown (lookUp k (nth ops 0)) in entry g (named l (newStage k ops kind)) (lone l)
 
   unfoldable pub entries : List ℕ → Kind → List Entry
   entries ops HEAD = []
@@ -131,11 +131,11 @@ module _ (isProbed : ℕ → Bool) (behind : List ℕ) (k : Circuit) where
     unfolding entries frameFlips
     frame-good (fit-IN t e) sh i h = inputs-good (t ∷ []) sh h
     frame-good (fit-CON l b t o e f) sh i h = single (constant (isSet b)) l (newStage k (l ∷ b ∷ t ∷ []) CON) (λ q. carry (h .0) refl refl tt)
-    frame-good (fit-XOR x y l t p q) sh i h = single (sum (x ∷ y ∷ [])) (labelOf (lookUp k x)) (newStage k (x ∷ y ∷ []) XOR)
+    frame-good (fit-XOR x y l t p q) sh i h = single (sum (x ∷ y ∷ [])) (labelShown (lookUp k x)) (newStage k (x ∷ y ∷ []) XOR)
         (λ z. let e : In l (before (x ∷ y ∷ []) XOR) = subst (λ (j : ℕ). In j (before (x ∷ y ∷ []) XOR)) (label-told k x p) z in carry (h .0) refl refl (i x l t p e, (i y l t q e, tt)))
-    frame-good (fit-NOT x l t p) sh i h = single (inverse x) (labelOf (lookUp k x)) (newStage k (x ∷ []) NOT)
+    frame-good (fit-NOT x l t p) sh i h = single (inverse x) (labelShown (lookUp k x)) (newStage k (x ∷ []) NOT)
         (λ z. carry (h .0) refl refl (i x l t p (subst (λ (j : ℕ). In j (before (x ∷ []) NOT)) (label-told k x p) z), tt))
-    frame-good (fit-REG x l t p e) sh i h = single (reg x) (labelOf (lookUp k x)) (newStage k (x ∷ []) REG)
+    frame-good (fit-REG x l t p e) sh i h = single (reg x) (labelShown (lookUp k x)) (newStage k (x ∷ []) REG)
         (λ z. carry (h .0) refl refl (i x l t p (subst (λ (j : ℕ). In j (before (x ∷ []) REG)) (label-told k x p) z), tt))
     frame-good (fit-AND ops t n z p q s) sh i h =
         let e = ins-eq (andSite ops) in

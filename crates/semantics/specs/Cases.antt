@@ -1,4 +1,4 @@
--- Document 01, "Circuits to hold against it": the cases marked *, as one table.
+-- Document 01, "Circuits to hold against it": the cases marked *, as document 02 changes them, and cases of rule 22, as one table.
 use mathlib.Core.Path.{_≡_}
 use mathlib.Core.List.{List, [], _∷_, _++_}
 use Prim.Native.Nat.{ℕ}
@@ -60,9 +60,9 @@ cases = evaluates A sharesA tapeA ((1 ∷ 0 ∷ 1 ∷ 1 ∷ []) ++ (1 ∷ 1 ∷ 
     ∷ judged (circuitA 1 0 productA (0x17 ∷ 0x1B ∷ [])) (refused 9 6 1)  -- A7
     ∷ judged (circuitA 1 0 productA (0x1C ∷ 0x1B ∷ [])) (refused 8 6 1)
     ∷ judged (circuitA 1 0 productA (0x18 ∷ 0x19 ∷ [])) (refused 22 6 1)  -- an AND's outputs
-    ∷ judged (circuitA 1 0 productA (0x16 ∷ 0x19 ∷ [])) (refused 9 6 1)
-    ∷ judged (circuitA 1 0 productA (0x19 ∷ 0x18 ∷ [])) (refused 10 6 1)
-    ∷ judged (circuitA 1 0 productA (0x1A ∷ 0x19 ∷ [])) (refused 11 6 2)
+    ∷ judged (circuitA 1 0 productA (0x16 ∷ 0x19 ∷ [])) (refused 9 6 1)  -- before 22: w(1,0) is no register
+    ∷ judged (circuitA 1 0 productA (0x19 ∷ 0x18 ∷ [])) (refused 10 6 1)  -- before 22
+    ∷ judged (circuitA 1 0 productA (0x1A ∷ 0x19 ∷ [])) (refused 11 6 2)  -- before 22
     ∷ judged (circuitA 1 0 (1 ∷ 0 ∷ 1 ∷ 2 ∷ 3 ∷ []) heldA) (refused 12 3 1)  -- A8
     ∷ judged (0 ∷ 2 ∷ []) (accepted 0 0 0)  -- B
     ∷ judged (0 ∷ 1 ∷ []) (refused 4 0 1)

@@ -12,8 +12,8 @@ use Rattle.circuit.specs.Limits.{tableLimit, notesRoom, stageLimit, wireLimit}
 use Rattle.circuit.specs.Lists.{nth, concatMap}
 use Rattle.circuit.specs.Gadgets.{labels}
 use Rattle.circuit.specs.Kinds.{Kind, HEAD, IN, CON, XOR, NOT, REG, AND, REF, OUT, kindOf, WordRule, shareCount, label, value, stage, random, like, share, before, registered, row, shape, words}
-use Rattle.circuit.specs.Circuit.{Circuit, size, empty, labelOf, stageShown, isRegistered, newStage, extend, lookUp}
-use Rattle.circuit.specs.Rules.{Judgement, pass, refuse, need, _then_, isNamed, wireRule, wordRule, wordsRule, frameRule, Checked, onward, frames, headRule, checked}
+use Rattle.circuit.specs.Circuit.{Circuit, size, empty, labelShown, stageShown, isRegistered, newStage, extend, lookUp, isNamed}
+use Rattle.circuit.specs.Rules.{Judgement, pass, refuse, need, _then_, wireRule, wordRule, wordsRule, frameRule, Checked, onward, frames, headRule, checked}
 use Rattle.circuit.specs.Composition.{kindWord}
 use Rattle.circuit.proofs.Base.{Every, every-map, every-append}
 use Rattle.circuit.proofs.Fitting.{known}
@@ -68,7 +68,7 @@ no-share-count d OUT h = row-not registered 0 d (λ i. tt)
 module _ (k : Circuit) (f : ℕ) (ops : List ℕ) where
   -- the label and the stage that a wire shows
   abbrev l : ℕ → ℕ
-  l x = labelOf (lookUp k x)
+  l x = labelShown (lookUp k x)
 
   abbrev t : ℕ → ℕ
   t x = stageShown (lookUp k x)

@@ -1,6 +1,5 @@
 -- By what the look-up finds; a named wire is like itself.
 use mathlib.Core.Path.{_≡_, refl, sym, _∙_}
-use native.Mathlib.Omega.{arith}
 use borrow.Author.Needs.{needs}
 use Rattle.checker.specs.declared.notes.Found.the-variants.{Named}
 use Rattle.checker.specs.Internal.Notes.{noted}

@@ -1,6 +1,5 @@
 -- By what the look-up of the first wire finds; a named one is like itself, and the second has to be like it.
 use mathlib.Core.Path.{_≡_, refl, sym, _∙_}
-use native.Mathlib.Omega.{arith}
 use borrow.Author.Needs.{needs}
 use Rattle.checker.specs.declared.notes.Found.the-variants.{Named}
 use Rattle.checker.specs.Internal.Notes.{noted}
