@@ -159,6 +159,10 @@ pub every-append : {A : Type 0} (Q : A → Type 0) (xs ys : List A) → Every Q 
 every-append Q [] ys h k = k
 every-append Q (x ∷ xs) ys h k = (h .0, every-append Q xs ys (h .1) k)
 
+pub every-split : {A : Type 0} (Q : A → Type 0) (xs ys : List A) → Every Q (xs ++ ys) → Every Q xs × Every Q ys
+every-split Q [] ys h = (tt, h)
+every-split Q (x ∷ xs) ys h = let (p, q) = every-split Q xs ys (h .1) in ((h .0, p), q)
+
 pub every-map : {A : Type 0} (Q : A → Type 0) (f : ℕ → A) (xs : List ℕ) → ((i : ℕ) → In i xs → Q (f i)) → Every Q (map f xs)
 every-map Q f [] g = tt
 every-map Q f (x ∷ xs) g = (g x (in-head x xs), every-map Q f xs (λ i h. g i (in-tail i x xs h)))

@@ -14,3 +14,5 @@ pub mod Registered
 pub mod Judging
 pub mod Fitting
 pub mod Exact
+-- What an answer tells of the judgement behind it
+pub mod Answers

@@ -12,9 +12,10 @@ use Rattle.circuit.specs.Limits.{wireLimit}
 use Rattle.circuit.specs.Lists.{nth, mem, overwrite}
 use Rattle.circuit.specs.Circuit.{Circuit, size, empty}
 use Rattle.circuit.specs.Rules.{Judgement, pass, refuse, need, _then_, checked}
-use Rattle.circuit.specs.Answer.{accepted, refused, answer}
+use Rattle.circuit.specs.Answer.{refused, answer}
 use Rattle.circuit.proofs.Base.{cases, or-cases, In}
 use Rattle.circuit.proofs.Judging.{then-pass, need-then}
+use Rattle.circuit.proofs.Answers.{answer-pass, answer-refused}
 use Rattle.circuit.proofs.Building.{build-shares}
 use Rattle.circuit.proofs.Exact.{sound, accepted-size}
 use Rattle.semantics.specs.Calls.{written, bytesRule, probesRule, sheetsRule, circuitOf, callRule}
@@ -29,22 +30,13 @@ use Rattle.simulation.specs.Internal.Evaluating.{Supplied}
 use Rattle.evaluation.specs.Internal.Refusing.{refusal}
 use Rattle.evaluation.specs.Internal.Calling.{Shortest, Judged}
 
--- answers and judgements
-clash : {w n l a b c : ℕ} → accepted w n l ≡ refused a b c → ⊥
-clash h = let z : _≡_ {A = ℕ} 0 1 = cc in omega arith
+-- a refusal is that of the rules behind it too, and leaves a buffer as found
+module _ (k : Circuit) (j : Judgement) {a b c : ℕ} (h : refused a b c ≡ answer k j) where
+  answer-refuse : (rest : Judgement) → refused a b c ≡ answer k (j then rest)
+  answer-refuse rest = rw (answer-refused k j h)
 
-module _ (k : Circuit) where
-  pub answer-pass : (j : Judgement) {w n l : ℕ} → accepted w n l ≡ answer k j → (j ≡ pass) × (w ≡ size k) × (n ≡ k .randoms)
-  answer-pass pass h = (refl, cc, cc)
-  answer-pass (refuse a b c) h = absurd (clash h)
-
-  answer-refuse : (j rest : Judgement) {a b c : ℕ} → refused a b c ≡ answer k j → refused a b c ≡ answer k (j then rest)
-  answer-refuse pass rest h = absurd (clash (sym h))
-  answer-refuse (refuse a b c) rest h = h
-
-  untouched : (j : Judgement) {a b c : ℕ} (new old : List ℕ) → refused a b c ≡ answer k j → old ≡ written j new old
-  untouched pass new old h = absurd (clash (sym h))
-  untouched (refuse a b c) new old h = refl
+  untouched : (new old : List ℕ) → old ≡ written j new old
+  untouched new old = rw (answer-refused k j h)
 
 -- what is left of a judgement once a rule is kept, and its end where it is broken
 pub kept : {j : Judgement} (b : Bool) (rule : ℕ) (rest : Judgement) → j ≡ (need b rule 0 0 then rest) → b ≡ true → j ≡ rest
@@ -131,7 +123,7 @@ module _ (table notes shares tape : List ℕ) (sheets : List (List ℕ)) (probes
   -- the checker's refusal is the call's; where it accepts, rules 15 to 19 are left
   pub refused-first : {a b c : ℕ} → refused a b c ≡ answer k (checked table (length notes) .judgement) → refused a b c ≡ answer k rule
   unfolding callRule
-  refused-first h = answer-refuse k (checked table (length notes) .judgement) _ h
+  refused-first h = answer-refuse k (checked table (length notes) .judgement) h _
 
   pub rules-left : (room : ℕ) → Shortest room sheets → checked table (length notes) .judgement ≡ pass
       → rule ≡ (need (eqb (length shares) (k .inputs * k .d)) 15 0 0 then need (eqb (length tape) (k .randoms)) 16 0 0 then need (leb wireLimit room) 17 0 0
@@ -185,4 +177,4 @@ module _ {table notes shares tape probes new : List ℕ} {room : ℕ} {r : Verdi
       passed-by table notes shares tape sheets probes room _ shortest p wires
 
   pub left : {a b c : ℕ} → r ≡ verdict.Refused a b c → (bytes old : List ℕ) → old ≡ written (callRule table notes shares tape sheets probes) bytes old
-  left e bytes old = untouched (circuitOf table notes) (callRule table notes shares tape sheets probes) bytes old (sym (ap answerOf e) ∙ j .answers sheets shortest)
+  left e bytes old = untouched (circuitOf table notes) (callRule table notes shares tape sheets probes) (sym (ap answerOf e) ∙ j .answers sheets shortest) bytes old

@@ -1,8 +1,8 @@
 -- Numbers told of one answer are told of an equal one.
-use mathlib.Core.Path.{_≡_, refl, subst}
+use mathlib.Core.Path.{_≡_, subst}
 use Prim.Native.Nat.{ℕ}
 use Rattle.circuit.specs.Answer.{Answer}
-use Rattle.text.specs.Answer.{TextAnswer, accepted, refused}
+use Rattle.text.specs.Answer.{TextAnswer}
 use Rattle.exports.specs.Numbers.{AnswerIs, TextAnswerIs}
 
 pub moved : {x y : Answer} {r a b c : ℕ} → x ≡ y → AnswerIs x r a b c → AnswerIs y r a b c
@@ -10,9 +10,3 @@ moved {r = r} {a = a} {b = b} {c = c} e t = subst (λ x. AnswerIs x r a b c) e t
 
 pub text-moved : {x y : TextAnswer} {r a b : ℕ} → x ≡ y → TextAnswerIs x r a b → TextAnswerIs y r a b
 text-moved {r = r} {a = a} {b = b} e t = subst (λ x. TextAnswerIs x r a b) e t
-
-pub accepted-told : (count : ℕ) → TextAnswerIs (accepted count) 0 count 0
-accepted-told count = record { result-is = refl; first-is = refl; second-is = refl }
-
-pub refused-told : (rule line word : ℕ) → TextAnswerIs (refused rule line word) rule line word
-refused-told rule line word = record { result-is = refl; first-is = refl; second-is = refl }

@@ -1,6 +1,6 @@
 // The calls under C names, for programs in other languages. A slice passes as a pointer and a length. The result is 0 where
-// accepted, and the numbers are wires, random bits and latency (of a text: words, and 0); else it is the number of the first
-// rule broken, and the numbers are frame, word and 0 (of a text: line and word).
+// accepted, and the numbers are wires, random bits and latency (of a text: words read or bytes written, and 0); else it is the
+// number of the first rule broken, and the numbers are frame, word and 0 (of a text that is read: line and word).
 ghost use mathlib.Core.Path.{_≡_};
 ghost use mathlib.Core.List.{[], _∷_};
 ghost use lib.ListN.{length};
@@ -8,7 +8,8 @@ ghost use Rattle.circuit.specs.Rules.{checked};
 ghost use Rattle.circuit.specs.Answer.{verdictOf, notesAfter};
 ghost use Rattle.semantics.specs.Calls.{written, callRule, callAnswer, callNotes, valueBytes, readingBytes};
 ghost use Rattle.text.specs.Reader.{readText};
-ghost use Rattle.text.specs.Answer.{textAnswerOf, tableAfter};
+ghost use Rattle.text.specs.Answer.{textAnswer, textAnswerOf, tableAfter};
+ghost use Rattle.writer.specs.Writer.{writeAnswer, textAfter};
 ghost use Rattle.checker.specs.Answers.{answerOf};
 ghost use Rattle.exports.specs.Numbers.{AnswerIs, TextAnswerIs};
 use checker::Verdict;
@@ -39,6 +40,24 @@ fn put(verdict: Verdict, a: &mut u64, b: &mut u64, c: &mut u64) -> u64
     }
 }
 
+// The same for a call on text.
+fn put_text(verdict: TextVerdict, a: &mut u64, b: &mut u64) -> u64
+    ensures answered { λ r. ⌜ TextAnswerIs (textAnswer verdict) r (now (a .exit)) (now (b .exit)) ⌝ }
+{
+    match verdict {
+        TextVerdict::Accepted { count } => {
+            *a = count as u64;
+            *b = 0;
+            0
+        }
+        TextVerdict::Refused { rule, line, word } => {
+            *a = line as u64;
+            *b = word as u64;
+            rule as u64
+        }
+    }
+}
+
 // checker::check
 #[no_mangle]
 pub extern "C" fn masked_check(
@@ -62,18 +81,27 @@ pub extern "C" fn masked_read_text(text: &[u8], table: &mut [u16], a: &mut u64, 
     ensures stored { λ _. ⌜ now (table .exit) ≡ tableAfter (readText (now (text .entry)) (length (now (table .entry)))) (now (table .entry)) ⌝ }
 {
     let verdict = text::read(text, table);
-    match verdict {
-        TextVerdict::Accepted { words } => {
-            *a = words as u64;
-            *b = 0;
-            0
-        }
-        TextVerdict::Refused { rule, line, word } => {
-            *a = line as u64;
-            *b = word as u64;
-            rule as u64
-        }
-    }
+    put_text(verdict, a, b)
+}
+
+// writer::write
+#[no_mangle]
+pub extern "C" fn masked_write_text(
+    table: &[u16],
+    notes: &mut [u16],
+    text: &mut [u8],
+    a: &mut u64,
+    b: &mut u64,
+    c: &mut u64,
+) -> u64
+    ensures answered { λ r. ⌜ TextAnswerIs (writeAnswer (now (table .entry)) (now (notes .entry)) (now (text .entry))) r (now (a .exit)) (now (b .exit)) ⌝ }
+    ensures third { λ _. ⌜ now (c .exit) ≡ 0 ⌝ }
+    ensures noted { λ _. ⌜ now (notes .exit) ≡ notesAfter (checked (now (table .entry)) (length (now (notes .entry))) .circuit) (now (notes .entry)) ⌝ }
+    ensures written { λ _. ⌜ now (text .exit) ≡ textAfter (now (table .entry)) (now (notes .entry)) (now (text .entry)) ⌝ }
+{
+    let verdict = writer::write(table, notes, text);
+    *c = 0;
+    put_text(verdict, a, b)
 }
 
 // evaluation::evaluate

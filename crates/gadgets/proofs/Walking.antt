@@ -83,6 +83,7 @@ pub record Met {table : List ℕ} (a : AcceptedTable table) {at : ℕ} (b : Betw
   pub supplied : (used shares tape : ℕ) → from + d * sh .inputs ≤ shares → used + sh .randoms ≤ tape → FrameSupplied fr d from used shares tape
   pub gates : FrameGates fr d w from (operandsAt table d at) (gateAt (whole a .wires))
   pub same : wk .d ≡ d
+  pub place : wk .at ≡ at + 1 + words d (kindOf (nth table at))
   pub later : at + 2 ≤ wk .at
   pub onward : Between table (a .fs) (wk .at)
   pub longer : length (onward .before) ≡ suc (length (b .before))
@@ -192,6 +193,7 @@ module _ {table : List ℕ} (a : AcceptedTable table) {at : ℕ} (b : Between ta
           supplied = λ used shares tape. frame-supplied (a .d) (k .inputs * a .d) used shares tape (f .ops) kind;
           gates = rw (ops-are, wires-are) (at-d (λ n. FrameGates (frameCode (kindCode kind) (f .ops)) n (size k) (k .inputs * n) (f .ops) (gateAt ((k .wires ++ made k (f .ops) kind) ++ more))) (frame-gates k (f .ops) more kind));
           same = refl;
+          place = rw (word-is, kind-known kind);
           later = omega (arith, fit-wide fits, meets .2);
           onward = onward;
           longer = length-append (b .before) (f ∷ []) ∙ omega arith;

@@ -17,7 +17,7 @@ fn judge(text: &[u8], table: &mut [u16], notes: &mut [u16]) -> Verdict
 {
     let read = text::read(text, table);
     match read {
-        TextVerdict::Accepted { words } => checker::check(&table[..words], notes),
+        TextVerdict::Accepted { count: words } => checker::check(&table[..words], notes),
         TextVerdict::Refused { rule, line, word } => Verdict::Refused {
             rule,
             frame: line,

@@ -1,4 +1,5 @@
--- The reader's answer: accepted with the number of words, or refused with the rule's number, the line and the word.
+-- The answers of calls on text: accepted with a number, of words read or of bytes written, or refused with the rule's number, the line
+-- (of a table: the frame) and the word; and the reader's answer.
 use mathlib.Core.List.{List}
 use Prim.Native.Nat.{ℕ}
 use lib.ListN.{length}
@@ -17,6 +18,7 @@ abbrev pub textAnswer : TextVerdict → TextAnswer
 textAnswer (Accepted count) = accepted count
 textAnswer (Refused rule line word) = refused rule line word
 
+-- the answer to a judgement, by the words found or the bytes written
 abbrev pub answer : List ℕ → Judgement → TextAnswer
 answer found pass = accepted (length found)
 answer found (refuse rule line word) = refused rule line word

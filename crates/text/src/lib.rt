@@ -14,11 +14,11 @@ mod rules;
 
 use line::BLOCK;
 
-// The reader's answer: accepted with the number of words written, or refused with the number of the first rule broken,
-// the line and the word.
+// The answer of a call on text: accepted with a number, of words read or of bytes written, or refused with the number of the
+// first rule broken, the line (of a table: the frame) and the word.
 pub enum TextVerdict {
     Accepted {
-        words: usize,
+        count: usize,
     },
     Refused {
         rule: usize,
@@ -94,5 +94,5 @@ fn read_frames(
         line += taken;
         stored += count;
     }
-    TextVerdict::Accepted { words: stored }
+    TextVerdict::Accepted { count: stored }
 }

@@ -12,6 +12,7 @@ use Rattle.circuit.specs.Lists.{nth}
 use Rattle.circuit.specs.Circuit.{Circuit, size}
 use Rattle.circuit.specs.Rules.{Judgement, pass, need, _then_, checked}
 use Rattle.circuit.specs.Answer.{answer}
+use Rattle.circuit.proofs.Answers.{answer-pass}
 use Rattle.semantics.specs.Calls.{bytesRule, probesRule, circuitOf, callRule}
 use Rattle.checker.specs.declared.Verdict.{Verdict}
 use Rattle.checker.specs.Answers.{answerOf, inputsAre}
@@ -20,7 +21,7 @@ use Rattle.evaluation.specs.Internal.Calling.{Shortest, Judged}
 use Rattle.evaluation.specs.Internal.Refusing.{refusal}
 use Rattle.evaluation.proofs.judge.Statement.{statement}
 use Rattle.evaluation.proofs.judge.Tie as tie
-use Rattle.evaluation.proofs.Answering.{answer-pass, then-none, Taken, taken, refused-first, rules-left, kept, broken, none-found, first-found}
+use Rattle.evaluation.proofs.Answering.{then-none, Taken, taken, refused-first, rules-left, kept, broken, none-found, first-found}
 
 -- behind the check: the table's circuit, and a judgement that the call comes to
 abbrev start : tie.After-check → tie.Start

@@ -1,0 +1,77 @@
+-- A word's digits: what the table of pairs gives for them, and that words and their digits tell each other.
+use mathlib.Core.Path.{_≡_, refl}
+use mathlib.Core.Bool.{true, _&&_}
+use mathlib.Core.List.{List, [], _∷_}
+use Prim.Native.Nat.{ℕ, _+_, _*_, _-_, _/_, _%_, _<_}
+use native.Mathlib.Omega.{arith}
+use lib.Dec.{leb}
+use borrow.Author.Tests.{leb-true, leb-false, le-leb, lt-leb}
+use Rattle.circuit.proofs.Base.{cases, and-left, and-right}
+use Rattle.text.specs.Lines.{isDecimal, isLetter, isDigit, digit, areDigits, word}
+use Rattle.writer.specs.Writer.{digitByte, digitsOf}
+use Rattle.writer.specs.Internal.Line.{pairOf}
+
+pub digit-small : (n : ℕ) → n < 16 → digitByte n < 128
+digit-small n h = cases (leb n 9) (λ e. rw e (omega arith)) (λ e. rw e (omega arith))
+
+-- the two digits of a byte
+module _ (n : ℕ) (h : n < 256) where
+  pub pair-first : pairOf n % 256 ≡ digitByte (n / 16)
+  pair-first = omega (arith, digit-small (n / 16) (omega arith), digit-small (n % 16) (omega arith))
+
+  pub pair-second : pairOf n / 256 ≡ digitByte (n % 16)
+  pair-second = omega (arith, digit-small (n / 16) (omega arith), digit-small (n % 16) (omega arith))
+
+-- the four digits of a word, by its two bytes
+pub word-pairs : (x : ℕ) → x < 65536
+    → digitsOf x ≡ pairOf (x / 256) % 256 ∷ pairOf (x / 256) / 256 ∷ pairOf (x % 256) % 256 ∷ pairOf (x % 256) / 256 ∷ []
+word-pairs x h =
+    let a : x / 256 / 16 ≡ x / 4096 = omega arith in
+    let b : x % 256 / 16 ≡ x / 16 % 16 = omega arith in
+    let c : x % 256 % 16 ≡ x % 16 = omega arith in
+    rw (pair-first (x / 256) (omega arith), pair-second (x / 256) (omega arith), pair-first (x % 256) (omega arith), pair-second (x % 256) (omega arith), a, b, c)
+
+-- a digit's byte is read as the digit
+byte-told : (n : ℕ) → n < 16 → (isDigit (digitByte n) ≡ true) × (digit (digitByte n) ≡ n)
+byte-told n h = cases (leb n 9)
+    (λ e. let l = leb-true n 9 e in
+    rw (e, le-leb 48 (48 + n) (omega arith), le-leb (48 + n) 57 (omega arith)) (refl, omega arith))
+    (λ e. let l = leb-false n 9 e in
+    rw (e, le-leb 48 (55 + n) (omega arith), lt-leb (55 + n) 57 (omega arith), le-leb 65 (55 + n) (omega arith), le-leb (55 + n) 70 (omega arith)) (refl, omega arith))
+
+-- and a byte that is a digit is that of the digit read
+digit-told : (b : ℕ) → isDigit b ≡ true → (digitByte (digit b) ≡ b) × (digit b < 16)
+digit-told b h = cases (isDecimal b)
+    (λ e. let l = leb-true 48 b (and-left (leb 48 b) (leb b 57) e) in
+    let m = leb-true b 57 (and-right (leb 48 b) (leb b 57) e) in
+    rw (e, le-leb (b - 48) 9 (omega arith)) (omega arith, omega arith))
+    (λ e. let k : isLetter b ≡ true = rw e at h in
+    let l = leb-true 65 b (and-left (leb 65 b) (leb b 70) k) in
+    let m = leb-true b 70 (and-right (leb 65 b) (leb b 70) k) in
+    rw (e, lt-leb (b - 55) 9 (omega arith)) (omega arith, omega arith))
+
+-- a word is read from its digits
+pub word-told : (x : ℕ) → x < 65536 → let a = digitByte (x / 4096) in let b = digitByte (x / 256 % 16) in let c = digitByte (x / 16 % 16) in let e = digitByte (x % 16) in
+    (areDigits a b c e ≡ true) × (word a b c e ≡ x)
+word-told x h =
+    let p = byte-told (x / 4096) (omega arith) in
+    let q = byte-told (x / 256 % 16) (omega arith) in
+    let r = byte-told (x / 16 % 16) (omega arith) in
+    let s = byte-told (x % 16) (omega arith) in
+    (rw (p .0, q .0, r .0, s .0), rw (p .1, q .1, r .1, s .1) (omega arith))
+
+-- and four digits are those of the word that is read from them
+pub digits-told : (a b c e : ℕ) → areDigits a b c e ≡ true → digitsOf (word a b c e) ≡ a ∷ b ∷ c ∷ e ∷ []
+digits-told a b c e h =
+    let k = and-left (isDigit a && isDigit b && isDigit c) (isDigit e) h in
+    let l = and-left (isDigit a && isDigit b) (isDigit c) k in
+    let p = digit-told a (and-left (isDigit a) (isDigit b) l) in
+    let q = digit-told b (and-right (isDigit a) (isDigit b) l) in
+    let r = digit-told c (and-right (isDigit a && isDigit b) (isDigit c) k) in
+    let s = digit-told e (and-right (isDigit a && isDigit b && isDigit c) (isDigit e) h) in
+    let x = word a b c e in
+    let t : x / 4096 ≡ digit a = omega arith in
+    let u : x / 256 % 16 ≡ digit b = omega arith in
+    let v : x / 16 % 16 ≡ digit c = omega arith in
+    let z : x % 16 ≡ digit e = omega arith in
+    rw (t, u, v, z, p .0, q .0, r .0, s .0)

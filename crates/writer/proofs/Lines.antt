@@ -1,0 +1,64 @@
+-- A frame's line: written word by word, and the lines of a table frame by frame.
+use mathlib.Core.Path.{_≡_, refl, _∙_}
+use mathlib.Core.List.{List, [], _∷_, _++_}
+use Prim.Native.Nat.{ℕ, zero, suc, _+_, _*_, _-_, _≤_, _<_}
+use native.Mathlib.Numerals.{add-one}
+use native.Mathlib.Omega.{arith}
+use lib.ListN.{length, getD}
+use lib.Seq.{sets, slice, slice-cons, slice-empty, length-slice}
+use Rattle.circuit.specs.Lists.{nth}
+use Rattle.circuit.specs.Kinds.{kindOf, shape, words}
+use Rattle.writer.specs.Writer.{digitsOf, markBefore, linesFrom, textOf}
+use Rattle.writer.specs.Internal.Line.{lineOf}
+
+-- five bytes a word
+pub line-length : (ws : List ℕ) → length (lineOf ws) ≡ 5 * length ws
+unfolding lineOf
+line-length [] = refl
+line-length (x ∷ ws) = omega (arith, line-length ws)
+
+pub lines-length : (d left : ℕ) (xs : List ℕ) → length (linesFrom d left xs) ≡ 5 * length xs
+unfolding linesFrom
+lines-length d left [] = refl
+lines-length d zero (x ∷ xs) = omega (arith, lines-length d (words d (kindOf x)) xs)
+lines-length d (suc n) (x ∷ xs) = omega (arith, lines-length d n xs)
+
+-- a word of a line is written: what is left of it
+pub line-turn : (text table : List ℕ) (i to : ℕ) → i < to → to ≤ length table → {new : List ℕ}
+    → new ≡ sets text (5 * i) (digitsOf (getD table i 0) ++ markBefore (to - i - 1) ∷ [])
+    → sets text (5 * i) (lineOf (slice i to table)) ≡ sets new (5 * (i + 1)) (lineOf (slice (i + 1) to table))
+unfolding lineOf
+line-turn text table i to h l w =
+    let e : slice i to table ≡ getD table i 0 ∷ slice (i + 1) to table = rw add-one (slice-cons i to table 0 h l) in
+    let n : length (slice (i + 1) to table) ≡ to - i - 1 = length-slice (i + 1) to table l ∙ omega arith in
+    let p : 5 * (i + 1) ≡ suc (suc (suc (suc (suc (5 * i))))) = omega arith in
+    rw (e, n, p, w)
+
+pub line-end : (text table : List ℕ) (i to : ℕ) → i ≤ to → to ≤ i → sets text (5 * i) (lineOf (slice i to table)) ≡ text
+unfolding lineOf
+line-end text table i to h l = let e : i ≡ to = omega arith in rw (e, slice-empty to table)
+
+-- words of a frame that has begun, and the frames behind them
+rest-lines : (d n : ℕ) (xs : List ℕ) (ys : List ℕ) → length xs ≡ n → linesFrom d n (xs ++ ys) ≡ lineOf xs ++ linesFrom d 0 ys
+unfolding linesFrom lineOf
+rest-lines d zero [] ys h = refl
+rest-lines d (suc n) [] ys h = absurd (omega arith)
+rest-lines d zero (x ∷ xs) ys h = absurd (omega arith)
+rest-lines d (suc n) (x ∷ xs) ys h = let e : length xs ≡ n = omega arith in rw (e, rest-lines d n xs ys e)
+
+-- the words of a frame after HEAD, d being known: a kind from 1 to 8, and the kind's number of words
+pub record FrameWords (d : ℕ) (ws : List ℕ) : Type 0 where
+  pub least : 1 ≤ nth ws 0
+  pub most : nth ws 0 ≤ 8
+  pub count : length ws ≡ suc (words d (kindOf (nth ws 0)))
+
+-- the line of a frame, and the lines of those behind it
+pub line-first : (d : ℕ) (ws more : List ℕ) → length ws ≡ suc (words d (kindOf (nth ws 0))) → linesFrom d 0 (ws ++ more) ≡ lineOf ws ++ linesFrom d 0 more
+unfolding linesFrom lineOf
+line-first d [] more h = absurd (omega arith)
+line-first d (x ∷ ws) more h = let e : length ws ≡ words d (kindOf x) = omega arith in rw (e, rest-lines d (words d (kindOf x)) ws more e)
+
+-- HEAD's line, and the lines behind it
+pub head-first : (d : ℕ) (more : List ℕ) → textOf (0 ∷ d ∷ more) ≡ lineOf (0 ∷ d ∷ []) ++ linesFrom d 0 more
+unfolding textOf kindOf shape
+head-first d more = line-first d (0 ∷ d ∷ []) more refl

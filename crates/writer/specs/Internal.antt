@@ -1,0 +1,2 @@
+-- A line, and the digits of a byte
+pub mod Line
