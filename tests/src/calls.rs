@@ -1,6 +1,9 @@
 //! The open calls, so that one test can run any program behind them.
 
-/// What a call gives back: 0 and the counts, or the rule and its spot.
+/// The calls by their names, in the order of the trait.
+pub const NAMES: [&str; 5] = ["check", "evaluate", "read_probes", "read_text", "write_text"];
+
+/// What a call gives back: 0 and its numbers, or the rule and its spot.
 #[derive(Clone, Copy, Debug, PartialEq, Eq)]
 pub struct Answer {
     pub result: u64,
