@@ -38,6 +38,7 @@ MEANINGS = {
     20: "a line is words of four digits 0-9A-F, one space between, and a line feed behind the last",
     21: "the words of all lines fit a table of 8,192 words",
     22: "every wire that an OUT names is registered: made by an IN, a CON or a REG, or an output of a REF",
+    23: "the buffer for the text has at least five bytes for each word of the table",
 }
 
 
