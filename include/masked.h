@@ -118,7 +118,8 @@ uint64_t masked_read_text(const uint8_t *text, size_t text_len, uint16_t *table,
  * reads this text as that very table, and no other text as it. Rules 1 to 14 and 22 as masked_check, then 23.
  *
  * notes   as masked_check leaves them; rule 23 leaves them as accepted
- * text    at least five bytes for each word of the table: four digits 0-9A-F and a space, or a line feed behind a frame's last word.
+ * text    at least five bytes for each word of the table, MASKED_TEXT_BYTES for any: four digits 0-9A-F and a space, or a line feed
+ *         where the frame ends.
  *         accepted:        the first *a bytes are the lines; the rest is as it was: no byte 0 is put behind them
  *         any refusal:     as it was */
 uint64_t masked_write_text(const uint16_t *table, size_t table_len, uint16_t *notes, size_t notes_len,

@@ -54,6 +54,8 @@ def hint(data: bytes, order: str, facts: dict[str, int | str]) -> list[str]:
     first = words_of(data[:4], other)
     if data[:5] == b"0000 ":
         return ["  hint: the file looks like a text already; ./judge judges it"]
+    if len(data) % 2:
+        return []
     if len(first) == 2 and first[0] == HEAD and 2 <= first[1] <= 8:
         return [f"  hint: with the bytes of each word in the other order it begins {first[0]:04X} {first[1]:04X}: "
                 f"try it {given} --big-endian"]

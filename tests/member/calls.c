@@ -76,7 +76,8 @@ static void empty_slices(void)
     answer("read_text, no text", masked_read_text(NULL, 0, table, MASKED_MOST_WORDS, &a, &b), MASKED_NO_HEAD, 0, 0, 0);
     answer("read_text, no table", masked_read_text((const uint8_t *)"0000 0002\n", 10, NULL, 0, &a, &b), MASKED_NO_ROOM, 0, 0, 0);
     answer("write_text, all null", masked_write_text(NULL, 0, NULL, 0, NULL, 0, &a, &b, &c), MASKED_NOTES_TOO_SHORT, 0, 0, 0);
-    answer("write_text, no table", masked_write_text(NULL, 0, notes, MASKED_NOTES_WORDS, NULL, 0, &a, &b, &c), MASKED_NO_HEAD, 0, 0, 0);
+    answer("write_text, no table", masked_write_text(NULL, 0, notes, MASKED_NOTES_WORDS, NULL, 0, &a, &b, &c),
+           MASKED_NO_HEAD, 0, 0, 0);
     answer("write_text, no text", masked_write_text(table, words, notes, MASKED_NOTES_WORDS, NULL, 0, &a, &b, &c),
            MASKED_TEXT_TOO_SHORT, 0, 0, 0);
 }
@@ -123,6 +124,12 @@ static void buffers(void)
     is("the words of the lines before", table[0] == 0 && table[1] == 2 && kept(table, 4, sizeof table));
 }
 
+/* The notes of circuit A, as an accepted check leaves them. */
+static int noted(void)
+{
+    return notes[52] == MASKED_REGISTERED && notes[53] == 3 && kept(notes, 2 * 2 * 28, sizeof notes);
+}
+
 /* Room for a text: exact, more, and a byte short; and a table that is refused. */
 static void texts(void)
 {
@@ -133,13 +140,12 @@ static void texts(void)
         answer("a text is written", masked_write_text(table, words, notes, MASKED_NOTES_WORDS, text, rooms[i], &a, &b, &c),
                MASKED_ACCEPTED, bytes, 0, 0);
         is("its lines, and the bytes behind", memcmp(text, circuit_a, bytes) == 0 && kept(text, bytes, sizeof text));
-        is("its notes", notes[52] == MASKED_REGISTERED && notes[53] == 3 && kept(notes, 2 * 2 * 28, sizeof notes));
+        is("its notes", noted());
     }
     junk();
     answer("rule 23", masked_write_text(table, words, notes, MASKED_NOTES_WORDS, text, bytes - 1, &a, &b, &c),
            MASKED_TEXT_TOO_SHORT, 0, 0, 0);
-    is("23 leaves the text", kept(text, 0, sizeof text));
-    is("23 leaves the notes as accepted", notes[52] == MASKED_REGISTERED && notes[53] == 3 && kept(notes, 2 * 2 * 28, sizeof notes));
+    is("23 leaves the text, and the notes as accepted", kept(text, 0, sizeof text) && noted());
     junk();
     table[words - 1] = 24;
     answer("rule 10, written", masked_write_text(table, words, notes, MASKED_NOTES_WORDS, text, sizeof text, &a, &b, &c),
