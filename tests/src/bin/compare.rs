@@ -151,12 +151,12 @@ fn print_rules(met: &[[u64; RULES]; CALLS]) -> usize {
     let mut missing = 0;
     for rule in 0..RULES {
         let name = if rule == 0 { "accepted".to_string() } else { format!("rule {rule}") };
-        let cell = |call: usize| match met[call][rule] {
+        let cell = |(call, met): (usize, &[u64; RULES])| match met[rule] {
             0 if wanted_rules(call).contains(&rule) => "NEVER".to_string(),
             0 => "-".to_string(),
             times => times.to_string(),
         };
-        let cells: Vec<String> = (0..CALLS).map(cell).collect();
+        let cells: Vec<String> = met.iter().enumerate().map(cell).collect();
         missing += cells.iter().filter(|cell| *cell == "NEVER").count();
         println!(
             "{name:<11}{}",

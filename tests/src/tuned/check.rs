@@ -78,7 +78,7 @@ impl Pass<'_> {
             4 | 5 => {
                 let (label, stage) = self.named(words[1], 1)?;
                 let register = kind & 1;
-                self.one(label & !REGISTERED | register * REGISTERED, stage + register)
+                self.one((label & !REGISTERED) | (register * REGISTERED), stage + register)
             }
             6 => self.gadget(words[1], &words[2..], made, true),
             7 => self.gadget(words[1], &words[2..], made, false),
