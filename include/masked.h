@@ -1,5 +1,5 @@
 /* The proved calls of Hawdreth under C names. Link target/staticlib/libexports.a (made by `rt staticlib exports`).
- * docs/FORMAT.md describes circuits and rules; examples/c has a program to start from.
+ * docs/FORMAT.md describes circuits and rules; examples/c has programs to start from.
  *
  * Slices. A slice is a pointer and a number of elements. The pointer is aligned as its type asks, and leads to that many elements.
  * With length 0 it may be null: no call follows the pointer of an empty slice. The buffers of one call must not overlap.
@@ -12,8 +12,9 @@
  *   refused                          frame           word                          0
  *   masked_read_text, accepted       words written   0
  *   masked_read_text, refused        line            word
+ *   masked_write_text, accepted      bytes written   0                             0
  *
- * A frame is a line of the text, counted from 0 (HEAD), and word 0 is its kind. Rules 1 to 3 and 15 to 17 are told at frame 0,
+ * A frame is a line of the text, counted from 0 (HEAD), and word 0 is its kind. Rules 1 to 3, 15 to 17 and 23 are told at frame 0,
  * word 0; rule 4 at frame 0, word 1; rules 18 and 19 at frame 0, the word being the index of the byte (the tape's count on from the
  * shares') or of the probe; rules 5, 6, 13, 14, 20 and 21 at word 0 of the frame or line; rules 7 to 12 and 22 at the word that
  * breaks it.
@@ -33,6 +34,7 @@ enum {
     MASKED_MOST_WORDS = 8192,   /* words of a table */
     MASKED_MOST_WIRES = 8192,   /* wires of a circuit, and least bytes of values and reading */
     MASKED_NOTES_WORDS = 16384, /* least words of notes */
+    MASKED_TEXT_BYTES = 40960,  /* bytes of text that any table fits: five for each word */
     MASKED_INNER = 0xFFFF,      /* both words of an inner wire's note */
     MASKED_REGISTERED = 8,      /* what a registered wire's first word has beside its label; ask for MASKED_INNER before */
     MASKED_UNREAD = 2           /* a reading's byte for a wire that no probe reads */
@@ -63,7 +65,8 @@ enum masked_rule {
     MASKED_NO_SUCH_PROBE = 19,    /* every probe names a wire of the circuit */
     MASKED_LINE_FORM = 20,        /* a line is words of four digits 0-9A-F, one space between, and a line feed behind the last */
     MASKED_NO_ROOM = 21,          /* the words of all lines fit a table of 8,192 words */
-    MASKED_NOT_REGISTERED = 22    /* every wire that an OUT names is registered: made by an IN, a CON or a REG, or an output of a REF */
+    MASKED_NOT_REGISTERED = 22,   /* every wire that an OUT names is registered: made by an IN, a CON or a REG, or an output of a REF */
+    MASKED_TEXT_TOO_SHORT = 23    /* the buffer for the text has at least five bytes for each word of the table */
 };
 
 /* Checks a table: the words of all frames, one behind the other. Rules 1 to 14 and 22. (In a table, without lines, rule 6 is broken
@@ -110,6 +113,17 @@ uint64_t masked_read_probes(const uint16_t *table, size_t table_len, uint16_t *n
  * table   accepted:        the first *a words are those of the text; the rest is as it was. They are what masked_check takes.
  *         any refusal:     the words of the lines before the refused one are written; the rest is as it was */
 uint64_t masked_read_text(const uint8_t *text, size_t text_len, uint16_t *table, size_t table_len, uint64_t *a, uint64_t *b);
+
+/* Checks a table, then writes it as text: lines of hexadecimal words, one frame a line. With room for the table, masked_read_text
+ * reads this text as that very table, and no other text as it. Rules 1 to 14 and 22 as masked_check, then 23.
+ *
+ * notes   as masked_check leaves them; rule 23 leaves them as accepted
+ * text    at least five bytes for each word of the table, MASKED_TEXT_BYTES for any: four digits 0-9A-F and a space, or a line feed
+ *         where the frame ends.
+ *         accepted:        the first *a bytes are the lines; the rest is as it was: no byte 0 is put behind them
+ *         any refusal:     as it was */
+uint64_t masked_write_text(const uint16_t *table, size_t table_len, uint16_t *notes, size_t notes_len,
+                           uint8_t *text, size_t text_len, uint64_t *a, uint64_t *b, uint64_t *c);
 
 #ifdef __cplusplus
 }

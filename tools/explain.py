@@ -38,6 +38,7 @@ MEANINGS = {
     20: "a line is words of four digits 0-9A-F, one space between, and a line feed behind the last",
     21: "the words of all lines fit a table of 8,192 words",
     22: "every wire that an OUT names is registered: made by an IN, a CON or a REG, or an output of a REF",
+    23: "the buffer for the text has at least five bytes for each word of the table",
 }
 
 
@@ -97,10 +98,10 @@ def kind(words: list[int]) -> Finding:
     return Finding("the kind is {found:04X}, 0001 to 0008 is wanted", {"found": words[0]})
 
 
-def words_of_kind(words: list[int], d: int) -> Finding:
+def words_of_kind(words: list[int], d: int, here: str = "this line has {found}") -> Finding:
     facts = {"kind": words[0], "d": d, "wanted": frame_words(words[0], d), "found": len(words)}
     shares = " with {d:share}" if words[0] in (AND, REF, KINDS.index("OUT")) else ""
-    return Finding(KINDS[words[0]] + shares + " has {wanted:word}, this line has {found}", facts)
+    return Finding(KINDS[words[0]] + shares + " has {wanted:word}, " + here, facts)
 
 
 def room(lines: list[bytes], frame: int) -> Finding:
@@ -229,16 +230,18 @@ def shown(line: bytes) -> str:
     return text if len(text) <= 120 else text[:117] + "..."
 
 
-def explanation(text: bytes, rule: int, frame: int, word: int, name: str = "") -> str:
-    """The lines that explain a refusal; `name` stands in front where several files are judged."""
+def told(rule: int, word: int, found: Finding, name: str = "") -> list[str]:
+    """The rule, and what was found; `name` stands in front where several files are judged."""
     place = f"word {word}: " if 7 <= rule <= 12 or rule == 22 else ""
+    return [f"{name}: rule {rule}: {MEANINGS[rule]}" if name else f"  rule {rule}: {MEANINGS[rule]}", f"  here: {place}{found}"]
+
+
+def explanation(text: bytes, rule: int, frame: int, word: int, name: str = "") -> str:
+    """The lines that explain a text's refusal."""
     lines = lines_of(text[:JUDGED_BYTES])
     line = shown(lines[frame]) if frame < len(lines) else ""
-    return "\n".join((
-        f"{name}: rule {rule}: {MEANINGS[rule]}" if name else f"  rule {rule}: {MEANINGS[rule]}",
-        f"  here: {place}{finding(text, rule, frame, word)}",
-        f"  line {frame + 1} of the file (frame {frame}): {line or '(empty)'}",
-    ))
+    rows = told(rule, word, finding(text, rule, frame, word), name)
+    return "\n".join(rows + [f"  line {frame + 1} of the file (frame {frame}): {line or '(empty)'}"])
 
 
 def main() -> int:

@@ -1,7 +1,8 @@
-"""Shows what stands in a masked circuit: its wires, their values, and what probes read. `./show --help` says more.
+"""Shows what stands in a masked circuit: its wires, their values, what probes read, and the text of a table. `./show --help` says
+more.
 
-Verdicts, labels, stages, registers, values and readings are the proved calls' (bindings/python/masked.py); the names of wires
-are circuit.py's.
+Verdicts, labels, stages, registers, values, readings and texts are the proved calls' (bindings/python/masked.py); the names of
+wires are circuit.py's.
 """
 from __future__ import annotations
 
@@ -17,6 +18,7 @@ ROOT = Path(__file__).resolve().parents[1]
 sys.path.insert(0, str(ROOT / "bindings" / "python"))
 
 import masked
+import tables
 from circuit import IN, JUDGED_BYTES, KINDS, OUT, Circuit, circuit_of, lines_of
 from explain import MEANINGS, explanation, shown
 from inputs import Inputs, digits, finding, inputs_of, wire
@@ -28,8 +30,10 @@ EXAMPLES = """examples:
   ./show values examples/circuit-a.hex --shares 1011 --tape 1
   ./show values examples/circuit-a.hex --secrets 11
   ./show reading examples/circuit-a.hex --secrets 11 --probe 24 --probe 0x0E
+  ./show text examples/circuit-a.words
 
 FILE is a circuit's text, as docs/FORMAT.md describes it; - is standard input.
+For `text` it is a table, 16-bit words as a tool writes them.
 The proved library is built on first use, which takes three to five minutes
 and needs the Rattle toolchain (rt) and a C compiler (cc).
 Exit status: 0 shown, 1 refused by a rule, 2 trouble."""
@@ -37,6 +41,7 @@ WIRES_HELP = ("the number (decimal, hexadecimal), line, name, label and stage of
               "and whether a probe stops at it")
 VALUES_HELP = "the value of each wire, and the shares of each IN and OUT with their sum"
 READING_HELP = "the wires that the probes read together, with their values"
+TEXT_HELP = "the text of a table that a tool has written, where it keeps the rules"
 
 
 class Trouble(Exception):
@@ -59,25 +64,28 @@ def options_of(words: list[str]) -> argparse.Namespace:
                     formatter_class=argparse.RawDescriptionHelpFormatter)
     commands = parser.add_subparsers(dest="command", metavar="COMMAND", required=True)
     by_name = {}
-    for name, text in (("wires", WIRES_HELP), ("values", VALUES_HELP), ("reading", READING_HELP)):
+    for name, text in (("wires", WIRES_HELP), ("values", VALUES_HELP), ("reading", READING_HELP), ("text", TEXT_HELP)):
         command = by_name[name] = commands.add_parser(name, help=text, description=f"Shows {text}.")
-        command.add_argument("file", metavar="FILE", help="a circuit's text; - is standard input")
-        if name == "wires":
-            continue
-        command.add_argument("--shares", type=digits, metavar="BITS",
-                             help="a digit 0 or 1 for each share, IN by IN, label by label")
-        command.add_argument("--tape", type=digits, metavar="BITS", help="a digit 0 or 1 for each random bit")
-        command.add_argument("--secrets", type=digits, metavar="BITS",
-                             help="a digit 0 or 1 for each IN: shares and tape are drawn, and told")
-        command.add_argument("--seed", type=int, metavar="N", help="what to draw by; the same number draws the same again")
-        if name == "reading":
-            command.add_argument("--probe", type=wire, action="append", required=True, metavar="WIRE",
-                                 help="a wire's number, decimal or as 0x..; may be given again")
+        kind = "a table, 16-bit words, little endian" if name == "text" else "a circuit's text"
+        command.add_argument("file", metavar="FILE", help=f"{kind}; - is standard input")
+    by_name["text"].add_argument("--big-endian", action="store_true", help="the high byte of each word comes first")
+    for command in (by_name["values"], by_name["reading"]):
+        add_inputs(command)
+    by_name["reading"].add_argument("--probe", type=wire, action="append", required=True, metavar="WIRE",
+                                    help="a wire's number, decimal or as 0x..; may be given again")
     options = parser.parse_args(words)
     options.file = STDIN if options.file == "-" else options.file
-    if options.command != "wires":
+    if options.command in ("values", "reading"):
         check_inputs(by_name[options.command], options)
     return options
+
+
+def add_inputs(command: argparse.ArgumentParser) -> None:
+    command.add_argument("--shares", type=digits, metavar="BITS", help="a digit 0 or 1 for each share, IN by IN, label by label")
+    command.add_argument("--tape", type=digits, metavar="BITS", help="a digit 0 or 1 for each random bit")
+    command.add_argument("--secrets", type=digits, metavar="BITS",
+                         help="a digit 0 or 1 for each IN: shares and tape are drawn, and told")
+    command.add_argument("--seed", type=int, metavar="N", help="what to draw by; the same number draws the same again")
 
 
 def check_inputs(parser: argparse.ArgumentParser, options: argparse.Namespace) -> None:
@@ -92,15 +100,15 @@ def check_inputs(parser: argparse.ArgumentParser, options: argparse.Namespace) -
             raise Refusal(f"refused 18: {MEANINGS[18]}\n  here: digit {place + 1} of the secrets is {secret}")
 
 
-def read(name: str) -> bytes:
-    """All of a text, as far as it is judged and a byte more."""
+def read(name: str, most: int = JUDGED_BYTES + 1) -> bytes:
+    """All of a file, up to so many bytes: of a text, as far as it is judged and a byte more."""
     try:
         if name == STDIN:
             if sys.stdin is None:
                 raise Trouble("standard input is closed")
-            return sys.stdin.buffer.read(JUDGED_BYTES + 1)
+            return sys.stdin.buffer.read(most)
         with open(name, "rb") as file:
-            return file.read(JUDGED_BYTES + 1)
+            return file.read(most)
     except OSError as error:
         raise Trouble(f"{name}: {error.strerror}") from None
 
@@ -194,7 +202,22 @@ def evaluated(options: argparse.Namespace, circuit: Circuit, table: array, input
         raise Refusal(f"refused {int(refused.rule)}: {MEANINGS[refused.rule]}\n  here: {found}") from None
 
 
+def show_text(name: str, order: str) -> list[str]:
+    """The lines of a table that a tool has written, by the proved call; its refusal in plain words."""
+    data = read(name, tables.READ_BYTES)
+    if len(data) % 2:
+        raise Refusal(f"{name}: {tables.odd(data, order)}")
+    build()
+    table = tables.words_of(data, order)
+    try:
+        return masked.write_text(table).decode("ascii").splitlines()
+    except masked.Refused as refused:
+        raise Refusal(f"{name}: {refused}\n{tables.explanation(data, order, refused.rule, refused.frame, refused.word)}") from None
+
+
 def run(options: argparse.Namespace) -> list[str]:
+    if options.command == "text":
+        return show_text(options.file, "big" if options.big_endian else "little")
     text = read(options.file)
     build()
     notes = masked.words([0] * masked.NOTES_WORDS)

@@ -7,6 +7,7 @@
     masked.evaluate(table, [1, 0, 1, 1], [1], values)          # values[24] is 1
     reading = bytearray(masked.MOST_WIRES)
     masked.read_probes(table, [1, 0, 1, 1], [1], [24], reading)   # reading[8], [13], [17] are 1, 0, 0; the rest is 2
+    text = masked.write_text(table)                            # the bytes of examples/circuit-a.hex
 
 A refusal is raised as Refused, with the rule's number and its spot. Buffers that a call fills are lent by the caller (a bytearray,
 or an array of type code H for words); left out, one of the right size is made and thrown away. After a refusal they hold what
@@ -26,6 +27,7 @@ from typing import NamedTuple
 MOST_WORDS = 8192
 MOST_WIRES = 8192
 NOTES_WORDS = 16384
+TEXT_BYTES = 40960
 INNER = 0xFFFF
 REGISTERED = 8
 LIBRARY = Path(__file__).resolve().parents[2] / "target" / "shared" / "libmasked.so"
@@ -56,6 +58,7 @@ class Rule(enum.IntEnum):
     LINE_FORM = 20
     NO_ROOM = 21
     NOT_REGISTERED = 22
+    TEXT_TOO_SHORT = 23
 
 
 class Accepted(NamedTuple):
@@ -110,10 +113,14 @@ def read_probes(table: Iterable[int], shares: Iterable[int], tape: Iterable[int]
 def read_text(text: bytes, table: array.array | None = None) -> array.array:
     """masked_read_text: the words of a text. `table`: where they are written; left out, one of 8,192 words is made."""
     table = _words_for(table, MOST_WORDS)
-    result, (first, second) = _call("masked_read_text", 2, bytes(text), table)
-    if result:
-        raise Refused(result, first, second)
-    return table[:first]
+    return table[:_accepted(_call("masked_read_text", 2, bytes(text), table))[0]]
+
+
+def write_text(table: Iterable[int], text: bytearray | None = None, notes: array.array | None = None) -> bytes:
+    """masked_write_text: checks, then writes a table's lines. `text`: where they are written, five bytes for each word; left out,
+    one that any table fits is made."""
+    text = _bytes_for(text, TEXT_BYTES)
+    return bytes(text[:_accepted(_call("masked_write_text", 3, words(table), _words_for(notes), text))[0]])
 
 
 def words(numbers: Iterable[int]) -> array.array:
@@ -139,8 +146,8 @@ def _words_for(lent: array.array | None, count: int = NOTES_WORDS) -> array.arra
     return array.array("H", bytes(2 * count)) if lent is None else _writable(lent, 2)
 
 
-def _bytes_for(lent: bytearray | None) -> bytearray:
-    return bytearray(MOST_WIRES) if lent is None else _writable(lent, 1)
+def _bytes_for(lent: bytearray | None, count: int = MOST_WIRES) -> bytearray:
+    return bytearray(count) if lent is None else _writable(lent, 1)
 
 
 def _writable(lent: array.array | bytearray, size: int) -> array.array | bytearray:
@@ -173,8 +180,13 @@ def _slice(buffer: array.array | bytearray | bytes) -> tuple[object, ctypes.c_si
     return ctypes.byref((ctypes.c_char * memoryview(buffer).nbytes).from_buffer(buffer)), length
 
 
-def _answer(answer: tuple[int, list[int]]) -> Accepted:
+def _accepted(answer: tuple[int, list[int]]) -> list[int]:
+    """The numbers of an accepted call; a refusal is raised."""
     result, numbers = answer
     if result:
         raise Refused(result, numbers[0], numbers[1])
-    return Accepted(*numbers)
+    return numbers
+
+
+def _answer(answer: tuple[int, list[int]]) -> Accepted:
+    return Accepted(*_accepted(answer))

@@ -7,7 +7,7 @@
 #define JUNK 0xA5
 
 static uint16_t table[MASKED_MOST_WORDS], notes[MASKED_NOTES_WORDS + 2];
-static uint8_t values[MASKED_MOST_WIRES + 2], reading[MASKED_MOST_WIRES + 2];
+static uint8_t values[MASKED_MOST_WIRES + 2], reading[MASKED_MOST_WIRES + 2], text[MASKED_TEXT_BYTES + 2];
 static uint64_t a, b, c;
 static int passed, failed;
 
@@ -30,6 +30,7 @@ static void junk(void)
     memset(notes, JUNK, sizeof notes);
     memset(values, JUNK, sizeof values);
     memset(reading, JUNK, sizeof reading);
+    memset(text, JUNK, sizeof text);
     a = b = c = UINT64_MAX;
 }
 
@@ -43,10 +44,13 @@ static int kept(const void *buffer, size_t from, size_t size)
     return 1;
 }
 
-static size_t read_text(const char *text)
+static const char circuit_a[] = "0000 0002\n0001 0001\n0001 0000\n0006 0000 0000 0001 0002 0003\n"
+                                "0005 0018\n0005 0019\n0008 001A 001B\n";
+
+static size_t read_text(const char *lines)
 {
     uint64_t words, word;
-    is("a text is read", masked_read_text((const uint8_t *)text, strlen(text), table, MASKED_MOST_WORDS, &words, &word) == 0);
+    is("a text is read", masked_read_text((const uint8_t *)lines, strlen(lines), table, MASKED_MOST_WORDS, &words, &word) == 0);
     return words;
 }
 
@@ -71,14 +75,18 @@ static void empty_slices(void)
            MASKED_BUFFER_TOO_SHORT, 0, 0, 0);
     answer("read_text, no text", masked_read_text(NULL, 0, table, MASKED_MOST_WORDS, &a, &b), MASKED_NO_HEAD, 0, 0, 0);
     answer("read_text, no table", masked_read_text((const uint8_t *)"0000 0002\n", 10, NULL, 0, &a, &b), MASKED_NO_ROOM, 0, 0, 0);
+    answer("write_text, all null", masked_write_text(NULL, 0, NULL, 0, NULL, 0, &a, &b, &c), MASKED_NOTES_TOO_SHORT, 0, 0, 0);
+    answer("write_text, no table", masked_write_text(NULL, 0, notes, MASKED_NOTES_WORDS, NULL, 0, &a, &b, &c),
+           MASKED_NO_HEAD, 0, 0, 0);
+    answer("write_text, no text", masked_write_text(table, words, notes, MASKED_NOTES_WORDS, NULL, 0, &a, &b, &c),
+           MASKED_TEXT_TOO_SHORT, 0, 0, 0);
 }
 
 static void buffers(void)
 {
     const uint8_t shares[] = {1, 0, 1, 1}, tape[] = {1}, wrong[] = {1, 0, 1, 2};
     const uint16_t probe[] = {24}, none[] = {28};
-    size_t words = read_text("0000 0002\n0001 0001\n0001 0000\n0006 0000 0000 0001 0002 0003\n"
-                             "0005 0018\n0005 0019\n0008 001A 001B\n");
+    size_t words = read_text(circuit_a);
     junk();
     answer("accepted", masked_read_probes(table, words, notes, MASKED_NOTES_WORDS, shares, 4, tape, 1, values, MASKED_MOST_WIRES,
                                           probe, 1, reading, sizeof reading, &a, &b, &c), MASKED_ACCEPTED, 28, 1, 3);
@@ -116,10 +124,42 @@ static void buffers(void)
     is("the words of the lines before", table[0] == 0 && table[1] == 2 && kept(table, 4, sizeof table));
 }
 
+/* The notes of circuit A, as an accepted check leaves them. */
+static int noted(void)
+{
+    return notes[52] == MASKED_REGISTERED && notes[53] == 3 && kept(notes, 2 * 2 * 28, sizeof notes);
+}
+
+/* Room for a text: exact, more, and a byte short; and a table that is refused. */
+static void texts(void)
+{
+    const size_t bytes = strlen(circuit_a), rooms[] = {bytes, bytes + 1, sizeof text};
+    size_t words = read_text(circuit_a);
+    for (size_t i = 0; i < sizeof rooms / sizeof *rooms; i++) {
+        junk();
+        answer("a text is written", masked_write_text(table, words, notes, MASKED_NOTES_WORDS, text, rooms[i], &a, &b, &c),
+               MASKED_ACCEPTED, bytes, 0, 0);
+        is("its lines, and the bytes behind", memcmp(text, circuit_a, bytes) == 0 && kept(text, bytes, sizeof text));
+        is("its notes", noted());
+    }
+    junk();
+    answer("rule 23", masked_write_text(table, words, notes, MASKED_NOTES_WORDS, text, bytes - 1, &a, &b, &c),
+           MASKED_TEXT_TOO_SHORT, 0, 0, 0);
+    is("23 leaves the text, and the notes as accepted", kept(text, 0, sizeof text) && noted());
+    junk();
+    table[words - 1] = 24;
+    answer("rule 10, written", masked_write_text(table, words, notes, MASKED_NOTES_WORDS, text, sizeof text, &a, &b, &c),
+           MASKED_WRONG_LABEL, 6, 2, 0);
+    is("10 leaves the text", kept(text, 0, sizeof text));
+    answer("rule 10 before 23", masked_write_text(table, words, notes, MASKED_NOTES_WORDS, text, 0, &a, &b, &c),
+           MASKED_WRONG_LABEL, 6, 2, 0);
+}
+
 int main(void)
 {
     empty_slices();
     buffers();
+    texts();
     printf("calls.c: %d passed, %d failed\n", passed, failed);
     return failed != 0;
 }

@@ -63,19 +63,35 @@ class Functions(unittest.TestCase):
         self.refused(21, 3, 0, masked.read_text, TEXT, words(10))
         self.refused(20, 1, 0, masked.read_text, b"0000 0002\n0001 00f0\n")
 
+    def test_write_text(self) -> None:
+        self.assertEqual(TEXT, masked.write_text(TABLE))
+        text, notes = bytearray(b"\xa5" * (len(TEXT) + 1)), words(masked.NOTES_WORDS)
+        self.assertEqual(TEXT, masked.write_text(list(TABLE), text, notes))
+        self.assertEqual(TEXT + b"\xa5", text)
+        self.assertEqual((1, 3, True), masked.place(notes, 27))
+        self.assertEqual(TEXT, masked.write_text(TABLE, bytearray(len(TEXT))))
+        short = bytearray(b"\xa5" * (len(TEXT) - 1))
+        self.refused(masked.Rule.TEXT_TOO_SHORT, 0, 0, masked.write_text, TABLE, short)
+        self.refused(22, 6, 1, masked.write_text, list(TABLE[:-2]) + [24, 25], short)
+        self.assertEqual({0xA5}, set(short))
+        self.refused(1, 0, 0, masked.write_text, [0] * 8193)
+        self.refused(2, 0, 0, masked.write_text, TABLE, None, words(16383))
+
     def test_buffers_of_another_kind(self) -> None:
         for wrong in (bytearray(16384), bytes(32768), array("I", bytes(65536))):
             with self.assertRaises(TypeError):
                 masked.check(TABLE, wrong)
         with self.assertRaises(TypeError):
             masked.evaluate(TABLE, [1, 0, 1, 1], [1], bytes(8192))
+        with self.assertRaises(TypeError):
+            masked.write_text(TABLE, words(100))
 
     def test_its_own_example(self) -> None:
         """The example of the module's first lines runs."""
         example = "".join(line[4:] + "\n" for line in masked.__doc__.splitlines() if line.startswith("    "))
-        script = f"import sys; sys.path.insert(0, 'bindings/python')\n{example}print(values[24], [reading[w] for w in (8, 13, 17)])"
+        script = f"import sys; sys.path.insert(0, 'bindings/python')\n{example}print(values[24], [reading[w] for w in (8, 13, 17)], len(text))"
         done = subprocess.run([sys.executable, "-c", script], cwd=ROOT, capture_output=True, text=True, check=True)
-        self.assertEqual("1 [1, 0, 0]\n", done.stdout)
+        self.assertEqual("1 [1, 0, 0] 95\n", done.stdout)
 
 
 class Null(unittest.TestCase):
@@ -103,6 +119,8 @@ class Null(unittest.TestCase):
         self.assertEqual({2}, set(reading))
         self.assertEqual([3, 0, 0], self.call("masked_read_text", None, table, numbers=2))
         self.assertEqual([21, 0, 0], self.call("masked_read_text", bytearray(b"0000 0002\n"), None, numbers=2))
+        self.assertEqual([3, 0, 0, 0], self.call("masked_write_text", None, notes, None))
+        self.assertEqual([23, 0, 0, 0], self.call("masked_write_text", head, notes, None))
 
 
 if __name__ == "__main__":

@@ -1,6 +1,7 @@
-"""Holds what a member is told against the second program's `describe`: the rows of `show wires`, and judge's explanations.
+"""Holds what a member is told against the second program's `describe`: the rows of `show wires`, and judge's explanations. What
+`show text` says of the same circuits as tables is held to what is said of the texts.
 
-    compare.py wires N      N random accepted circuits, every row
+    compare.py wires N      N random accepted circuits, every row; their tables are written as the text
     compare.py refusals N   N damaged texts: the proved verdict, and each number and cause of the explanation
 
 Exit status: 0 where all agree and every rule and cause was met.
@@ -10,6 +11,7 @@ from __future__ import annotations
 import subprocess
 import sys
 from collections import Counter
+from collections.abc import Callable
 from pathlib import Path
 
 ROOT = Path(__file__).resolve().parents[2]
@@ -18,6 +20,7 @@ sys.path[:0] = [str(ROOT / "tools"), str(ROOT / "bindings" / "python")]
 import explain
 import masked
 import show
+import tables
 from circuit import circuit_of, lines_of
 
 RULES = [*range(3, 15), *range(20, 23)]
@@ -34,9 +37,12 @@ def described(mode: str, count: int) -> list[list[str]]:
 
 
 def differing_rows(text: bytes, wanted: list[str]) -> str:
-    """The first row of `show wires` that differs; empty where none does."""
+    """The first row of `show wires` that differs, or that the table is written as another text; empty where all agree."""
     notes = masked.words([0] * masked.NOTES_WORDS)
-    answer = masked.check(masked.read_text(text), notes)
+    table = masked.read_text(text)
+    answer = masked.check(table, notes)
+    if masked.write_text(table) != text:
+        return "the table is written as another text"
     lines = lines_of(text)
     rows = show.show_wires(circuit_of(lines), lines, notes, answer)
     got = [" ".join(row.split()) for row in rows[1:-1] if not row.startswith("line ")]
@@ -46,24 +52,36 @@ def differing_rows(text: bytes, wanted: list[str]) -> str:
     return ""
 
 
-def verdict(text: bytes) -> tuple[int, int, int]:
-    """The proved code's refusal of a text."""
+def verdict(judged: Callable[[], object]) -> tuple[int, int, int]:
+    """The refusal of a call of the proved code."""
     try:
-        masked.check(masked.read_text(text))
+        judged()
         return 0, 0, 0
     except masked.Refused as refused:
         return int(refused.rule), refused.frame, refused.word
 
 
+def differing_table(text: bytes, spot: tuple[int, int, int], found: explain.Finding) -> str:
+    """How the words of a text, as a table, are refused or explained otherwise; empty where they are not."""
+    table = masked.read_text(text)
+    got = verdict(lambda: masked.write_text(table))
+    if got != spot:
+        return f"the text is refused at {spot}, its table at {got}"
+    told = tables.finding(list(table), *got)
+    return "" if told == found else f"the text is explained with {found}, its table with {told}"
+
+
 def differing_facts(text: bytes, spot: str, wanted: list[str]) -> str:
     """How the explanation's facts differ from the second program's; empty where they agree."""
-    got = verdict(text)
+    got = verdict(lambda: masked.check(masked.read_text(text)))
     if got != tuple(map(int, spot.split())):
         return f"the proved code refuses at {got}, the second program at {spot}"
     found = explain.finding(text, *got)
     facts = {name: str(fact) for name, fact in found.facts.items()}
     second = dict(fact.split("=", 1) for fact in wanted if fact)
-    return "" if facts == second else f"explained with {facts}, the second program has {second}; {found}"
+    if facts != second:
+        return f"explained with {facts}, the second program has {second}; {found}"
+    return differing_table(text, got, found) if got[0] in explain.OF_THE_CHECK else ""
 
 
 def main() -> int:

@@ -1,5 +1,6 @@
-"""Holds the documents to the tools: the rules of docs/FORMAT.md, include/masked.h and masked.py to those that are explained, and
-FORMAT's kinds and numbers of wires to those that are counted. Exit status: 0 where all agree."""
+"""Holds the documents to the tools: the rules of docs/FORMAT.md, include/masked.h and masked.py to those that are explained,
+masked.py's constants to the header's, and FORMAT's kinds and numbers of wires to those that are counted. Exit status: 0 where all
+agree."""
 from __future__ import annotations
 
 import re
@@ -15,6 +16,7 @@ from explain import MEANINGS
 
 FORMAT = (ROOT / "docs" / "FORMAT.md").read_text()
 HEADER = " ".join((ROOT / "include" / "masked.h").read_text().split())
+CONSTANTS = ("MOST_WORDS", "MOST_WIRES", "NOTES_WORDS", "TEXT_BYTES", "INNER", "REGISTERED")
 
 
 def differences() -> list[str]:
@@ -29,6 +31,10 @@ def differences() -> list[str]:
         found.append(f"the header's rules are not those explained: {[n for n in MEANINGS if rules[n] != MEANINGS[n]]}")
     if {rule.value: rule.name for rule in masked.Rule} != {number: enum[number][0] for number in MEANINGS if number in enum}:
         found.append("masked.py's rules are not the header's")
+    constants = {name: int(value, 0) for name, value in re.findall(r"MASKED_(\w+) = (\w+),? /\*", HEADER)}
+    others = [name for name in CONSTANTS if getattr(masked, name) != constants.get(name)]
+    if others:
+        found.append(f"masked.py's constants are not the header's: {others}")
     kinds = re.findall(r"^\| (\d{4}) \| (\w+) \|", FORMAT, re.MULTILINE)
     if kinds != [(f"{number:04X}", name) for number, name in enumerate(KINDS)]:
         found.append(f"FORMAT's kinds are {kinds}")
@@ -47,7 +53,7 @@ def main() -> int:
     found = differences()
     for difference in found:
         print(f"FAILED documents: {difference}")
-    print(f"documents: {6 - len(found)} passed, {len(found)} failed")
+    print(f"documents: {7 - len(found)} passed, {len(found)} failed")
     return 1 if found else 0
 
 

@@ -1,6 +1,9 @@
-//! The four open calls, so that one test can run any program behind them.
+//! The open calls, so that one test can run any program behind them.
 
-/// What a call gives back: 0 and the counts, or the rule and its spot.
+/// The calls by their names, in the order of the trait.
+pub const NAMES: [&str; 5] = ["check", "evaluate", "read_probes", "read_text", "write_text"];
+
+/// What a call gives back: 0 and its numbers, or the rule and its spot.
 #[derive(Clone, Copy, Debug, PartialEq, Eq)]
 pub struct Answer {
     pub result: u64,
@@ -38,6 +41,8 @@ pub trait Calls {
     ) -> Answer;
 
     fn read_text(&self, text: &[u8], table: &mut [u16]) -> Answer;
+
+    fn write_text(&self, table: &[u16], notes: &mut [u16], text: &mut [u8]) -> Answer;
 }
 
 #[cfg(feature = "proved")]
@@ -100,6 +105,17 @@ mod proved {
             table_len: usize,
             a: *mut u64,
             b: *mut u64,
+        ) -> u64;
+        fn masked_write_text(
+            table: *const u16,
+            table_len: usize,
+            notes: *mut u16,
+            notes_len: usize,
+            text: *mut u8,
+            text_len: usize,
+            a: *mut u64,
+            b: *mut u64,
+            c: *mut u64,
         ) -> u64;
     }
 
@@ -202,6 +218,24 @@ mod proved {
                 )
             };
             Answer { result, numbers: [a, b, 0] }
+        }
+
+        fn write_text(&self, table: &[u16], notes: &mut [u16], text: &mut [u8]) -> Answer {
+            let [mut a, mut b, mut c] = [JUNK; 3];
+            let result = unsafe {
+                masked_write_text(
+                    table.as_ptr(),
+                    table.len(),
+                    notes.as_mut_ptr(),
+                    notes.len(),
+                    text.as_mut_ptr(),
+                    text.len(),
+                    &mut a,
+                    &mut b,
+                    &mut c,
+                )
+            };
+            Answer { result, numbers: [a, b, c] }
         }
     }
 }

@@ -1,6 +1,6 @@
 //! Times the calls against the tuned opponent, in one process, turn by turn.
 use masked_tests::builder::Builder;
-use masked_tests::calls::{Answer, Calls};
+use masked_tests::calls::{Answer, Calls, NAMES};
 use masked_tests::generate::random::Random;
 use masked_tests::mask::masking::mask;
 use masked_tests::mask::sbox::aes;
@@ -8,8 +8,6 @@ use masked_tests::options;
 use masked_tests::tuned::Tuned;
 use std::hint::black_box;
 use std::time::Instant;
-
-const NAMES: [&str; 4] = ["check", "evaluate", "read_probes", "read_text"];
 
 #[cfg(feature = "proved")]
 fn subject() -> (Box<dyn Calls>, &'static str) {
@@ -32,6 +30,7 @@ struct Load {
     values: Vec<u8>,
     reading: Vec<u8>,
     table: Vec<u16>,
+    written: Vec<u8>,
 }
 
 impl Load {
@@ -48,6 +47,7 @@ impl Load {
             values: vec![0; 8192],
             reading: vec![0; 8192],
             table: vec![0; 8192],
+            written: vec![0; 40_960],
             builder,
         }
     }
@@ -59,7 +59,8 @@ impl Load {
             0 => calls.check(table, notes),
             1 => calls.evaluate(table, notes, shares, tape, values),
             2 => calls.read_probes(table, notes, shares, tape, values, probes, reading),
-            _ => calls.read_text(self.text.as_bytes(), &mut self.table),
+            3 => calls.read_text(self.text.as_bytes(), &mut self.table),
+            _ => calls.write_text(table, notes, &mut self.written),
         }
     }
 
@@ -151,7 +152,8 @@ fn print_lines(
     let names: Vec<String> = circuits.iter().map(|(name, _)| name.clone()).collect();
     let mut loads: Vec<Load> =
         circuits.into_iter().map(|(_, builder)| Load::new(random, builder)).collect();
-    let columns: Vec<_> = (0..4).map(|call| medians(&mut loads, call, subject, rounds)).collect();
+    let columns: Vec<_> =
+        (0..NAMES.len()).map(|call| medians(&mut loads, call, subject, rounds)).collect();
     for (i, (name, load)) in names.iter().zip(&loads).enumerate() {
         print!("{name:<22}{:>6}{:>6} ", load.builder.table.len(), load.builder.wires());
         for column in &columns {

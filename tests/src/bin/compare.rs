@@ -1,15 +1,17 @@
-//! Random cases through the reference and the proved code: answers and every byte of every buffer.
-use masked_tests::calls::{Answer, Calls};
+//! Random cases through the reference and the proved code: answers and every byte of every buffer. Each text that is written
+//! is read back.
+use masked_tests::calls::{Answer, Calls, NAMES};
 use masked_tests::generate::case::{case, Case};
 use masked_tests::generate::random::Random;
+use masked_tests::generate::text::damage;
 use masked_tests::options;
-use masked_tests::reference::check::frame_length;
+use masked_tests::reference::write::frames;
 use masked_tests::reference::Reference;
 use std::process::exit;
 
-const NAMES: [&str; 4] = ["check", "evaluate", "read_probes", "read_text"];
+const CALLS: usize = NAMES.len();
 /// The results that a call may have: accepted, and the rules' numbers.
-const RULES: usize = 23;
+const RULES: usize = 24;
 /// Bytes or words of junk before and after each lent buffer.
 const GUARD: usize = 16;
 
@@ -20,6 +22,7 @@ struct Buffers {
     values: Vec<u8>,
     reading: Vec<u8>,
     table: Vec<u16>,
+    text: Vec<u8>,
 }
 
 impl Buffers {
@@ -29,6 +32,7 @@ impl Buffers {
             values: random.bytes(case.values + 2 * GUARD),
             reading: random.bytes(case.reading + 2 * GUARD),
             table: random.words(case.text_table + 2 * GUARD),
+            text: random.bytes(case.written + 2 * GUARD),
         }
     }
 
@@ -38,12 +42,14 @@ impl Buffers {
         let values = &mut self.values[GUARD..GUARD + case.values];
         let reading = &mut self.reading[GUARD..GUARD + case.reading];
         let table = &mut self.table[GUARD..GUARD + case.text_table];
+        let text = &mut self.text[GUARD..GUARD + case.written];
         let Case { shares, tape, probes, .. } = case;
         match call {
             0 => calls.check(&case.table, notes),
             1 => calls.evaluate(&case.table, notes, shares, tape, values),
             2 => calls.read_probes(&case.table, notes, shares, tape, values, probes, reading),
-            _ => calls.read_text(&case.text, table),
+            3 => calls.read_text(&case.text, table),
+            _ => calls.write_text(&case.table, notes, text),
         }
     }
 
@@ -58,12 +64,18 @@ impl Buffers {
             .or_else(|| at("values", &self.values, &other.values))
             .or_else(|| at("reading", &self.reading, &other.reading))
             .or_else(|| at("table", &self.table, &other.table))
+            .or_else(|| at("text", &self.text, &other.text))
             .unwrap_or_default()
     }
 }
 
-/// Runs one call on both sides; gives the answer where they agree.
-fn agree(call: usize, other: &dyn Calls, case: &Case, junk: &Buffers) -> Result<Answer, String> {
+/// Runs one call on both sides; gives the answer and the buffers where they agree.
+fn agree(
+    call: usize,
+    other: &dyn Calls,
+    case: &Case,
+    junk: &Buffers,
+) -> Result<(Answer, Buffers), String> {
     let (mut ours, mut theirs) = (junk.clone(), junk.clone());
     let wanted = ours.call(call, &Reference, case);
     let got = theirs.call(call, other, case);
@@ -73,7 +85,32 @@ fn agree(call: usize, other: &dyn Calls, case: &Case, junk: &Buffers) -> Result<
     if ours != theirs {
         return Err(format!("{}: {}", NAMES[call], ours.difference(&theirs)));
     }
-    Ok(wanted)
+    Ok((wanted, ours))
+}
+
+/// Reads a written text, with exact room and with more: it is the very table, and a damaged one is not.
+fn read_back(
+    random: &mut Random,
+    other: &dyn Calls,
+    table: &[u16],
+    text: &[u8],
+) -> Result<(), String> {
+    let words = table.len();
+    let accepted = Answer::new(0, [words, 0, 0]);
+    for room in [words, words + random.within(1, 40)] {
+        let junk = random.words(room);
+        let mut read = junk.clone();
+        let answer = other.read_text(text, &mut read);
+        if answer != accepted || read != [table, &junk[words..]].concat() {
+            return Err(format!("read back, room for {room} words: {answer:?}, {}", hex(&read)));
+        }
+    }
+    let (mut damaged, mut read) = (text.to_vec(), vec![0; words]);
+    damage(random, &mut damaged);
+    if damaged != text && other.read_text(&damaged, &mut read) == accepted && read == table {
+        return Err(format!("another text is read as the table: {}", bytes_hex(&damaged)));
+    }
+    Ok(())
 }
 
 fn hex(words: &[u16]) -> String {
@@ -91,8 +128,8 @@ fn print_failure(seed: u64, number: u64, case: &Case, what: &str) {
     println!("  shares: {}  tape: {}", bytes_hex(&case.shares), bytes_hex(&case.tape));
     println!("  probes: {}", hex(&case.probes));
     println!(
-        "  lengths: notes {} values {} reading {} text table {}",
-        case.notes, case.values, case.reading, case.text_table
+        "  lengths: notes {} values {} reading {} text table {} written text {}",
+        case.notes, case.values, case.reading, case.text_table, case.written
     );
     println!("  text bytes: {}", bytes_hex(&case.text));
 }
@@ -103,22 +140,23 @@ fn wanted_rules(call: usize) -> Vec<usize> {
         0 => (0..=14).chain([22]).collect(),
         1 => (0..=18).chain([22]).collect(),
         2 => (0..=19).chain([22]).collect(),
-        _ => vec![0, 3, 4, 5, 6, 20, 21],
+        3 => vec![0, 3, 4, 5, 6, 20, 21],
+        _ => (0..=14).chain([22, 23]).collect(),
     }
 }
 
 /// Prints how often each rule was met; gives how many were never met.
-fn print_rules(met: &[[u64; RULES]; 4]) -> usize {
+fn print_rules(met: &[[u64; RULES]; CALLS]) -> usize {
     println!("rule       {}", NAMES.map(|name| format!("{name:>12}")).concat());
     let mut missing = 0;
     for rule in 0..RULES {
         let name = if rule == 0 { "accepted".to_string() } else { format!("rule {rule}") };
-        let cell = |call: usize| match met[call][rule] {
+        let cell = |(call, met): (usize, &[u64; RULES])| match met[rule] {
             0 if wanted_rules(call).contains(&rule) => "NEVER".to_string(),
             0 => "-".to_string(),
             times => times.to_string(),
         };
-        let cells: Vec<String> = (0..4).map(cell).collect();
+        let cells: Vec<String> = met.iter().enumerate().map(cell).collect();
         missing += cells.iter().filter(|cell| *cell == "NEVER").count();
         println!(
             "{name:<11}{}",
@@ -142,14 +180,11 @@ impl Shapes {
         if answer.result != 0 {
             return;
         }
-        let d = usize::from(table[1]);
-        self.by_shares[d] += 1;
+        self.by_shares[usize::from(table[1])] += 1;
         self.most_words = self.most_words.max(table.len());
         self.most_wires = self.most_wires.max(answer.numbers[0]);
-        let mut at = 2;
-        while at < table.len() {
-            self.frames[usize::from(table[at])] += 1;
-            at += frame_length(table[at], d).expect("an accepted table has no other kind");
+        for words in &frames(table)[1..] {
+            self.frames[usize::from(words[0])] += 1;
         }
     }
 
@@ -177,6 +212,34 @@ fn other(_: Option<String>) -> (Box<dyn Calls>, &'static str) {
     (Box::new(masked_tests::tuned::Tuned), "the tuned opponent, NOT the proved code")
 }
 
+/// What the cases met.
+#[derive(Default)]
+struct Tally {
+    met: [[u64; RULES]; CALLS],
+    shapes: Shapes,
+    read_back: u64,
+}
+
+impl Tally {
+    /// Makes every call of a case on both sides, and reads back what was written.
+    fn take(&mut self, other: &dyn Calls, case: &Case, random: &mut Random) -> Result<(), String> {
+        let junk = Buffers::junk(random, case);
+        let done = (0..CALLS)
+            .map(|call| agree(call, other, case, &junk))
+            .collect::<Result<Vec<(Answer, Buffers)>, String>>()?;
+        if let (Answer { result: 0, numbers: [bytes, ..] }, buffers) = &done[CALLS - 1] {
+            let text = &buffers.text[GUARD..GUARD + *bytes as usize];
+            read_back(random, other, &case.table, text)?;
+            self.read_back += 1;
+        }
+        self.shapes.note(&case.table, done[0].0);
+        for (met, (answer, _)) in self.met.iter_mut().zip(&done) {
+            met[answer.result as usize] += 1;
+        }
+        Ok(())
+    }
+}
+
 fn main() {
     options::only(&["seed", "count", "first", "against"]);
     let seed = options::number("seed", 1);
@@ -184,30 +247,21 @@ fn main() {
     let first = options::number("first", 0);
     let (other, name) = other(options::text("against"));
     println!("compare: the reference with {name}, {count} circuits, seed {seed}");
-    let mut met = [[0; RULES]; 4];
-    let mut shapes = Shapes::default();
+    let mut tally = Tally::default();
     let mut failed = 0;
     for number in first..first + count {
         let mut random = Random::of_case(seed, number);
         let case = case(&mut random);
-        let junk = Buffers::junk(&mut random, &case);
-        let answers: Result<Vec<Answer>, String> =
-            (0..4).map(|call| agree(call, other.as_ref(), &case, &junk)).collect();
-        match answers {
-            Ok(answers) => {
-                (0..4).for_each(|call| met[call][answers[call].result as usize] += 1);
-                shapes.note(&case.table, answers[0]);
-            }
-            Err(what) => {
-                failed += 1;
-                if failed <= 3 {
-                    print_failure(seed, number, &case, &what);
-                }
+        if let Err(what) = tally.take(other.as_ref(), &case, &mut random) {
+            failed += 1;
+            if failed <= 3 {
+                print_failure(seed, number, &case, &what);
             }
         }
     }
-    shapes.print();
-    let missing = print_rules(&met);
+    tally.shapes.print();
+    let missing = print_rules(&tally.met);
+    println!("texts written and read back: {}", tally.read_back);
     if missing > 0 && count > 1000 {
         println!("compare: {missing} rules were never met by a call that has them");
     }

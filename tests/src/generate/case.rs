@@ -1,4 +1,4 @@
-//! One case: everything the four calls are given, lengths of buffers included.
+//! One case: everything the calls are given, lengths of buffers included.
 use super::circuit::{circuit, Shape};
 use super::damage::{damaged_lines, noise};
 use super::limits::limit;
@@ -19,6 +19,8 @@ pub struct Case {
     pub text: Vec<u8>,
     /// Length of the table lent to the text reader.
     pub text_table: usize,
+    /// Length of the text lent to the text writer.
+    pub written: usize,
 }
 
 /// The case that the random numbers give.
@@ -36,6 +38,7 @@ pub fn case(random: &mut Random) -> Case {
         probes: probes(random, &made),
         reading: sheet(random, 8192),
         text_table: text_table(random, words),
+        written: written(random, table.len()),
         text,
         table,
     }
@@ -113,5 +116,18 @@ fn text_table(random: &mut Random, words: usize) -> usize {
         3..=5 => 8192 + random.below(50),
         6 if random.once_in(4) => random.below(4),
         _ => words.max(64) + random.below(20),
+    }
+}
+
+/// Room for the table's lines: exact, one byte short, less, none, a little more, or enough for any table.
+fn written(random: &mut Random, words: usize) -> usize {
+    let exact = 5 * words;
+    match random.below(16) {
+        0 => exact.saturating_sub(1),
+        1 => random.below(exact + 1),
+        2 if random.once_in(4) => 0,
+        3..=5 => exact + random.within(1, 40),
+        6..=8 => 40_960 + random.below(50),
+        _ => exact,
     }
 }

@@ -27,7 +27,8 @@ fn random_bytes(random: &mut Random) -> Vec<u8> {
     (0..length).map(|_| random.pick(b"0000 0123456789ABCDEF \n")).collect()
 }
 
-fn damage(random: &mut Random, text: &mut Vec<u8>) {
+/// One stroke of damage to a text's bytes; it may leave them as they were.
+pub fn damage(random: &mut Random, text: &mut Vec<u8>) {
     if text.is_empty() {
         text.push(b'\n');
         return;

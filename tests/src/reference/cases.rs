@@ -11,7 +11,8 @@ fn judge(text: &str) -> String {
     verdict_line(&Reference, text.as_bytes())
 }
 
-fn table(text: &str) -> Vec<u16> {
+/// The words of a text.
+pub fn table(text: &str) -> Vec<u16> {
     let mut table = vec![0; 8192];
     let answer = Reference.read_text(text.as_bytes(), &mut table);
     assert_eq!(answer.result, 0);

@@ -37,14 +37,14 @@ pub fn and(new: &mut NewWires, first_random: usize, a: &[usize], b: &[usize], st
         sums[i].push(new.inner(Source::Register(m)));
     }
     for i in 0..d {
-        for j in 0..d {
+        for (j, &other) in b.iter().enumerate() {
             if i == j {
                 continue;
             }
             let pair = pair_index(d, i, j);
             let u = new.inner(Source::NotProduct(a[i], big_r[pair]));
             sums[i].push(new.inner(Source::Register(u)));
-            let v = new.inner(Source::Sum(vec![b[j], r[pair]]));
+            let v = new.inner(Source::Sum(vec![other, r[pair]]));
             let big_v = new.inner(Source::Register(v));
             let w = new.inner(Source::Product(a[i], big_v));
             sums[i].push(new.inner(Source::Register(w)));
@@ -70,7 +70,7 @@ pub fn refresh(new: &mut NewWires, first_random: usize, inputs: &[usize], stage:
         }
         s.push(new.inner(Source::Sum(terms)));
     }
-    for i in 0..d {
-        new.open(i, stage, Source::Register(s[i]));
+    for (i, sum) in s.into_iter().enumerate() {
+        new.open(i, stage, Source::Register(sum));
     }
 }

@@ -9,6 +9,7 @@ mod gadgets;
 pub mod names;
 pub mod reach;
 pub mod text;
+pub mod write;
 
 #[cfg(test)]
 mod cases;
@@ -16,6 +17,8 @@ mod cases;
 mod ends;
 #[cfg(test)]
 mod slips;
+#[cfg(test)]
+mod written;
 
 use crate::calls::{Answer, Calls};
 
@@ -59,13 +62,18 @@ pub type Verdict = Result<Counts, Refusal>;
 
 /// The numbers the C names give for a verdict.
 pub fn answer(verdict: Verdict) -> Answer {
-    match verdict {
-        Ok(c) => Answer::new(0, [c.wires, c.randoms, c.latency]),
+    numbers(verdict.map(|c| [c.wires, c.randoms, c.latency]))
+}
+
+/// The numbers the C names give: those of an accepted call, or the spot.
+fn numbers(accepted: Result<[usize; 3], Refusal>) -> Answer {
+    match accepted {
+        Ok(numbers) => Answer::new(0, numbers),
         Err(r) => Answer::new(r.rule, [r.frame, r.word, 0]),
     }
 }
 
-/// This program behind the same four calls as the proved code.
+/// This program behind the same calls as the proved code.
 pub struct Reference;
 
 impl Calls for Reference {
@@ -98,9 +106,10 @@ impl Calls for Reference {
     }
 
     fn read_text(&self, text: &[u8], table: &mut [u16]) -> Answer {
-        match text::read(text, table) {
-            Ok(words) => Answer::new(0, [words, 0, 0]),
-            Err(r) => Answer::new(r.rule, [r.frame, r.word, 0]),
-        }
+        numbers(text::read(text, table).map(|words| [words, 0, 0]))
+    }
+
+    fn write_text(&self, table: &[u16], notes: &mut [u16], text: &mut [u8]) -> Answer {
+        numbers(write::write(table, notes, text).map(|bytes| [bytes, 0, 0]))
     }
 }

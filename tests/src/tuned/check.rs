@@ -17,6 +17,16 @@ struct Pass<'a> {
 type Fault = (u64, usize);
 
 pub fn check(table: &[u16], notes: &mut [u16]) -> Result<Found, Refused> {
+    check_with_ends(table, notes, |_| ())
+}
+
+/// Checks, and tells behind how many words each frame ends.
+#[inline(always)]
+pub fn check_with_ends(
+    table: &[u16],
+    notes: &mut [u16],
+    mut ended: impl FnMut(usize),
+) -> Result<Found, Refused> {
     if table.len() > 8192 {
         return Err((1, 0, 0));
     }
@@ -34,6 +44,7 @@ pub fn check(table: &[u16], notes: &mut [u16]) -> Result<Found, Refused> {
     let sizes = Sizes::new(d);
     let (mut inputs, mut latency, mut frame) = (0, 0, 1);
     let mut rest = &table[2..];
+    ended(2);
     while let [kind, ..] = *rest {
         let length = match sizes.words.get(usize::from(kind)) {
             None | Some(0) => return Err((5, frame, 0)),
@@ -49,6 +60,7 @@ pub fn check(table: &[u16], notes: &mut [u16]) -> Result<Found, Refused> {
             Err((rule, word)) => return Err((rule, frame, word)),
         }
         rest = after;
+        ended(table.len() - rest.len());
         frame += 1;
     }
     let Pass { wires, randoms, .. } = pass;
@@ -66,7 +78,7 @@ impl Pass<'_> {
             4 | 5 => {
                 let (label, stage) = self.named(words[1], 1)?;
                 let register = kind & 1;
-                self.one(label & !REGISTERED | register * REGISTERED, stage + register)
+                self.one((label & !REGISTERED) | (register * REGISTERED), stage + register)
             }
             6 => self.gadget(words[1], &words[2..], made, true),
             7 => self.gadget(words[1], &words[2..], made, false),

@@ -3,6 +3,7 @@ mod check;
 mod evaluate;
 mod reach;
 mod text;
+mod write;
 
 use crate::calls::{Answer, Calls};
 
@@ -20,8 +21,13 @@ struct Found {
 }
 
 fn answer(verdict: Result<Found, Refused>) -> Answer {
-    match verdict {
-        Ok(found) => Answer::new(0, [found.wires, found.randoms, found.latency]),
+    numbers(verdict.map(|found| [found.wires, found.randoms, found.latency]))
+}
+
+/// The numbers of an accepted call, or the spot of a refusal.
+fn numbers(accepted: Result<[usize; 3], Refused>) -> Answer {
+    match accepted {
+        Ok(numbers) => Answer::new(0, numbers),
         Err((rule, frame, word)) => Answer::new(rule, [frame, word, 0]),
     }
 }
@@ -58,10 +64,11 @@ impl Calls for Tuned {
     }
 
     fn read_text(&self, text: &[u8], table: &mut [u16]) -> Answer {
-        match text::read(text, table) {
-            Ok(words) => Answer::new(0, [words, 0, 0]),
-            Err((rule, line, word)) => Answer::new(rule, [line, word, 0]),
-        }
+        numbers(text::read(text, table).map(|words| [words, 0, 0]))
+    }
+
+    fn write_text(&self, table: &[u16], notes: &mut [u16], text: &mut [u8]) -> Answer {
+        numbers(write::write(table, notes, text).map(|bytes| [bytes, 0, 0]))
     }
 }
 
