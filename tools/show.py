@@ -36,7 +36,7 @@ FILE is a circuit's text, as docs/FORMAT.md describes it; - is standard input.
 For `text` it is a table, 16-bit words as a tool writes them.
 The proved library is built on first use, which takes three to five minutes
 and needs the Rattle toolchain (rt) and a C compiler (cc).
-Exit status: 0 shown, 1 refused by a rule, 2 trouble."""
+Exit status: 0 shown, 1 refused, 2 trouble."""
 WIRES_HELP = ("the number (decimal, hexadecimal), line, name, label and stage of each wire, whether it is registered, "
               "and whether a probe stops at it")
 VALUES_HELP = "the value of each wire, and the shares of each IN and OUT with their sum"
@@ -49,7 +49,7 @@ class Trouble(Exception):
 
 
 class Refusal(Exception):
-    """A rule that the circuit or the inputs broke, in plain words."""
+    """A rule that the circuit or the inputs broke, or a file that is no table, in plain words."""
 
 
 class Parser(argparse.ArgumentParser):

@@ -11,7 +11,7 @@ from pathlib import Path
 ROOT = Path(__file__).resolve().parents[2]
 EXAMPLES = ROOT / "examples"
 EXPECTED = dict(line.split("\t") for line in (EXAMPLES / "expected.txt").read_text().splitlines())
-# The rules that a table breaks where its text does. The reader's own (3 to 6, 20, 21) see lines, which a table has not.
+# The rules that a table breaks where its text does; the others are about lines, which a table has not.
 OF_THE_CHECK = [*range(7, 15), 22]
 
 
