@@ -1,18 +1,39 @@
 -- A word's digits: what the table of pairs gives for them, and that words and their digits tell each other.
-use mathlib.Core.Path.{_≡_, refl}
+use mathlib.Core.Path.{_≡_, refl, subst, _∙_}
 use mathlib.Core.Bool.{true, _&&_}
 use mathlib.Core.List.{List, [], _∷_}
 use Prim.Native.Nat.{ℕ, _+_, _*_, _-_, _/_, _%_, _<_}
 use native.Mathlib.Omega.{arith}
 use lib.Dec.{leb}
+use lib.ListN.{set, length-set}
+use lib.Seq.{getD-set-same, getD-set-other}
 use borrow.Author.Tests.{leb-true, leb-false, le-leb, lt-leb}
 use Rattle.circuit.proofs.Base.{cases, and-left, and-right}
 use Rattle.text.specs.Lines.{isDecimal, isLetter, isDigit, digit, areDigits, word}
 use Rattle.writer.specs.Writer.{digitByte, digitsOf}
-use Rattle.writer.specs.Internal.Line.{pairOf}
+use Rattle.text.proofs.Blocks.{below-more}
+use Rattle.writer.specs.Internal.Line.{pairOf, PairsTo}
 
 pub digit-small : (n : ℕ) → n < 16 → digitByte n < 128
 digit-small n h = cases (leb n 9) (λ e. rw e (omega arith)) (λ e. rw e (omega arith))
+
+-- the table of pairs up to an equal number, and with one more
+pub pairs-to : {n m : ℕ} {pairs : List ℕ} → n ≡ m → PairsTo n pairs → PairsTo m pairs
+pairs-to {pairs = pairs} = subst (λ (k : ℕ). PairsTo k pairs)
+
+pub pairs-more : {n : ℕ} {pairs : List ℕ} → PairsTo n pairs → n < 256 → {v : ℕ} → v ≡ pairOf n → PairsTo (n + 1) (set pairs n v)
+pairs-more {n} {pairs} p h {v} e =
+    record {
+      size = length-set pairs n v ∙ p .size;
+      entry = below-more n (λ k l. getD-set-other pairs n k v 0 (λ z. omega arith) ∙ p .entry k l) (getD-set-same pairs n v 0 (omega (arith, p .size)) ∙ e);
+    }
+
+-- a byte by its two digits
+pub pair-of : (i j : ℕ) → j < 16 → pairOf (16 * i + j) ≡ digitByte i + 256 * digitByte j
+pair-of i j h =
+    let e : (16 * i + j) / 16 ≡ i = omega arith in
+    let f : (16 * i + j) % 16 ≡ j = omega arith in
+    rw (e, f)
 
 -- the two digits of a byte
 module _ (n : ℕ) (h : n < 256) where

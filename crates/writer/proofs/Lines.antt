@@ -1,15 +1,16 @@
 -- A frame's line: written word by word, and the lines of a table frame by frame.
-use mathlib.Core.Path.{_≡_, refl, _∙_}
+use mathlib.Core.Path.{_≡_, refl, sym, _∙_}
 use mathlib.Core.List.{List, [], _∷_, _++_}
 use Prim.Native.Nat.{ℕ, zero, suc, _+_, _*_, _-_, _≤_, _<_}
 use native.Mathlib.Numerals.{add-one}
 use native.Mathlib.Omega.{arith}
-use lib.ListN.{length, getD}
-use lib.Seq.{sets, slice, slice-cons, slice-empty, length-slice}
+use lib.ListN.{length, getD, set}
+use lib.Seq.{sets, slice, slice-cons, slice-empty, length-slice, set-set}
 use Rattle.circuit.specs.Lists.{nth}
 use Rattle.circuit.specs.Kinds.{kindOf, shape, words}
+use Rattle.text.specs.Lines.{lineFeed, space}
 use Rattle.writer.specs.Writer.{digitsOf, markBefore, linesFrom, textOf}
-use Rattle.writer.specs.Internal.Line.{lineOf}
+use Rattle.writer.specs.Internal.Line.{lineOf, spacedOf}
 
 -- five bytes a word
 pub line-length : (ws : List ℕ) → length (lineOf ws) ≡ 5 * length ws
@@ -23,20 +24,37 @@ lines-length d left [] = refl
 lines-length d zero (x ∷ xs) = omega (arith, lines-length d (words d (kindOf x)) xs)
 lines-length d (suc n) (x ∷ xs) = omega (arith, lines-length d n xs)
 
--- a word of a line is written: what is left of it
-pub line-turn : (text table : List ℕ) (i to : ℕ) → i < to → to ≤ length table → {new : List ℕ}
-    → new ≡ sets text (5 * i) (digitsOf (getD table i 0) ++ markBefore (to - i - 1) ∷ [])
-    → sets text (5 * i) (lineOf (slice i to table)) ≡ sets new (5 * (i + 1)) (lineOf (slice (i + 1) to table))
-unfolding lineOf
-line-turn text table i to h l w =
+-- a word is written, with a space behind it: what is left of them
+pub words-turn : (text table : List ℕ) (i to : ℕ) → i < to → to ≤ length table → {new : List ℕ} → new ≡ sets text (5 * i) (digitsOf (getD table i 0) ++ space ∷ [])
+    → sets text (5 * i) (spacedOf (slice i to table)) ≡ sets new (5 * (i + 1)) (spacedOf (slice (i + 1) to table))
+unfolding spacedOf
+words-turn text table i to h l w =
     let e : slice i to table ≡ getD table i 0 ∷ slice (i + 1) to table = rw add-one (slice-cons i to table 0 h l) in
-    let n : length (slice (i + 1) to table) ≡ to - i - 1 = length-slice (i + 1) to table l ∙ omega arith in
     let p : 5 * (i + 1) ≡ suc (suc (suc (suc (suc (5 * i))))) = omega arith in
-    rw (e, n, p, w)
+    rw (e, p, w)
 
-pub line-end : (text table : List ℕ) (i to : ℕ) → i ≤ to → to ≤ i → sets text (5 * i) (lineOf (slice i to table)) ≡ text
-unfolding lineOf
-line-end text table i to h l = let e : i ≡ to = omega arith in rw (e, slice-empty to table)
+-- the last space replaced by a line feed
+feed-last : (text : List ℕ) (at x : ℕ) (ws : List ℕ) (last : ℕ) → last + 1 ≡ at + 5 * length (x ∷ ws)
+    → set (sets text at (spacedOf (x ∷ ws))) last lineFeed ≡ sets text at (lineOf (x ∷ ws))
+unfolding spacedOf lineOf
+feed-last text at x [] last e = let z : last ≡ suc (suc (suc (suc at))) = omega arith in rw z (set-set (sets text at (digitsOf x)) (suc (suc (suc (suc at)))) space lineFeed)
+feed-last text at x (y ∷ ws) last e = feed-last (sets text at (digitsOf x ++ space ∷ [])) (suc (suc (suc (suc (suc at))))) y ws last (omega arith)
+
+pub words-end : (text table : List ℕ) (i to : ℕ) → i ≤ to → to ≤ i → sets text (5 * i) (spacedOf (slice i to table)) ≡ text
+unfolding spacedOf
+words-end text table i to h l = let e : i ≡ to = omega arith in rw (e, slice-empty to table)
+
+-- two words, the words behind them, and the line feed are the line
+pub line-written : (text table : List ℕ) (from to : ℕ) → from + 2 ≤ to → to ≤ length table → {one two all : List ℕ}
+    → one ≡ sets text (5 * from) (digitsOf (getD table from 0) ++ space ∷ []) → two ≡ sets one (5 * from + 5) (digitsOf (getD table (from + 1) 0) ++ space ∷ [])
+    → all ≡ sets two (5 * (from + 2)) (spacedOf (slice (from + 2) to table)) → set all (5 * to - 1) lineFeed ≡ sets text (5 * from) (lineOf (slice from to table))
+line-written text table from to h l {one} {all = all} p q r =
+    let e : 5 * from + 5 ≡ 5 * (from + 1) = omega arith in
+    let f : from + 1 + 1 ≡ from + 2 = omega arith in
+    let words : sets text (5 * from) (spacedOf (slice from to table)) ≡ all
+    = words-turn text table from to (omega arith) l p ∙ words-turn one table (from + 1) to (omega arith) l (rw e at q) ∙ rw f (sym r) in
+    rw (sym words, slice-cons from to table 0 (omega arith) l)
+    (feed-last text (5 * from) (getD table from 0) (slice (suc from) to table) (5 * to - 1) (omega (arith, length-slice (suc from) to table l)))
 
 -- words of a frame that has begun, and the frames behind them
 rest-lines : (d n : ℕ) (xs : List ℕ) (ys : List ℕ) → length xs ≡ n → linesFrom d n (xs ++ ys) ≡ lineOf xs ++ linesFrom d 0 ys

@@ -11,7 +11,7 @@ ghost use Rattle.text.specs.Answer.{textAnswer};
 ghost use Rattle.checker.specs.Answers.{answerOf};
 ghost use Rattle.gadgets.specs.Internal.Accepting.{AcceptedTable};
 ghost use Rattle.writer.specs.Writer.{linesFrom, textOf, writeAnswer, textAfter, ReadsBack, OnlyText};
-ghost use Rattle.writer.specs.Internal.Line.{Pairs, refusalIn};
+ghost use Rattle.writer.specs.Internal.Line.{PairsTo, refusalIn};
 
 mod line;
 
@@ -41,7 +41,7 @@ fn refused(verdict: Verdict) -> TextVerdict
 
 // The lines of an accepted table's frames behind HEAD, by the walk over them.
 fn write_frames(pairs: &[u16; 256], table: &[u16], text: &mut [u8])
-    requires { ⌜ Pairs (now pairs) × AcceptedTable (now table) × (5 * length (now table) ≤ length (now text)) ⌝ }
+    requires { ⌜ PairsTo 256 (now pairs) × AcceptedTable (now table) × (5 * length (now table) ≤ length (now text)) ⌝ }
     ensures { λ _. ⌜ now (text .exit) ≡ sets (now (text .entry)) 10 (linesFrom (nth (now (table .entry)) 1) 0 (drop 2 (now (table .entry)))) ⌝ }
 {
     let mut walk = Walk { d: table[1], at: 2 };

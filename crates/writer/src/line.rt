@@ -4,42 +4,49 @@ ghost use mathlib.Core.List.{[], _∷_, _++_};
 ghost use Prim.Native.Nat.{_+_, _*_, _≤_, _<_};
 ghost use lib.ListN.{length};
 ghost use lib.Seq.{sets, slice};
-ghost use Rattle.writer.specs.Writer.{digitByte, digitsOf, markBefore};
-ghost use Rattle.writer.specs.Internal.Line.{lineOf, Pairs};
+ghost use Rattle.text.specs.Lines.{space};
+ghost use Rattle.writer.specs.Writer.{digitByte, digitsOf};
+ghost use Rattle.writer.specs.Internal.Line.{lineOf, spacedOf, PairsTo};
 
-// The byte of a digit.
+// The byte of a digit: A is the byte 65, which comes 7 later than it would behind 9.
 fn digit(n: u16) -> u16
     requires { ⌜ n < 16 ⌝ }
     ensures { λ r. ⌜ (r ≡ digitByte n) × (r < 128) ⌝ }
 {
-    if n <= 9 { 48 + n } else { 55 + n }
+    48 + n + n / 10 * 7
 }
 
-// By a byte, its two digits: the first is the lower byte. A caller holds the table in an array of its own, so that it is made once.
+// The pairs of the bytes whose first digit is `i`, behind those before them.
+fn pair_row(pairs: &mut [u16; 256], i: usize)
+    requires { ⌜ (i < 16) × PairsTo (16 * i) (now pairs) ⌝ }
+    ensures { λ _. ⌜ PairsTo (16 * i + 16) (now (pairs .exit)) ⌝ }
+{
+    let first = digit(i as u16);
+    let mut j = 0;
+    while j < 16 {
+        pairs[16 * i + j] = first + 256 * digit(j as u16);
+        j += 1;
+    }
+}
+
+// By a byte, its two digits: the first one is the lower half. A caller holds them in an array of its own, so that they are made
+// once; row by row, so that the compiler makes each with a few vectors.
 pub(crate) fn pairs() -> [u16; 256]
-    ensures { λ r. ⌜ Pairs r ⌝ }
+    ensures { λ r. ⌜ PairsTo 256 r ⌝ }
 {
     let mut pairs = [0u16; 256];
-    let mut n: u16 = 0;
-    while n < 256 {
-        let i = n as usize;
-        pairs[i] = digit(n / 16) + 256 * digit(n % 16);
-        n += 1;
+    let mut i = 0;
+    while i < 16 {
+        pair_row(&mut pairs, i);
+        i += 1;
     }
     pairs
 }
 
-// The byte behind a word which so many words of its frame follow.
-fn mark(left: usize) -> u8
-    ensures { λ r. ⌜ r ≡ markBefore left ⌝ }
-{
-    if left < 1 { 10 } else { 32 }
-}
-
-// A word's digits and the byte behind them, from a place of the text on.
-fn write_word(pairs: &[u16; 256], word: u16, mark: u8, text: &mut [u8], at: usize)
-    requires { ⌜ Pairs (now pairs) × (at + 5 ≤ length (now text)) ⌝ }
-    ensures { λ _. ⌜ now (text .exit) ≡ sets (now (text .entry)) at (digitsOf word ++ mark ∷ []) ⌝ }
+// A word's digits and a space behind them, from a place of the text on.
+fn write_word(pairs: &[u16; 256], word: u16, text: &mut [u8], at: usize)
+    requires { ⌜ PairsTo 256 (now pairs) × (at + 5 ≤ length (now text)) ⌝ }
+    ensures { λ _. ⌜ now (text .exit) ≡ sets (now (text .entry)) at (digitsOf word ++ space ∷ []) ⌝ }
 {
     let i = (word / 256) as usize;
     let j = (word % 256) as usize;
@@ -49,17 +56,28 @@ fn write_word(pairs: &[u16; 256], word: u16, mark: u8, text: &mut [u8], at: usiz
     text[at + 1] = (high / 256) as u8;
     text[at + 2] = (low % 256) as u8;
     text[at + 3] = (low / 256) as u8;
-    text[at + 4] = mark;
+    text[at + 4] = 32;
 }
 
-// The line of the words from one place of the table to another, at its place in the text: five bytes a word.
-pub(crate) fn write(pairs: &[u16; 256], table: &[u16], from: usize, to: usize, text: &mut [u8])
-    requires { ⌜ Pairs (now pairs) × (from ≤ to) × (to ≤ length (now table)) × (5 * to ≤ length (now text)) ⌝ }
-    ensures { λ _. ⌜ now (text .exit) ≡ sets (now (text .entry)) (5 * from) (lineOf (slice from to (now (table .entry)))) ⌝ }
+// The words from one place of the table to another, each with a space behind it, at their place in the text: five bytes a word.
+fn write_words(pairs: &[u16; 256], table: &[u16], from: usize, to: usize, text: &mut [u8])
+    requires { ⌜ PairsTo 256 (now pairs) × (from ≤ to) × (to ≤ length (now table)) × (5 * to ≤ length (now text)) ⌝ }
+    ensures { λ _. ⌜ now (text .exit) ≡ sets (now (text .entry)) (5 * from) (spacedOf (slice from to (now (table .entry)))) ⌝ }
 {
     let mut i = from;
     while i < to {
-        write_word(pairs, table[i], mark(to - i - 1), text, 5 * i);
+        write_word(pairs, table[i], text, 5 * i);
         i += 1;
     }
+}
+
+// The same as a line, with a line feed in the last space's place. A frame has two words at least.
+pub(crate) fn write(pairs: &[u16; 256], table: &[u16], from: usize, to: usize, text: &mut [u8])
+    requires { ⌜ PairsTo 256 (now pairs) × (from + 2 ≤ to) × (to ≤ length (now table)) × (5 * to ≤ length (now text)) ⌝ }
+    ensures { λ _. ⌜ now (text .exit) ≡ sets (now (text .entry)) (5 * from) (lineOf (slice from to (now (table .entry)))) ⌝ }
+{
+    write_word(pairs, table[from], text, 5 * from);
+    write_word(pairs, table[from + 1], text, 5 * from + 5);
+    write_words(pairs, table, from + 2, to, text);
+    text[5 * to - 1] = 10;
 }

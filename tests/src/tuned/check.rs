@@ -17,16 +17,6 @@ struct Pass<'a> {
 type Fault = (u64, usize);
 
 pub fn check(table: &[u16], notes: &mut [u16]) -> Result<Found, Refused> {
-    check_with_ends(table, notes, |_| ())
-}
-
-/// Checks, and tells behind how many words each frame ends.
-#[inline(always)]
-pub fn check_with_ends(
-    table: &[u16],
-    notes: &mut [u16],
-    mut ended: impl FnMut(usize),
-) -> Result<Found, Refused> {
     if table.len() > 8192 {
         return Err((1, 0, 0));
     }
@@ -44,7 +34,6 @@ pub fn check_with_ends(
     let sizes = Sizes::new(d);
     let (mut inputs, mut latency, mut frame) = (0, 0, 1);
     let mut rest = &table[2..];
-    ended(2);
     while let [kind, ..] = *rest {
         let length = match sizes.words.get(usize::from(kind)) {
             None | Some(0) => return Err((5, frame, 0)),
@@ -60,7 +49,6 @@ pub fn check_with_ends(
             Err((rule, word)) => return Err((rule, frame, word)),
         }
         rest = after;
-        ended(table.len() - rest.len());
         frame += 1;
     }
     let Pass { wires, randoms, .. } = pass;

@@ -1,5 +1,5 @@
-//! The writer of text: the check's pass, which keeps where frames end, then one pass over the words.
-use super::{check, Refused};
+//! The writer of text: a check, then one pass over the words.
+use super::{check::check, Refused, Sizes};
 
 /// The two digits of each byte.
 const DIGITS: [[u8; 2]; 256] = {
@@ -14,25 +14,17 @@ const DIGITS: [[u8; 2]; 256] = {
 };
 
 pub fn write(table: &[u16], notes: &mut [u16], text: &mut [u8]) -> Result<usize, Refused> {
-    match table.len() {
-        0..=512 => write_up_to::<512>(table, notes, text),
-        _ => write_up_to::<8192>(table, notes, text),
-    }
-}
-
-/// Writes a table of at most `MOST` words. The row of what stands behind each word is filled before the check, so short
-/// tables have a shorter one.
-fn write_up_to<const MOST: usize>(
-    table: &[u16],
-    notes: &mut [u16],
-    text: &mut [u8],
-) -> Result<usize, Refused> {
-    let mut behind = [b' '; MOST];
-    // the remainder changes no place, and spares a test of it
-    check::check_with_ends(table, notes, |end| behind[(end - 1) % MOST] = b'\n')?;
+    let d = check(table, notes)?.d;
     let text = text.get_mut(..5 * table.len()).ok_or((23, 0, 0))?;
-    for ((place, &word), &behind) in text.chunks_exact_mut(5).zip(table).zip(&behind) {
+    let mut sizes = [2; 16];
+    sizes[1..9].copy_from_slice(&Sizes::new(d).words[1..]);
+    // how many words of the frame are left, this one among them
+    let mut left = 0;
+    for (place, &word) in text.chunks_exact_mut(5).zip(table) {
+        left = if left == 0 { sizes[usize::from(word % 16)] } else { left };
+        left -= 1;
         let [high, low] = word.to_be_bytes().map(|byte| DIGITS[usize::from(byte)]);
+        let behind = if left == 0 { b'\n' } else { b' ' };
         place.copy_from_slice(&[high[0], high[1], low[0], low[1], behind]);
     }
     Ok(text.len())

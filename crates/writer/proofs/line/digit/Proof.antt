@@ -1,14 +1,15 @@
--- Both kinds of digits by their test.
+-- A digit up to 9 is no letter, and one past it is.
 use native.Mathlib.Omega.{arith}
+use lib.Dec.{leb}
 use borrow.Author.Needs.{needs}
-use borrow.Author.Tests.{le-leb, lt-leb}
+use borrow.Author.Tests.{leb-true, leb-false}
+use Rattle.circuit.proofs.Base.{cases}
 use Rattle.writer.proofs.line.digit.Statement.{statement}
 use Rattle.writer.proofs.line.digit.Tie as tie
 
+returns : tie.Need-returns
+returns c = let n = c .args .n in
+    (cases (leb n 9) (λ e. let l = leb-true n 9 e in rw e (omega arith)) (λ e. let l = leb-false n 9 e in rw e (omega arith)), omega arith)
+
 pub digit-spec : {M : Type 1} → statement M
-digit-spec =
-    tie.close
-    (tie.spec
-    (λ c. search needs) (λ c. search needs)
-    (λ c. (rw (le-leb _ 9 (c .if1 .taken)), omega arith))
-    (λ c. (rw (lt-leb _ 9 (c .if1 .left)), omega arith)))
+digit-spec = tie.close (tie.spec (λ c. search needs) (λ c. search needs) (λ c. search needs) returns)

@@ -7,6 +7,7 @@ use lib.ListN.{getD, length-set}
 use lib.Seq.{sets}
 use borrow.Author.Needs.{needs}
 use denote.Ref.{now}
+use Rattle.text.specs.Lines.{space}
 use Rattle.writer.specs.Internal.Line.{pairOf}
 use Rattle.writer.proofs.Digits.{pair-second, digit-small, word-pairs}
 use Rattle.writer.proofs.line.write_word.Statement.{statement}
@@ -26,7 +27,7 @@ returns c =
     let e₃ : a .at + 3 ≡ suc (suc (suc (a .at))) = omega arith in
     let e₄ : a .at + 4 ≡ suc (suc (suc (suc (a .at)))) = omega arith in
     rw (pair s (a .word / 256) (omega arith) .0, pair s (a .word % 256) (omega arith) .0, e₁, e₂, e₃, e₄)
-    (ap (λ (ds : List ℕ). sets (now (a .text)) (a .at) (ds ++ a .mark ∷ [])) (sym (word-pairs (a .word) small)))
+    (ap (λ (ds : List ℕ). sets (now (a .text)) (a .at) (ds ++ space ∷ [])) (sym (word-pairs (a .word) small)))
 
 pub write-word-spec : {M : Type 1} → statement M
 write-word-spec =
