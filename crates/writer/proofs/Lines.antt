@@ -44,16 +44,20 @@ pub words-end : (text table : List ℕ) (i to : ℕ) → i ≤ to → to ≤ i �
 unfolding spacedOf
 words-end text table i to h l = let e : i ≡ to = omega arith in rw (e, slice-empty to table)
 
--- two words, the words behind them, and the line feed are the line
-pub line-written : (text table : List ℕ) (from to : ℕ) → from + 2 ≤ to → to ≤ length table → {one two all : List ℕ}
+-- two words, and those behind them
+pub words-two : (text table : List ℕ) (from to : ℕ) → from + 2 ≤ to → to ≤ length table → {one two all : List ℕ}
     → one ≡ sets text (5 * from) (digitsOf (getD table from 0) ++ space ∷ []) → two ≡ sets one (5 * from + 5) (digitsOf (getD table (from + 1) 0) ++ space ∷ [])
-    → all ≡ sets two (5 * (from + 2)) (spacedOf (slice (from + 2) to table)) → set all (5 * to - 1) lineFeed ≡ sets text (5 * from) (lineOf (slice from to table))
-line-written text table from to h l {one} {all = all} p q r =
+    → all ≡ sets two (5 * (from + 2)) (spacedOf (slice (from + 2) to table)) → all ≡ sets text (5 * from) (spacedOf (slice from to table))
+words-two text table from to h l {one} p q r =
     let e : 5 * from + 5 ≡ 5 * (from + 1) = omega arith in
     let f : from + 1 + 1 ≡ from + 2 = omega arith in
-    let words : sets text (5 * from) (spacedOf (slice from to table)) ≡ all
-    = words-turn text table from to (omega arith) l p ∙ words-turn one table (from + 1) to (omega arith) l (rw e at q) ∙ rw f (sym r) in
-    rw (sym words, slice-cons from to table 0 (omega arith) l)
+    sym (words-turn text table from to (omega arith) l p ∙ words-turn one table (from + 1) to (omega arith) l (rw e at q) ∙ rw f (sym r))
+
+-- the line feed in the last space's place makes the line
+pub line-ended : (text table : List ℕ) (from to : ℕ) → from < to → to ≤ length table → {all new : List ℕ} → all ≡ sets text (5 * from) (spacedOf (slice from to table))
+    → new ≡ set all (5 * to - 1) lineFeed → new ≡ sets text (5 * from) (lineOf (slice from to table))
+line-ended text table from to h l p q =
+    q ∙ rw (p, slice-cons from to table 0 h l)
     (feed-last text (5 * from) (getD table from 0) (slice (suc from) to table) (5 * to - 1) (omega (arith, length-slice (suc from) to table l)))
 
 -- words of a frame that has begun, and the frames behind them

@@ -3,7 +3,7 @@ use mathlib.Core.Path.{_≡_, refl, sym, ap, _∙_}
 use mathlib.Core.List.{List, [], _++_}
 use Prim.Native.Nat.{ℕ, _+_, _*_, _-_, _≤_}
 use native.Mathlib.Omega.{arith}
-use lib.ListN.{length, take, drop, take-append-drop}
+use lib.ListN.{length, set, take, drop, take-append-drop}
 use lib.Seq.{sets, slice, sets-eq, length-slice, length-take-le, drop-append-le, getD-drop, getD-take, length-sets}
 use Rattle.circuit.specs.Lists.{nth, overwrite}
 use Rattle.circuit.specs.Kinds.{kindOf, shape, words}
@@ -14,9 +14,10 @@ use Rattle.frames.specs.declared.kinds.Shape.{Shape as ShapeCode}
 use Rattle.gadgets.specs.Internal.Accepting.{AcceptedTable, Between}
 use Rattle.gadgets.proofs.Walking.{headed, between-start, Met}
 use Rattle.checker.proofs.Stores.{stores-append}
+use Rattle.text.specs.Lines.{lineFeed}
 use Rattle.writer.specs.Writer.{linesFrom, textOf}
-use Rattle.writer.specs.Internal.Line.{lineOf}
-use Rattle.writer.proofs.Lines.{line-length, lines-length, line-first}
+use Rattle.writer.specs.Internal.Line.{lineOf, spacedOf}
+use Rattle.writer.proofs.Lines.{line-length, lines-length, line-first, line-ended}
 
 -- a frame's words from one place of the table to another: its line is written, and the lines behind it are left
 frame-turn : (text table : List ℕ) (d at to : ℕ) → to ≤ length table → to ≡ at + 1 + words d (kindOf (nth table at))
@@ -36,21 +37,24 @@ frame-turn text table d at to l e =
 pub record LinesTo (table text₀ text : List ℕ) (at : ℕ) : Type 0 where
   pub accepted : AcceptedTable table
   pub between : Between table (accepted .fs) at
+  pub behind : 2 ≤ at
   pub sized : length text ≡ length text₀
   pub left : sets text₀ 10 (linesFrom (nth table 1) 0 (drop 2 table)) ≡ sets text (5 * at) (linesFrom (nth table 1) 0 (drop at table))
 
 -- behind HEAD's line
 pub lines-start : {table : List ℕ} (text : List ℕ) → AcceptedTable table → LinesTo table text text 2
-lines-start text a = record { accepted = a; between = between-start a; sized = refl; left = refl }
+lines-start text a = record { accepted = a; between = between-start a; behind = omega arith; sized = refl; left = refl }
 
 -- behind a frame that the walk meets
 pub lines-next : {table text₀ text : List ℕ} {at : ℕ} (h : LinesTo table text₀ text at) {w from : ℕ} {fr : FrameCode} {sh : ShapeCode} {wk : Walk}
-    → Met (h .accepted) (h .between) (nth table 1) w from fr sh wk → {new : List ℕ} → new ≡ sets text (5 * at) (lineOf (slice at (wk .at) table))
-    → LinesTo table text₀ new (wk .at)
-lines-next {table} {text = text} {at = at} h {wk = wk} m e =
+    → Met (h .accepted) (h .between) (nth table 1) w from fr sh wk → {all new : List ℕ} → all ≡ sets text (5 * at) (spacedOf (slice at (wk .at) table))
+    → new ≡ set all (5 * wk .at - 1) lineFeed → LinesTo table text₀ new (wk .at)
+lines-next {table} {text = text} {at = at} h {wk = wk} m p q =
+    let e = line-ended text table at (wk .at) (omega (arith, m .later)) (m .onward .most) p q in
     record {
       accepted = h .accepted;
       between = m .onward;
+      behind = omega (arith, m .later);
       sized = ap length e ∙ length-sets text (5 * at) (lineOf (slice at (wk .at) table)) ∙ h .sized;
       left = h .left ∙ frame-turn text table (nth table 1) at (wk .at) (m .onward .most) (m .place)
           ∙ ap (λ t. sets t (5 * wk .at) (linesFrom (nth table 1) 0 (drop (wk .at) table))) (sym e);
@@ -63,11 +67,12 @@ unfolding linesFrom
 lines-done h e = let none = h .between .rest ∙ ap wordsOf e in sym (h .left ∙ rw none)
 
 -- HEAD's line and those behind it
-pub head-and-lines : (table text : List ℕ) → AcceptedTable table → 5 * length table ≤ length text → {head new : List ℕ}
-    → head ≡ sets text (5 * 0) (lineOf (slice 0 2 table)) → new ≡ sets head 10 (linesFrom (nth table 1) 0 (drop 2 table)) → new ≡ overwrite (textOf table) text
+pub head-and-lines : (table text : List ℕ) → AcceptedTable table → 5 * length table ≤ length text → {all head new : List ℕ}
+    → all ≡ sets text (5 * 0) (spacedOf (slice 0 2 table)) → head ≡ set all (5 * 2 - 1) lineFeed → new ≡ sets head 10 (linesFrom (nth table 1) 0 (drop 2 table))
+    → new ≡ overwrite (textOf table) text
 unfolding textOf kindOf shape
-head-and-lines table text a room h w =
+head-and-lines table text a room p q w =
     let two : 2 ≡ 0 + 1 + words (nth table 1) (kindOf (nth table 0)) = rw (ap (λ t. nth t 0) (a .table-is)) in
     let size = lines-length (nth table 1) 0 table in
     let start : 0 + length (textOf table) ≡ length (textOf table) = omega arith in
-    w ∙ rw h (sym (frame-turn text table (nth table 1) 0 2 (headed a) two)) ∙ sets-eq (textOf table) text 0 (omega arith) ∙ ap (λ n. textOf table ++ drop n text) start
+    w ∙ rw (line-ended text table 0 2 (omega arith) (headed a) p q) (sym (frame-turn text table (nth table 1) 0 2 (headed a) two)) ∙ sets-eq (textOf table) text 0 (omega arith) ∙ ap (λ n. textOf table ++ drop n text) start

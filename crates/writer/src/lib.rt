@@ -53,7 +53,8 @@ fn write_frames(pairs: &[u16; 256], table: &[u16], text: &mut [u8])
                 shape: _,
                 walk: next,
             } => {
-                line::write(pairs, table, walk.at, next.at, text);
+                line::write_words(pairs, table, walk.at, next.at, text);
+                line::end_line(next.at, text);
                 walk = next;
             }
             Step::End => {
@@ -72,7 +73,8 @@ fn write_text(table: &[u16], text: &mut [u8])
     ensures { λ _. ⌜ now (text .exit) ≡ overwrite (textOf (now (table .entry))) (now (text .entry)) ⌝ }
 {
     let pairs = line::pairs();
-    line::write(&pairs, table, 0, 2, text);
+    line::write_words(&pairs, table, 0, 2, text);
+    line::end_line(2, text);
     write_frames(&pairs, table, text);
 }
 

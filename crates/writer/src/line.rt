@@ -1,12 +1,12 @@
 // A frame's words as a line: four digits 0-9A-F a word, a space between, a line feed behind the last.
 ghost use mathlib.Core.Path.{_≡_};
 ghost use mathlib.Core.List.{[], _∷_, _++_};
-ghost use Prim.Native.Nat.{_+_, _*_, _≤_, _<_};
-ghost use lib.ListN.{length};
+ghost use Prim.Native.Nat.{_+_, _*_, _-_, _≤_, _<_};
+ghost use lib.ListN.{length, set};
 ghost use lib.Seq.{sets, slice};
-ghost use Rattle.text.specs.Lines.{space};
+ghost use Rattle.text.specs.Lines.{lineFeed, space};
 ghost use Rattle.writer.specs.Writer.{digitByte, digitsOf};
-ghost use Rattle.writer.specs.Internal.Line.{lineOf, spacedOf, PairsTo};
+ghost use Rattle.writer.specs.Internal.Line.{spacedOf, PairsTo};
 
 // The byte of a digit: A is the byte 65, which comes 7 later than it would behind 9.
 fn digit(n: u16) -> u16
@@ -60,7 +60,7 @@ fn write_word(pairs: &[u16; 256], word: u16, text: &mut [u8], at: usize)
 }
 
 // The words from one place of the table to another, each with a space behind it, at their place in the text: five bytes a word.
-fn write_words(pairs: &[u16; 256], table: &[u16], from: usize, to: usize, text: &mut [u8])
+fn write_rest(pairs: &[u16; 256], table: &[u16], from: usize, to: usize, text: &mut [u8])
     requires { ⌜ PairsTo 256 (now pairs) × (from ≤ to) × (to ≤ length (now table)) × (5 * to ≤ length (now text)) ⌝ }
     ensures { λ _. ⌜ now (text .exit) ≡ sets (now (text .entry)) (5 * from) (spacedOf (slice from to (now (table .entry)))) ⌝ }
 {
@@ -71,13 +71,26 @@ fn write_words(pairs: &[u16; 256], table: &[u16], from: usize, to: usize, text: 
     }
 }
 
-// The same as a line, with a line feed in the last space's place. A frame has two words at least.
-pub(crate) fn write(pairs: &[u16; 256], table: &[u16], from: usize, to: usize, text: &mut [u8])
+// The same of a frame, which has two words at least: many have no more.
+pub(crate) fn write_words(
+    pairs: &[u16; 256],
+    table: &[u16],
+    from: usize,
+    to: usize,
+    text: &mut [u8],
+)
     requires { ⌜ PairsTo 256 (now pairs) × (from + 2 ≤ to) × (to ≤ length (now table)) × (5 * to ≤ length (now text)) ⌝ }
-    ensures { λ _. ⌜ now (text .exit) ≡ sets (now (text .entry)) (5 * from) (lineOf (slice from to (now (table .entry)))) ⌝ }
+    ensures { λ _. ⌜ now (text .exit) ≡ sets (now (text .entry)) (5 * from) (spacedOf (slice from to (now (table .entry)))) ⌝ }
 {
     write_word(pairs, table[from], text, 5 * from);
     write_word(pairs, table[from + 1], text, 5 * from + 5);
-    write_words(pairs, table, from + 2, to, text);
+    write_rest(pairs, table, from + 2, to, text);
+}
+
+// The end of the line whose last word comes before a place of the table: a line feed in the place of the last space.
+pub(crate) fn end_line(to: usize, text: &mut [u8])
+    requires { ⌜ (0 < to) × (5 * to ≤ length (now text)) ⌝ }
+    ensures { λ _. ⌜ now (text .exit) ≡ set (now (text .entry)) (5 * to - 1) lineFeed ⌝ }
+{
     text[5 * to - 1] = 10;
 }

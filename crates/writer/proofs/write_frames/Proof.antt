@@ -40,14 +40,25 @@ met : (c : tie.After-step2 Inv-loop μ-loop) → let h = lines (head c) in let k
     Met (h .accepted) (h .between) (nth (start (head c) .args .table .now) 1) (size k) (k .inputs * h .accepted .d) (g .0) (g .1 .0) (g .1 .1 .0)
 met c = answered (head c) (sym (c .before .before .step .ensures) ∙ c .step2 .given .1)
 
-write-requires : tie.Need-write-requires Inv-loop μ-loop
-write-requires c κs =
+write-words-requires : tie.Need-write-words-requires Inv-loop μ-loop
+write-words-requires c κs =
     let t = c .before .before in
     let m = met t in
-    (start (head t) .pre .0, omega (arith, m .later), m .onward .most, omega (arith, m .onward .most, lines (head t) .sized, start (head t) .pre .2))
+    (start (head t) .pre .0, m .later, m .onward .most, omega (arith, m .onward .most, lines (head t) .sized, start (head t) .pre .2))
 
-abbrev turn : tie.After-slice-known2 Inv-loop μ-loop → tie.After-step2 Inv-loop μ-loop
-turn c = c .before .before .before .before .before
+end-line-requires : tie.Need-end-line-requires Inv-loop μ-loop
+end-line-requires c κs =
+    let t = c .before .before .before .before .before .before in
+    let m = met t in
+    (omega (arith, lines (head t) .behind, m .later), omega (arith, m .later, m .onward .most, lines (head t) .sized, start (head t) .pre .2))
+
+abbrev turn : tie.After-slice-known3 Inv-loop μ-loop → tie.After-step2 Inv-loop μ-loop
+turn c = c .before .before .before .before .before .before .before .before .before
+
+loop-again : tie.Need-loop-again Inv-loop μ-loop
+loop-again c =
+    let e = c .before .before in
+    (met (turn c) .same, lines-next (lines (head (turn c))) (met (turn c)) (e .before .before .before .before .write-words .ensures) (e .end-line .ensures))
 
 pub write-frames-spec : {M : Type 1} → statement M
 write-frames-spec =
@@ -58,9 +69,10 @@ write-frames-spec =
     (λ c. omega (arith, headed (c .before .before .before .pre .1)))
     (λ c. (refl, lines-start _ (c .before .before .before .pre .1)))
     (λ c κs. search needs) (λ c. search needs)
-    write-requires
+    write-words-requires
+    end-line-requires
     (λ c. omega (arith, met (turn c) .later, met (turn c) .onward .most))
-    (λ c. (met (turn c) .same, lines-next (lines (head (turn c))) (met (turn c)) (c .before .before .write .ensures)))
+    loop-again
     (λ c. search needs)
     (λ c. lines (c .before .before .before) .sized)
     (λ c. let h = c .before .before .before in lines-done (lines h) (answered h (sym (c .before .before .step .ensures) ∙ c .enum-told .given .1)))

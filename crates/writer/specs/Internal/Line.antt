@@ -13,7 +13,7 @@ unfoldable pub lineOf : List ℕ → List ℕ
 lineOf [] = []
 lineOf (x ∷ rest) = digitsOf x ++ markBefore (length rest) ∷ lineOf rest
 
--- the same with a space behind the last word too
+-- the same with a space behind the last word too, in the line feed's place
 unfoldable pub spacedOf : List ℕ → List ℕ
 spacedOf [] = []
 spacedOf (x ∷ rest) = digitsOf x ++ space ∷ spacedOf rest
