@@ -21,12 +21,13 @@ digitByte n = cond (leb n 9) (48 + n) (55 + n)
 abbrev pub digitsOf : ℕ → List ℕ
 digitsOf x = digitByte (x / 4096) ∷ digitByte (x / 256 % 16) ∷ digitByte (x / 16 % 16) ∷ digitByte (x % 16) ∷ []
 
--- the byte behind a word: a space where so many words of its frame follow, a line feed where none does
+-- the mark behind a word, so many words of its frame being left: a space, or a line feed where none is
 abbrev pub markBefore : ℕ → ℕ
 markBefore zero = lineFeed
 markBefore (suc n) = space
 
--- the words of frames as lines, one frame a line; `left` words of a frame that has begun come first
+-- the words of frames as lines, one frame a line. A frame's words are counted by its kind; `left` words of a frame that has begun
+-- come first
 unfoldable pub linesFrom : (d left : ℕ) → List ℕ → List ℕ
 linesFrom d left [] = []
 linesFrom d (suc n) (x ∷ rest) = digitsOf x ++ markBefore n ∷ linesFrom d n rest
@@ -34,7 +35,7 @@ linesFrom d zero (x ∷ rest) =
     let n = words d (kindOf x) in
     digitsOf x ++ markBefore n ∷ linesFrom d n rest
 
--- the text of a table, HEAD's line among them
+-- the text of a table, from HEAD on, whose second word is d
 unfoldable pub textOf : List ℕ → List ℕ
 textOf table = linesFrom (nth table 1) 0 table
 

@@ -78,8 +78,8 @@ fn write_text(table: &[u16], text: &mut [u8])
     write_frames(&pairs, table, text);
 }
 
-// Checks a table, then writes its text. A refusal leaves the text as found; what the text is for, the last two promises say: the
-// reader accepts it as this very table, and no other text as it.
+// Checks a table, then writes its text. A refusal leaves the text as found. The last two promises say what the text is good for:
+// the reader accepts it as this very table, and no other text as it.
 pub fn write(table: &[u16], notes: &mut [u16], text: &mut [u8]) -> TextVerdict
     ensures answered { λ r. ⌜ textAnswer r ≡ writeAnswer (now (table .entry)) (now (notes .entry)) (now (text .entry)) ⌝ }
     ensures noted { λ _. ⌜ now (notes .exit) ≡ notesAfter (checked (now (table .entry)) (length (now (notes .entry))) .circuit) (now (notes .entry)) ⌝ }

@@ -8,7 +8,7 @@ ghost use Rattle.text.specs.Lines.{lineFeed, space};
 ghost use Rattle.writer.specs.Writer.{digitByte, digitsOf};
 ghost use Rattle.writer.specs.Internal.Line.{spacedOf, PairsTo};
 
-// The byte of a digit: A is the byte 65, which comes 7 later than it would behind 9.
+// The byte of a digit: 0 is the byte 48, and the letters come 7 later than right behind 9.
 fn digit(n: u16) -> u16
     requires { ⌜ n < 16 ⌝ }
     ensures { λ r. ⌜ (r ≡ digitByte n) × (r < 128) ⌝ }
@@ -16,7 +16,7 @@ fn digit(n: u16) -> u16
     48 + n + n / 10 * 7
 }
 
-// The pairs of the bytes whose first digit is `i`, behind those before them.
+// The pairs of the bytes whose first digit is `i`, behind those of the bytes before them.
 fn pair_row(pairs: &mut [u16; 256], i: usize)
     requires { ⌜ (i < 16) × PairsTo (16 * i) (now pairs) ⌝ }
     ensures { λ _. ⌜ PairsTo (16 * i + 16) (now (pairs .exit)) ⌝ }
@@ -29,8 +29,8 @@ fn pair_row(pairs: &mut [u16; 256], i: usize)
     }
 }
 
-// By a byte, its two digits: the first one is the lower half. A caller holds them in an array of its own, so that they are made
-// once; row by row, so that the compiler makes each with a few vectors.
+// By a byte, its pair of digits: the first is the lower half. A caller holds the pairs in an array of its own, so that they are
+// made once; row by row, since the compiler then makes a row with a few vectors.
 pub(crate) fn pairs() -> [u16; 256]
     ensures { λ r. ⌜ PairsTo 256 r ⌝ }
 {

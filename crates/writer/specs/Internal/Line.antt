@@ -27,7 +27,7 @@ pub record PairsTo (bound : ℕ) (pairs : List ℕ) : Type 0 where
   pub size : length pairs ≡ 256
   pub entry : (n : ℕ) → n < bound → getD pairs n 0 ≡ pairOf n
 
--- the checker's refusal as an answer of text
+-- the checker's refusal as an answer of text (an answer that accepts is none)
 abbrev pub refusalIn : Answer → TextAnswer
 refusalIn (accepted wires randoms latency) = taken 0
 refusalIn (refused rule frame word) = refusedText rule frame word
