@@ -9,7 +9,7 @@ use lib.Seq.{sets, slice, slice-cons, slice-empty, length-slice, set-set}
 use Rattle.circuit.specs.Lists.{nth}
 use Rattle.circuit.specs.Kinds.{kindOf, shape, words}
 use Rattle.text.specs.Lines.{lineFeed, space}
-use Rattle.writer.specs.Writer.{digitsOf, markBefore, linesFrom, textOf}
+use Rattle.writer.specs.Writer.{digitsOf, linesFrom, textOf}
 use Rattle.writer.specs.Internal.Line.{lineOf, spacedOf}
 
 -- five bytes a word

@@ -1,18 +1,16 @@
 -- Whatever text the reader accepts as a table is that table's text.
 use mathlib.Core.Path.{_≡_, refl, sym, ap, ap₂, subst, _∙_}
-use mathlib.Core.Bool.{true, false, _&&_, false≢true}
-use mathlib.Core.List.{List, [], _∷_, _++_, append-assoc}
-use Prim.Native.Nat.{ℕ, suc, _<_}
-use native.Mathlib.Omega.{arith}
+use mathlib.Core.Bool.{true, _&&_, false≢true}
+use mathlib.Core.List.{List, [], _∷_, _++_}
+use Prim.Native.Nat.{ℕ}
 use lib.Dec.{eqb}
 use lib.ListN.{length}
 use borrow.Author.Tests.{eqb-true}
 use Rattle.circuit.specs.Lists.{concatMap}
-use Rattle.circuit.specs.Rules.{pass}
 use Rattle.circuit.proofs.Base.{cases, and-left, and-right, Every, every-imp}
-use Rattle.text.specs.Lines.{lineFeed, space, areDigits, word, Line, line, grow, linesOf, areWords, wordsOn}
-use Rattle.text.specs.Reader.{Read, wordsOf, readText}
-use Rattle.text.proofs.Accepted.{Formed, FrameLine, AcceptedText, text-accepted}
+use Rattle.text.specs.Lines.{lineFeed, space, areDigits, Line, line, grow, linesOf, areWords, wordsOn}
+use Rattle.text.specs.Reader.{Read, wordsOf}
+use Rattle.text.proofs.Accepted.{FrameLine, AcceptedText, text-accepted}
 use Rattle.writer.specs.Writer.{markBefore, linesFrom, textOf, OnlyText}
 use Rattle.writer.specs.Internal.Line.{lineOf}
 use Rattle.writer.proofs.Digits.{digits-told}

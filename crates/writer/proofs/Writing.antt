@@ -75,4 +75,6 @@ head-and-lines table text a room p q w =
     let two : 2 ≡ 0 + 1 + words (nth table 1) (kindOf (nth table 0)) = rw (ap (λ t. nth t 0) (a .table-is)) in
     let size = lines-length (nth table 1) 0 table in
     let start : 0 + length (textOf table) ≡ length (textOf table) = omega arith in
-    w ∙ rw (line-ended text table 0 2 (omega arith) (headed a) p q) (sym (frame-turn text table (nth table 1) 0 2 (headed a) two)) ∙ sets-eq (textOf table) text 0 (omega arith) ∙ ap (λ n. textOf table ++ drop n text) start
+    let head-line = line-ended text table 0 2 (omega arith) (headed a) p q in
+    w ∙ rw head-line (sym (frame-turn text table (nth table 1) 0 2 (headed a) two)) ∙ sets-eq (textOf table) text 0 (omega arith)
+    ∙ ap (λ n. textOf table ++ drop n text) start
