@@ -241,7 +241,10 @@ def explanation(text: bytes, rule: int, frame: int, word: int, name: str = "") -
     lines = lines_of(text[:JUDGED_BYTES])
     line = shown(lines[frame]) if frame < len(lines) else ""
     rows = told(rule, word, finding(text, rule, frame, word), name)
-    return "\n".join(rows + [f"  line {frame + 1} of the file (frame {frame}): {line or '(empty)'}"])
+    rows.append(f"  line {frame + 1} of the file (frame {frame}): {line or '(empty)'}")
+    if text[:2] == b"\0\0":
+        rows.append("  hint: the file begins with two bytes 00, as a table of 16-bit words does; ./show text takes one")
+    return "\n".join(rows)
 
 
 def main() -> int:

@@ -37,7 +37,7 @@ def line_of(words: list[int]) -> bytes:
 
 
 def finding(table: list[int], rule: int, frame: int, word: int) -> Finding:
-    """What was found and wanted where a table broke a rule from 1 to 14, or 22."""
+    """What was found and wanted where a table broke a rule: 1, 3 to 14, or 22."""
     frames = frames_of(table, frame)
     if rule == 1:
         return Finding("the file has more than {most:,} bytes, two for each word", {"most": MOST_BYTES})
@@ -48,7 +48,14 @@ def finding(table: list[int], rule: int, frame: int, word: int) -> Finding:
     return explain.finding(b"".join(map(line_of, frames)), rule, frame, word)
 
 
-def hint(data: bytes, order: str, facts: dict[str, int | str]) -> list[str]:
+def low_byte_fits(rule: int, facts: dict[str, int | str]) -> bool:
+    """Whether a number of shares, a label or a value is over a byte, and its low byte alone would do."""
+    if rule == 4:
+        return facts["found"] > 0xFF and 2 <= facts["found"] & 0xFF <= 8
+    return facts.get("cause") in ("label", "value") and facts["found"] > 0xFF and facts["found"] & 0xFF <= facts["most"]
+
+
+def hint(data: bytes, order: str, rule: int, facts: dict[str, int | str]) -> list[str]:
     """What may have gone wrong in the tool, as a row; none where nothing known shows."""
     other, given = OTHER[order]
     first = words_of(data[:4], other)
@@ -59,7 +66,7 @@ def hint(data: bytes, order: str, facts: dict[str, int | str]) -> list[str]:
     if len(first) == 2 and first[0] == HEAD and 2 <= first[1] <= 8:
         return [f"  hint: with the bytes of each word in the other order it begins {first[0]:04X} {first[1]:04X}: "
                 f"try it {given} --big-endian"]
-    if facts.get("cause") in ("label", "value") and facts["found"] > 0xFF and facts["found"] & 0xFF <= facts["most"]:
+    if low_byte_fits(rule, facts):
         return [f"  hint: the low byte alone, {facts['found'] & 0xFF:02X}, would do: is the high byte an alignment byte, "
                 "of a struct that was written whole?"]
     return []
@@ -67,8 +74,9 @@ def hint(data: bytes, order: str, facts: dict[str, int | str]) -> list[str]:
 
 def odd(data: bytes, order: str) -> str:
     """Why an odd number of bytes is no table."""
-    said = f"a table is 16-bit words, two bytes each, and here are {len(data):,} bytes, an odd number"
-    return "\n".join([said] + hint(data, order, {}))
+    here = "is 1 byte" if len(data) == 1 else f"are {len(data):,} bytes"
+    said = f"a table is 16-bit words, two bytes each, and here {here}, an odd number"
+    return "\n".join([said] + hint(data, order, 0, {}))
 
 
 def explanation(data: bytes, order: str, rule: int, frame: int, word: int) -> str:
@@ -80,4 +88,4 @@ def explanation(data: bytes, order: str, rule: int, frame: int, word: int) -> st
     if rule != 1 and frame < len(frames):
         before, line = sum(map(len, frames[:frame])), explain.shown(line_of(frames[frame]))
         rows.append(f"  frame {frame} (line {frame + 1} as text), from word {before} of the table: {line}")
-    return "\n".join(rows + hint(data, order, found.facts))
+    return "\n".join(rows + hint(data, order, rule, found.facts))

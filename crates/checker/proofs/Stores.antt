@@ -6,6 +6,7 @@ use native.Mathlib.Omega.{arith}
 use lib.ListN.{length, set}
 use lib.Seq.{sets}
 use Rattle.circuit.specs.Limits.{innerNote}
+use Rattle.circuit.proofs.Base.{stores-append}
 use Rattle.checker.specs.Internal.Notes.{innerWords, namedWords}
 
 -- before the first turn
@@ -57,12 +58,6 @@ named-turn label stage count i h =
 pub named-end : (label stage count i : ℕ) → i ≤ count → count ≤ i → namedWords (label + i) stage (count - i) ≡ []
 unfolding namedWords
 named-end label stage count i h l = let e : count - i ≡ 0 = omega arith in ap (namedWords (label + i) stage) e
-
--- a run of stores, and one behind it
-pub stores-append : (n : List ℕ) (p : ℕ) (xs ys : List ℕ) → sets n p (xs ++ ys) ≡ sets (sets n p xs) (p + length xs) ys
-stores-append n p [] ys = let e : p ≡ p + 0 = omega arith in ap (λ q. sets n q ys) e
-stores-append n p (x ∷ xs) ys = let e : suc p + length xs ≡ p + suc (length xs) = omega arith in
-    stores-append (set n p x) (suc p) xs ys ∙ ap (λ q. sets (sets (set n p x) (suc p) xs) q ys) e
 
 pub inner-length : (count : ℕ) → length (innerWords count) ≡ 2 * count
 unfolding innerWords

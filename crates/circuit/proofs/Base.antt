@@ -6,7 +6,8 @@ use mathlib.Core.Logic.{_⊎_, inl, inr}
 use Prim.Native.Nat.{ℕ, zero, suc, _+_, _≤_, _<_}
 use native.Mathlib.Omega.{arith}
 use lib.Dec.{eqb, ltb}
-use lib.ListN.{length}
+use lib.ListN.{length, set}
+use lib.Seq.{sets}
 use borrow.Author.Tests.{eq-eqb, ne-eqb, eqb-true, eqb-false, lt-ltb, ltb-true, ltb-false}
 use Rattle.circuit.specs.Lists.{_⊕_, mem, range, filter, concatMap}
 
@@ -80,6 +81,11 @@ ltb-other i j h k = lt-ltb j i (ne-lt i j h (ltb-false i j k))
 
 pub lt-ne : (j n : ℕ) → j < n → eqb j n ≡ false
 lt-ne j n h = ne-eqb j n (λ e. omega arith)
+
+-- what holds below a number, and of the number itself
+pub below-more : {P : ℕ → Type 0} (n : ℕ) → ((g : ℕ) → g < n → P g) → P n → (g : ℕ) → g < n + 1 → P g
+below-more {P} n h p g k = cases (ltb g n) (λ e. h g (ltb-true g n e))
+    (λ e. subst P (omega (arith, ltb-false g n e)) p)
 
 -- being on a list
 abbrev pub In : ℕ → List ℕ → Type 0
@@ -229,3 +235,9 @@ module _ {A : Type 0} (Q : ℕ → A → Type 0) where
 pub every-of : (Q : ℕ → Type 0) (xs : List ℕ) → ((i : ℕ) → In i xs → Q i) → Every Q xs
 every-of Q [] f = tt
 every-of Q (x ∷ xs) f = (f x (in-head x xs), every-of Q xs (λ i h. f i (in-tail i x xs h)))
+
+-- a run of stores, and one behind it
+pub stores-append : (n : List ℕ) (p : ℕ) (xs ys : List ℕ) → sets n p (xs ++ ys) ≡ sets (sets n p xs) (p + length xs) ys
+stores-append n p [] ys = let e : p ≡ p + 0 = omega arith in ap (λ q. sets n q ys) e
+stores-append n p (x ∷ xs) ys = let e : suc p + length xs ≡ p + suc (length xs) = omega arith in
+    stores-append (set n p x) (suc p) xs ys ∙ ap (λ q. sets (sets (set n p x) (suc p) xs) q ys) e

@@ -2,7 +2,7 @@
 use mathlib.Core.Path.{_≡_}
 use Prim.Native.Nat.{ℕ}
 use Rattle.circuit.specs.Answer.{Answer, accepted, refused}
-use Rattle.text.specs.Answer.{TextAnswer, accepted as read, refused as unread}
+use Rattle.text.specs.Answer.{TextAnswer, accepted as taken, refused as untaken}
 
 -- accepted: wires, random bits, latency; refused: frame, word, 0
 abbrev pub result : Answer → ℕ
@@ -27,18 +27,18 @@ pub record AnswerIs (answer : Answer) (r a b c : ℕ) : Type 0 where
   pub second-is : b ≡ second answer
   pub third-is : c ≡ third answer
 
--- text, accepted: words, 0; refused: line, word
+-- text, accepted: words read or bytes written, 0; refused: line (of a table: frame), word
 abbrev pub textResult : TextAnswer → ℕ
-textResult (read count) = 0
-textResult (unread rule line word) = rule
+textResult (taken count) = 0
+textResult (untaken rule line word) = rule
 
 abbrev pub textFirst : TextAnswer → ℕ
-textFirst (read count) = count
-textFirst (unread rule line word) = line
+textFirst (taken count) = count
+textFirst (untaken rule line word) = line
 
 abbrev pub textSecond : TextAnswer → ℕ
-textSecond (read count) = 0
-textSecond (unread rule line word) = word
+textSecond (taken count) = 0
+textSecond (untaken rule line word) = word
 
 pub record TextAnswerIs (answer : TextAnswer) (r a b : ℕ) : Type 0 where
   pub result-is : r ≡ textResult answer

@@ -4,23 +4,18 @@ use mathlib.Core.Bool.{true, false, cond, _&&_}
 use mathlib.Core.List.{List}
 use Prim.Native.Nat.{ℕ, zero, suc, _+_, _*_, _-_, _≤_, _<_}
 use native.Mathlib.Omega.{arith}
-use lib.Dec.{leb, ltb, eqb}
+use lib.Dec.{leb, eqb}
 use lib.ListN.{length, getD, set, drop}
 use lib.Seq.{getD-set-same, getD-set-other}
-use borrow.Author.Tests.{ltb-true, ltb-false, leb-true, leb-false, lt-ltb, le-leb, lt-leb}
+use borrow.Author.Tests.{leb-true, leb-false, lt-ltb, le-leb, lt-leb}
 use Rattle.circuit.specs.Limits.{tableLimit}
 use Rattle.circuit.specs.Kinds.{words, kindOf}
-use Rattle.circuit.proofs.Base.{cases, and-right}
+use Rattle.circuit.proofs.Base.{cases, and-right, below-more}
 use Rattle.text.specs.Lines.{lineFeed}
 use Rattle.text.specs.Internal.Scan.{feedOf, isWord, valueIn, countFrom, ruled, frameByCount}
 use Rattle.text.specs.Internal.Blocks.{blockWords, startOf, Whole, Split, Lengths, lineNumber}
 use Rattle.text.proofs.Scanning.{count-turn}
 use Rattle.text.proofs.Hex.{word-inside}
-
--- what holds below a number, and of the number itself
-pub below-more : {P : ℕ → Type 0} (n : ℕ) → ((g : ℕ) → g < n → P g) → P n → (g : ℕ) → g < n + 1 → P g
-below-more {P} n h p g k = cases (ltb g n) (λ e. h g (ltb-true g n e))
-    (λ e. subst P (omega (arith, ltb-false g n e)) p)
 
 -- where a line starts
 pub start-next : (ends : List ℕ) (g : ℕ) → startOf ends (g + 1) ≡ getD ends g 0

@@ -30,14 +30,15 @@ pub mark-most : (b : ℕ) → markCode b ≤ 4096
 unfolding markCode
 mark-most b = cases (isMark b) (λ e. rw e (omega (arith, feed-most b))) (λ e. rw e (omega arith))
 
--- a digit's code is its value
+-- a digit, whose code is its value
 pub record Known (b : ℕ) : Type 0 where
+  pub is : isDigit b ≡ true
   pub value : digitCode b ≡ digit b
   pub small : digit b ≤ 15
 
 known : (b : ℕ) → isDigit b ≡ true → Known b
 unfolding digitCode
-known b h = record { value = rw h; small = digit-small b h }
+known b h = record { is = h; value = rw h; small = digit-small b h }
 
 -- the four digits of a word
 pub record Digits (a b c e : ℕ) : Type 0 where

@@ -25,7 +25,8 @@ lines-length d zero (x ∷ xs) = omega (arith, lines-length d (words d (kindOf x
 lines-length d (suc n) (x ∷ xs) = omega (arith, lines-length d n xs)
 
 -- a word is written, with a space behind it: what is left of them
-pub words-turn : (text table : List ℕ) (i to : ℕ) → i < to → to ≤ length table → {new : List ℕ} → new ≡ sets text (5 * i) (digitsOf (getD table i 0) ++ space ∷ [])
+pub words-turn : (text table : List ℕ) (i to : ℕ) → i < to → to ≤ length table
+    → {new : List ℕ} → new ≡ sets text (5 * i) (digitsOf (getD table i 0) ++ space ∷ [])
     → sets text (5 * i) (spacedOf (slice i to table)) ≡ sets new (5 * (i + 1)) (spacedOf (slice (i + 1) to table))
 unfolding spacedOf
 words-turn text table i to h l w =
@@ -54,8 +55,8 @@ words-two text table from to h l {one} p q r =
     sym (words-turn text table from to (omega arith) l p ∙ words-turn one table (from + 1) to (omega arith) l (rw e at q) ∙ rw f (sym r))
 
 -- the line feed in the last space's place makes the line
-pub line-ended : (text table : List ℕ) (from to : ℕ) → from < to → to ≤ length table → {all new : List ℕ} → all ≡ sets text (5 * from) (spacedOf (slice from to table))
-    → new ≡ set all (5 * to - 1) lineFeed → new ≡ sets text (5 * from) (lineOf (slice from to table))
+pub line-ended : (text table : List ℕ) (from to : ℕ) → from < to → to ≤ length table
+    → {all new : List ℕ} → all ≡ sets text (5 * from) (spacedOf (slice from to table)) → new ≡ set all (5 * to - 1) lineFeed → new ≡ sets text (5 * from) (lineOf (slice from to table))
 line-ended text table from to h l p q =
     q ∙ rw (p, slice-cons from to table 0 h l)
     (feed-last text (5 * from) (getD table from 0) (slice (suc from) to table) (5 * to - 1) (omega (arith, length-slice (suc from) to table l)))

@@ -11,13 +11,13 @@ use Rattle.circuit.proofs.Base.{cases, and-left, and-right, Every, every-imp}
 use Rattle.text.specs.Lines.{lineFeed, space, areDigits, Line, line, grow, linesOf, areWords, wordsOn}
 use Rattle.text.specs.Reader.{Read, wordsOf}
 use Rattle.text.proofs.Accepted.{FrameLine, AcceptedText, text-accepted}
-use Rattle.writer.specs.Writer.{markBefore, linesFrom, textOf, OnlyText}
+use Rattle.writer.specs.Writer.{markBehind, linesFrom, textOf, OnlyText}
 use Rattle.writer.specs.Internal.Line.{lineOf}
-use Rattle.writer.proofs.Digits.{digits-told}
+use Rattle.writer.proofs.Digits.{digits-back}
 use Rattle.writer.proofs.Lines.{line-first, head-first}
 
 -- bytes of the form have a word
-has-word : (bytes : List ℕ) → areWords bytes ≡ true → markBefore (length (wordsOn bytes)) ≡ space
+has-word : (bytes : List ℕ) → areWords bytes ≡ true → markBehind (length (wordsOn bytes)) ≡ space
 unfolding areWords wordsOn
 has-word [] h = absurd (false≢true h)
 has-word (a ∷ []) h = absurd (false≢true h)
@@ -33,12 +33,13 @@ form-told [] h = absurd (false≢true h)
 form-told (a ∷ []) h = absurd (false≢true h)
 form-told (a ∷ b ∷ []) h = absurd (false≢true h)
 form-told (a ∷ b ∷ c ∷ []) h = absurd (false≢true h)
-form-told (a ∷ b ∷ c ∷ e ∷ []) h = ap (λ (ds : List ℕ). ds ++ lineFeed ∷ []) (digits-told a b c e h)
+form-told (a ∷ b ∷ c ∷ e ∷ []) h = ap (λ (ds : List ℕ). ds ++ lineFeed ∷ []) (digits-back a b c e h)
 form-told (a ∷ b ∷ c ∷ e ∷ s ∷ rest) h =
     let front = and-left (areDigits a b c e && eqb s space) (areWords rest) h in
     let more = and-right (areDigits a b c e && eqb s space) (areWords rest) h in
     let mark = has-word rest more ∙ sym (eqb-true s space (and-right (areDigits a b c e) (eqb s space) front)) in
-    ap (λ (ds : List ℕ). ds ++ markBefore (length (wordsOn rest)) ∷ lineOf (wordsOn rest)) (digits-told a b c e (and-left (areDigits a b c e) (eqb s space) front))
+    ap (λ (ds : List ℕ). ds ++ markBehind (length (wordsOn rest)) ∷ lineOf (wordsOn rest))
+    (digits-back a b c e (and-left (areDigits a b c e) (eqb s space) front))
     ∙ ap₂ (λ (m : ℕ) (bs : List ℕ). a ∷ b ∷ c ∷ e ∷ m ∷ bs) mark (form-told rest more)
 
 -- a line's bytes, with its line feed

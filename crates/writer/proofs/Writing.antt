@@ -13,7 +13,7 @@ use Rattle.frames.specs.declared.walk.Walk.{Walk}
 use Rattle.frames.specs.declared.kinds.Shape.{Shape as ShapeCode}
 use Rattle.gadgets.specs.Internal.Accepting.{AcceptedTable, Between}
 use Rattle.gadgets.proofs.Walking.{headed, between-start, Met}
-use Rattle.checker.proofs.Stores.{stores-append}
+use Rattle.circuit.proofs.Base.{stores-append}
 use Rattle.text.specs.Lines.{lineFeed}
 use Rattle.writer.specs.Writer.{linesFrom, textOf}
 use Rattle.writer.specs.Internal.Line.{lineOf, spacedOf}

@@ -22,18 +22,18 @@ abbrev pub digitsOf : ℕ → List ℕ
 digitsOf x = digitByte (x / 4096) ∷ digitByte (x / 256 % 16) ∷ digitByte (x / 16 % 16) ∷ digitByte (x % 16) ∷ []
 
 -- the mark behind a word, so many words of its frame being left: a space, or a line feed where none is
-abbrev pub markBefore : ℕ → ℕ
-markBefore zero = lineFeed
-markBefore (suc n) = space
+abbrev pub markBehind : ℕ → ℕ
+markBehind zero = lineFeed
+markBehind (suc n) = space
 
 -- the words of frames as lines, one frame a line. A frame's words are counted by its kind; `left` words of a frame that has begun
 -- come first
 unfoldable pub linesFrom : (d left : ℕ) → List ℕ → List ℕ
 linesFrom d left [] = []
-linesFrom d (suc n) (x ∷ rest) = digitsOf x ++ markBefore n ∷ linesFrom d n rest
+linesFrom d (suc n) (x ∷ rest) = digitsOf x ++ markBehind n ∷ linesFrom d n rest
 linesFrom d zero (x ∷ rest) =
     let n = words d (kindOf x) in
-    digitsOf x ++ markBefore n ∷ linesFrom d n rest
+    digitsOf x ++ markBehind n ∷ linesFrom d n rest
 
 -- the text of a table, from HEAD on, whose second word is d
 unfoldable pub textOf : List ℕ → List ℕ

@@ -9,7 +9,7 @@ ghost use Rattle.writer.specs.Writer.{digitByte, digitsOf};
 ghost use Rattle.writer.specs.Internal.Line.{spacedOf, PairsTo};
 
 // The byte of a digit: 0 is the byte 48, and the letters come 7 later than right behind 9.
-fn digit(n: u16) -> u16
+fn digit_byte(n: u16) -> u16
     requires { ⌜ n < 16 ⌝ }
     ensures { λ r. ⌜ (r ≡ digitByte n) × (r < 128) ⌝ }
 {
@@ -21,10 +21,10 @@ fn pair_row(pairs: &mut [u16; 256], i: usize)
     requires { ⌜ (i < 16) × PairsTo (16 * i) (now pairs) ⌝ }
     ensures { λ _. ⌜ PairsTo (16 * i + 16) (now (pairs .exit)) ⌝ }
 {
-    let first = digit(i as u16);
+    let first = digit_byte(i as u16);
     let mut j = 0;
     while j < 16 {
-        pairs[16 * i + j] = first + 256 * digit(j as u16);
+        pairs[16 * i + j] = first + 256 * digit_byte(j as u16);
         j += 1;
     }
 }

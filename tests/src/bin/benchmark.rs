@@ -60,7 +60,8 @@ impl Load {
             1 => calls.evaluate(table, notes, shares, tape, values),
             2 => calls.read_probes(table, notes, shares, tape, values, probes, reading),
             3 => calls.read_text(self.text.as_bytes(), &mut self.table),
-            _ => calls.write_text(table, notes, &mut self.written),
+            4 => calls.write_text(table, notes, &mut self.written),
+            _ => unreachable!("{} has no arm", NAMES[call]),
         }
     }
 

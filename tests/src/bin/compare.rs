@@ -10,6 +10,8 @@ use masked_tests::reference::Reference;
 use std::process::exit;
 
 const CALLS: usize = NAMES.len();
+/// The number of write_text in NAMES.
+const WRITE_TEXT: usize = 4;
 /// The results that a call may have: accepted, and the rules' numbers.
 const RULES: usize = 24;
 /// Bytes or words of junk before and after each lent buffer.
@@ -49,7 +51,8 @@ impl Buffers {
             1 => calls.evaluate(&case.table, notes, shares, tape, values),
             2 => calls.read_probes(&case.table, notes, shares, tape, values, probes, reading),
             3 => calls.read_text(&case.text, table),
-            _ => calls.write_text(&case.table, notes, text),
+            WRITE_TEXT => calls.write_text(&case.table, notes, text),
+            _ => unreachable!("{} has no arm", NAMES[call]),
         }
     }
 
@@ -141,7 +144,8 @@ fn wanted_rules(call: usize) -> Vec<usize> {
         1 => (0..=18).chain([22]).collect(),
         2 => (0..=19).chain([22]).collect(),
         3 => vec![0, 3, 4, 5, 6, 20, 21],
-        _ => (0..=14).chain([22, 23]).collect(),
+        WRITE_TEXT => (0..=14).chain([22, 23]).collect(),
+        _ => unreachable!("{} has no rules", NAMES[call]),
     }
 }
 
@@ -227,7 +231,7 @@ impl Tally {
         let done = (0..CALLS)
             .map(|call| agree(call, other, case, &junk))
             .collect::<Result<Vec<(Answer, Buffers)>, String>>()?;
-        if let (Answer { result: 0, numbers: [bytes, ..] }, buffers) = &done[CALLS - 1] {
+        if let (Answer { result: 0, numbers: [bytes, ..] }, buffers) = &done[WRITE_TEXT] {
             let text = &buffers.text[GUARD..GUARD + *bytes as usize];
             read_back(random, other, &case.table, text)?;
             self.read_back += 1;

@@ -16,7 +16,7 @@ use Rattle.text.specs.Answer.{TextAnswer, answer, accepted}
 use Rattle.gadgets.proofs.Walking.{least-notes}
 use Rattle.writer.specs.Writer.{textOf, writeRule, writeAnswer, textAfter, ReadsBack, OnlyText}
 use Rattle.writer.specs.Internal.Line.{refusalIn}
-use Rattle.writer.proofs.ReadingBack.{Small, reads-back}
+use Rattle.writer.proofs.ReadingBack.{Word16, reads-back}
 use Rattle.writer.proofs.OnlyText.{only-text}
 use Rattle.writer.proofs.Calling.{text-length, refuses, short, fits}
 use Rattle.writer.proofs.write.Statement.{statement}
@@ -35,7 +35,7 @@ abbrev text : tie.After-check → List ℕ
 text c = start c .args .text .now
 
 -- the elements of a slice of 16-bit words
-small : (c : tie.After-check) (i : ℕ) → Small (nth (table c) i)
+small : (c : tie.After-check) (i : ℕ) → Word16 (nth (table c) i)
 small c i = omega (arith, c .before .before .before .before .shared-slice-known .given i)
 
 -- the five promises, once the call comes to a judgement

@@ -6,12 +6,12 @@ use lib.ListN.{length, getD}
 use Rattle.circuit.specs.Answer.{Answer, accepted, refused}
 use Rattle.text.specs.Lines.{space}
 use Rattle.text.specs.Answer.{TextAnswer, accepted as taken, refused as refusedText}
-use Rattle.writer.specs.Writer.{digitByte, digitsOf, markBefore}
+use Rattle.writer.specs.Writer.{digitByte, digitsOf, markBehind}
 
 -- the words of one frame as a line
 unfoldable pub lineOf : List ℕ → List ℕ
 lineOf [] = []
-lineOf (x ∷ rest) = digitsOf x ++ markBefore (length rest) ∷ lineOf rest
+lineOf (x ∷ rest) = digitsOf x ++ markBehind (length rest) ∷ lineOf rest
 
 -- the same with a space behind the last word too, in the line feed's place
 unfoldable pub spacedOf : List ℕ → List ℕ

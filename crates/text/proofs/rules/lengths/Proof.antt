@@ -8,7 +8,7 @@ use borrow.Author.Needs.{needs}
 use Rattle.circuit.specs.Kinds.{words, kindOf}
 use Rattle.frames.specs.declared.kinds.Shape.{Shape}
 use Rattle.text.proofs.Scanning.{words-most}
-use Rattle.text.proofs.Blocks.{below-more}
+use Rattle.circuit.proofs.Base.{below-more}
 use Rattle.text.proofs.rules.lengths.Statement.{statement}
 use Rattle.text.proofs.rules.lengths.Tie as tie
 

@@ -6,7 +6,8 @@ use lib.ListN.{getD}
 use borrow.Author.Needs.{needs}
 use denote.Ref.{now}
 use Rattle.text.specs.Internal.Blocks.{startOf, lineNumber, numberOf}
-use Rattle.text.proofs.Blocks.{below-more, start-next, number-fits}
+use Rattle.circuit.proofs.Base.{below-more}
+use Rattle.text.proofs.Blocks.{start-next, number-fits}
 use Rattle.text.proofs.rules.taken.Statement.{statement}
 use Rattle.text.proofs.rules.taken.Tie as tie
 

@@ -20,7 +20,7 @@ loop-again c =
     let i = h .before .before .args .i in (
       omega arith,
       pairs-to (omega arith) (pairs-more (h .loop .inv .1) (omega arith)
-          (ap₂ (λ x y. x + 256 * y) (h .before .digit .ensures .0) (c .digit2 .ensures .0) ∙ sym (pair-of i (h .loop .j) (omega arith)))),
+          (ap₂ (λ x y. x + 256 * y) (h .before .digit-byte .ensures .0) (c .digit-byte2 .ensures .0) ∙ sym (pair-of i (h .loop .j) (omega arith)))),
     )
 
 pub pair-row-spec : {M : Type 1} → statement M

@@ -9,13 +9,13 @@ use borrow.Author.Needs.{needs}
 use denote.Ref.{now}
 use Rattle.text.specs.Lines.{space}
 use Rattle.writer.specs.Internal.Line.{pairOf}
-use Rattle.writer.proofs.Digits.{pair-second, digit-small, word-pairs}
+use Rattle.writer.proofs.Digits.{pair-second, byte-small, word-pairs}
 use Rattle.writer.proofs.line.write_word.Statement.{statement}
 use Rattle.writer.proofs.line.write_word.Tie as tie
 
 -- the pair of a byte, and its second digit
 pair : (s : tie.Start) (n : ℕ) → n < 256 → (getD (now (s .args .pairs)) n 0 ≡ pairOf n) × (pairOf n / 256 < 128)
-pair s n h = (s .pre .0 .entry n h, rw (pair-second n h) (digit-small (n % 16) (omega arith)))
+pair s n h = (s .pre .0 .entry n h, rw (pair-second n h) (byte-small (n % 16) (omega arith)))
 
 returns : tie.Need-returns
 returns c =

@@ -14,7 +14,8 @@ returns : tie.Need-returns
 returns c =
     let s = first c .before .before .before .before .before in
     let a = s .args in
-    words-two (a .text .now) (a .table .now) (a .from) (a .to) (s .pre .1) (s .pre .2) (first c .write-word .ensures) (second c .write-word2 .ensures) (c .before .before .write-rest .ensures)
+    words-two (a .text .now) (a .table .now) (a .from) (a .to) (s .pre .1) (s .pre .2)
+    (first c .write-word .ensures) (second c .write-word2 .ensures) (c .before .before .write-rest .ensures)
 
 pub write-words-spec : {M : Type 1} → statement M
 write-words-spec =
