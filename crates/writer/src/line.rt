@@ -30,7 +30,7 @@ fn pair_row(pairs: &mut [u16; 256], i: usize)
 }
 
 // By a byte, its pair of digits: the first is the lower half. A caller holds the pairs in an array of its own, so that they are
-// made once; row by row, since the compiler then makes a row with a few vectors.
+// made once; row by row, since the compiler then makes a constant of them.
 pub(crate) fn pairs() -> [u16; 256]
     ensures { λ r. ⌜ PairsTo 256 r ⌝ }
 {
