@@ -10,8 +10,8 @@ use lib.Seq.{getD-set-same, getD-set-other}
 use borrow.Author.Tests.{leb-true, leb-false, le-leb, lt-leb}
 use Rattle.circuit.proofs.Base.{cases, and-left, and-right, below-more}
 use Rattle.text.specs.Lines.{isDecimal, isLetter, isDigit, digit, areDigits, word}
-use Rattle.writer.specs.Writer.{digitByte, digitsOf}
 use Rattle.text.proofs.Hex.{Digits, digits}
+use Rattle.writer.specs.Writer.{digitByte, digitsOf}
 use Rattle.writer.specs.Internal.Line.{pairOf, PairsTo}
 
 pub byte-small : (n : ℕ) → n < 16 → digitByte n < 128
@@ -91,8 +91,8 @@ pub digits-back : (a b c e : ℕ) → areDigits a b c e ≡ true → digitsOf (w
 digits-back a b c e h =
     let k : Digits a b c e = digits a b c e h in
     let x = word a b c e in
-    let t : x / 4096 ≡ digit a = omega (arith, k .first .small, k .second .small, k .third .small, k .last .small) in
-    let u : x / 256 % 16 ≡ digit b = omega (arith, k .first .small, k .second .small, k .third .small, k .last .small) in
-    let v : x / 16 % 16 ≡ digit c = omega (arith, k .first .small, k .second .small, k .third .small, k .last .small) in
-    let z : x % 16 ≡ digit e = omega (arith, k .first .small, k .second .small, k .third .small, k .last .small) in
+    let t : x / 4096 ≡ digit a = omega arith in
+    let u : x / 256 % 16 ≡ digit b = omega arith in
+    let v : x / 16 % 16 ≡ digit c = omega arith in
+    let z : x % 16 ≡ digit e = omega arith in
     rw (t, u, v, z, digit-back a (k .first .is), digit-back b (k .second .is), digit-back c (k .third .is), digit-back e (k .last .is))

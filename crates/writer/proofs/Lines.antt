@@ -24,7 +24,7 @@ lines-length d left [] = refl
 lines-length d zero (x ∷ xs) = omega (arith, lines-length d (words d (kindOf x)) xs)
 lines-length d (suc n) (x ∷ xs) = omega (arith, lines-length d n xs)
 
--- a word is written, with a space behind it: what is left of them
+-- words are written, each with a space behind it: one of them is, and what is left; none is left
 pub words-turn : (text table : List ℕ) (i to : ℕ) → i < to → to ≤ length table
     → {new : List ℕ} → new ≡ sets text (5 * i) (digitsOf (getD table i 0) ++ space ∷ [])
     → sets text (5 * i) (spacedOf (slice i to table)) ≡ sets new (5 * (i + 1)) (spacedOf (slice (i + 1) to table))
@@ -33,13 +33,6 @@ words-turn text table i to h l w =
     let e : slice i to table ≡ getD table i 0 ∷ slice (i + 1) to table = rw add-one (slice-cons i to table 0 h l) in
     let p : 5 * (i + 1) ≡ suc (suc (suc (suc (suc (5 * i))))) = omega arith in
     rw (e, p, w)
-
--- the last space replaced by a line feed
-feed-last : (text : List ℕ) (at x : ℕ) (ws : List ℕ) (last : ℕ) → last + 1 ≡ at + 5 * length (x ∷ ws)
-    → set (sets text at (spacedOf (x ∷ ws))) last lineFeed ≡ sets text at (lineOf (x ∷ ws))
-unfolding spacedOf lineOf
-feed-last text at x [] last e = let z : last ≡ suc (suc (suc (suc at))) = omega arith in rw z (set-set (sets text at (digitsOf x)) (suc (suc (suc (suc at)))) space lineFeed)
-feed-last text at x (y ∷ ws) last e = feed-last (sets text at (digitsOf x ++ space ∷ [])) (suc (suc (suc (suc (suc at))))) y ws last (omega arith)
 
 pub words-end : (text table : List ℕ) (i to : ℕ) → i ≤ to → to ≤ i → sets text (5 * i) (spacedOf (slice i to table)) ≡ text
 unfolding spacedOf
@@ -55,8 +48,15 @@ words-two text table from to h l {one} p q r =
     sym (words-turn text table from to (omega arith) l p ∙ words-turn one table (from + 1) to (omega arith) l (rw e at q) ∙ rw f (sym r))
 
 -- the line feed in the last space's place makes the line
+feed-last : (text : List ℕ) (at x : ℕ) (ws : List ℕ) (last : ℕ) → last + 1 ≡ at + 5 * length (x ∷ ws)
+    → set (sets text at (spacedOf (x ∷ ws))) last lineFeed ≡ sets text at (lineOf (x ∷ ws))
+unfolding spacedOf lineOf
+feed-last text at x [] last e = let z : last ≡ suc (suc (suc (suc at))) = omega arith in rw z (set-set (sets text at (digitsOf x)) (suc (suc (suc (suc at)))) space lineFeed)
+feed-last text at x (y ∷ ws) last e = feed-last (sets text at (digitsOf x ++ space ∷ [])) (suc (suc (suc (suc (suc at))))) y ws last (omega arith)
+
 pub line-ended : (text table : List ℕ) (from to : ℕ) → from < to → to ≤ length table
-    → {all new : List ℕ} → all ≡ sets text (5 * from) (spacedOf (slice from to table)) → new ≡ set all (5 * to - 1) lineFeed → new ≡ sets text (5 * from) (lineOf (slice from to table))
+    → {all new : List ℕ} → all ≡ sets text (5 * from) (spacedOf (slice from to table))
+    → new ≡ set all (5 * to - 1) lineFeed → new ≡ sets text (5 * from) (lineOf (slice from to table))
 line-ended text table from to h l p q =
     q ∙ rw (p, slice-cons from to table 0 h l)
     (feed-last text (5 * from) (getD table from 0) (slice (suc from) to table) (5 * to - 1) (omega (arith, length-slice (suc from) to table l)))
