@@ -22,10 +22,10 @@ apart i j ys h n = cases (eqb i j) (λ e. clash (subst (λ (x : ℕ). In x ys) (
 
 -- the pairs, sharing by sharing
 module _ (k : Circuit) (probes : List ℕ) (reading : List ℕ) where
-  abbrev ofSharing : (secrets shares : List Bool) → ℕ
+  abbrev pub ofSharing : (secrets shares : List Bool) → ℕ
   ofSharing secrets shares = cond (alike Bool·beq (secretsOf (k .d) (k .inputs) shares) secrets) (tapesFor k probes [] shares reading) 0
 
-  by-sharing : (secrets : List Bool) → pairsFor k probes secrets reading ≡ sumBits (k .inputs * k .d) (ofSharing secrets)
+  pub by-sharing : (secrets : List Bool) → pairsFor k probes secrets reading ≡ sumBits (k .inputs * k .d) (ofSharing secrets)
   unfolding pairsFor tapesFor
   by-sharing secrets =
       let right : List Bool → Bool = λ shares. alike Bool·beq (secretsOf (k .d) (k .inputs) shares) secrets in

@@ -1,0 +1,5 @@
+-- Sharings of given secret bits by their free bits, and all pairs by their numbers
+pub mod Free
+pub mod Numbered
+-- What is counted, by the pairs' numbers
+pub mod Shown

@@ -1,0 +1,49 @@
+-- Pairs of a sharing and a tape by their free bits, all pairs by their numbers, and the combination that the read wires show in each.
+use mathlib.Core.Bool.{Bool, cond}
+use mathlib.Core.List.{List, [], _∷_, _++_, map}
+use Prim.Native.Nat.{ℕ, zero, suc, _+_, _-_, _*_, _/_, _%_, _^_}
+use lib.Dec.{eqb}
+use lib.ListN.{length, take, drop}
+use Rattle.circuit.specs.Lists.{_⊕_}
+use Rattle.circuit.specs.Circuit.{Circuit, isSet}
+use Rattle.semantics.specs.Values.{byte, at, valuesOf}
+use Rattle.semantics.specs.Counts.{parity}
+use Rattle.counting.specs.Counting.{freeBits, readWires}
+
+-- shares of secret bits: of each IN the next so many free bits, then the bit that completes them
+unfoldable pub completed : (others : ℕ) (secrets free : List Bool) → List Bool
+completed n [] free = []
+completed n (z ∷ zs) free = take n free ++ (z ⊕ parity (take n free)) ∷ completed n zs (drop n free)
+
+-- the sum of a function over the numbers below n
+abbrev pub sumTo : (n : ℕ) → (ℕ → ℕ) → ℕ
+sumTo zero f = 0
+sumTo (suc n) f = sumTo n f + f n
+
+-- the free bits of the pair of a number: its binary digits, the lowest first
+abbrev pub freeOf : (count number : ℕ) → List Bool
+freeOf zero t = []
+freeOf (suc n) t = isSet (t % 2) ∷ freeOf n (t / 2)
+
+-- the number of a combination of bits, the first the highest
+abbrev pub numberOf : List Bool → ℕ
+numberOf [] = 0
+numberOf (b ∷ bs) = byte b * 2 ^ length bs + numberOf bs
+
+module _ (k : Circuit) (probes : List ℕ) (secrets : List Bool) where
+  -- the sharing and the tape of free bits, and what the read wires show
+  abbrev pub sharingOf : List Bool → List Bool
+  sharingOf free = completed (k .d - 1) secrets free
+
+  abbrev pub tapeOf : List Bool → List Bool
+  tapeOf free = drop ((k .d - 1) * k .inputs) free
+
+  abbrev pub seen : List Bool → List Bool
+  seen free = map (at (valuesOf (k .wires) (sharingOf free) (tapeOf free))) (readWires k probes)
+
+  -- the number of the combination that the pair of a number shows, and how many of the first t pairs show that of n
+  abbrev pub seenIn : ℕ → ℕ
+  seenIn t = numberOf (seen (freeOf (freeBits k) t))
+
+  abbrev pub shownTo : (t n : ℕ) → ℕ
+  shownTo t n = sumTo t (λ u. cond (eqb (seenIn u) n) 1 0)
