@@ -3,3 +3,8 @@ pub mod Free
 pub mod Numbered
 -- What is counted, by the pairs' numbers
 pub mod Shown
+-- The wires that are read
+pub mod Marked
+-- Eight pairs at once
+pub mod Gathering
+pub mod Adding

@@ -17,6 +17,13 @@ use Rattle.secrecy.proofs.Sums.{sumBits}
 use Rattle.counting.specs.Counting.{combinations}
 use Rattle.counting.specs.Internal.Pairs.{freeOf, sumTo, numberOf}
 
+-- powers of two grow
+pub pow-mono : (m n : ℕ) → n ≤ m → 2 ^ n ≤ 2 ^ m
+pow-mono zero n l = let e : n ≡ 0 = omega arith in rw e (omega arith)
+pow-mono (suc m) n l = cases (ltb n (suc m))
+    (λ h. rw (pow-suc 2 m) (omega (arith, pow-mono m n (omega (arith, ltb-true n (suc m) h)))))
+    (λ h. let e : n ≡ suc m = omega (arith, ltb-false n (suc m) h) in rw e (omega arith))
+
 pub sum-to-same : (n : ℕ) (f g : ℕ → ℕ) → ((t : ℕ) → t < n → f t ≡ g t) → sumTo n f ≡ sumTo n g
 sum-to-same zero f g h = refl
 sum-to-same (suc n) f g h = ap₂ _+_ (sum-to-same n f g (λ t l. h t (omega arith))) (h n (omega arith))

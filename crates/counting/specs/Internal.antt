@@ -1,2 +1,7 @@
 -- Pairs of a sharing and a tape, by their free bits
 pub mod Pairs
+-- The wires that are read, and the list of counts
+pub mod Reading
+pub mod Listing
+-- Eight pairs at once
+pub mod Lanes

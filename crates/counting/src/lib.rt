@@ -1,6 +1,9 @@
-// Counts, for all sharings and tapes of an accepted circuit, how often the read wires have each combination of values.
-use checker::Verdict;
+// Counts, over all sharings of two sets of secret bits and all tapes, how often the wires that probes read have each combination of
+// values in an accepted circuit.
+ghost use mathlib.Core.Path.{_≡_};
 
-pub fn none(verdict: Verdict) -> Verdict {
-    verdict
-}
+mod lanes;
+mod listing;
+mod numbers;
+mod pairs;
+mod read;

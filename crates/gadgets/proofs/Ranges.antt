@@ -14,11 +14,11 @@ use Rattle.circuit.specs.Gadgets.{labels, above, others}
 use Rattle.circuit.proofs.Base.{cases, lt-ne, eqb-sym, eqb-refl, In, in-head, in-tail, AllFrom, all-append}
 
 -- a range in two parts, and the numbers of it that are kept
-range-split : (n a b : ℕ) → range n (a + b) ≡ range n a ++ range (n + a) b
+pub range-split : (n a b : ℕ) → range n (a + b) ≡ range n a ++ range (n + a) b
 range-split n zero b = simp (zero-add, add-zero)
 range-split n (suc a) b = simp (suc-add, add-suc, range-split (suc n) a b)
 
-filter-append : (p : ℕ → Bool) (xs ys : List ℕ) → filter p (xs ++ ys) ≡ filter p xs ++ filter p ys
+pub filter-append : (p : ℕ → Bool) (xs ys : List ℕ) → filter p (xs ++ ys) ≡ filter p xs ++ filter p ys
 filter-append p [] ys = refl
 filter-append p (x ∷ xs) ys = cases (p x) (λ e. rw (e, filter-append p xs ys)) (λ e. rw (e, filter-append p xs ys))
 
@@ -26,7 +26,7 @@ filter-all : (p : ℕ → Bool) (n c : ℕ) → ((j : ℕ) → n ≤ j → j < n
 filter-all p n zero h = refl
 filter-all p n (suc c) h = rw (h n (omega arith) (omega arith), filter-all p (suc n) c (λ j l k. h j (omega arith) (omega arith)))
 
-filter-none : (p : ℕ → Bool) (n c : ℕ) → ((j : ℕ) → n ≤ j → j < n + c → p j ≡ false) → filter p (range n c) ≡ []
+pub filter-none : (p : ℕ → Bool) (n c : ℕ) → ((j : ℕ) → n ≤ j → j < n + c → p j ≡ false) → filter p (range n c) ≡ []
 filter-none p n zero h = refl
 filter-none p n (suc c) h = rw (h n (omega arith) (omega arith)) (filter-none p (suc n) c (λ j l k. h j (omega arith) (omega arith)))
 

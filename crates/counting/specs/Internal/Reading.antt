@@ -1,0 +1,24 @@
+-- The marked wires as a list.
+use mathlib.Core.Path.{_≡_}
+use mathlib.Core.Bool.{cond}
+use mathlib.Core.List.{List}
+use Prim.Native.Nat.{ℕ, _≤_, _<_}
+use lib.Dec.{ltb}
+use lib.ListN.{length, set}
+use Rattle.circuit.specs.Lists.{nth, range, filter}
+use Rattle.circuit.specs.Circuit.{isSet}
+
+-- the marked wires below a number
+abbrev pub markedBelow : (marks : List ℕ) → ℕ → List ℕ
+markedBelow marks n = filter (λ x. isSet (nth marks x)) (range 0 n)
+
+-- the list with a wire more, behind so many
+abbrev pub listedWith : (mark wire count : ℕ) (read : List ℕ) → List ℕ
+listedWith mark wire count read = cond (ltb mark 1) read (cond (ltb count 8) (set read count wire) read)
+
+-- their number, and a list of the first eight
+pub record Listed (marks : List ℕ) (wires : ℕ) (read : List ℕ) (count : ℕ) : Type 0 where
+  pub all : count ≡ length (markedBelow marks wires)
+  pub few : count ≤ wires
+  pub sized : length read ≡ 8
+  pub first : (i : ℕ) → i < count → i < 8 → nth read i ≡ nth (markedBelow marks wires) i
