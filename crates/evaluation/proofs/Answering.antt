@@ -18,6 +18,7 @@ use Rattle.circuit.proofs.Judging.{then-pass, need-then}
 use Rattle.circuit.proofs.Answers.{answer-pass, answer-refused}
 use Rattle.circuit.proofs.Building.{build-shares}
 use Rattle.circuit.proofs.Exact.{sound, accepted-size}
+use Rattle.semantics.specs.Values.{bits, bytes, valuesOf}
 use Rattle.semantics.specs.Calls.{written, bytesRule, probesRule, sheetsRule, circuitOf, callRule}
 use Rattle.checker.specs.declared.Verdict.{Verdict}
 use Rattle.checker.specs.declared.Verdict.the-variants as verdict
@@ -25,8 +26,8 @@ use Rattle.checker.specs.Answers.{answerOf}
 use Rattle.gadgets.specs.Internal.Accepting.{AcceptedTable, circuitIn}
 use Rattle.gadgets.proofs.Framing.{inputs-few}
 use Rattle.gadgets.proofs.Walking.{least-notes, same-circuit}
-use Rattle.simulation.specs.Internal.Filling.{Bits}
-use Rattle.simulation.specs.Internal.Evaluating.{Supplied}
+use Rattle.simulation.specs.Internal.Evaluating.{Evaluable, Evaluates}
+use Rattle.simulation.proofs.Single.{Bits, single}
 use Rattle.evaluation.specs.Internal.Refusing.{refusal}
 use Rattle.evaluation.specs.Internal.Calling.{Shortest, Judged}
 
@@ -135,7 +136,10 @@ module _ (table notes shares tape : List ℕ) (sheets : List (List ℕ)) (probes
   pub record Passed (room wires : ℕ) : Type 0 where
     pub passes : rule ≡ pass
     pub of : Taken table notes
-    pub supplied : Supplied (circuitIn table) shares tape
+    pub shared : length shares ≡ circuitIn table .inputs * circuitIn table .d
+    pub drawn : length tape ≡ circuitIn table .randoms
+    pub shareBits : Bits shares
+    pub tapeBits : Bits tape
     pub roomy : wireLimit ≤ room
     pub wires-are : wires ≡ size (circuitIn table)
     pub few : wires ≤ wireLimit
@@ -154,19 +158,24 @@ module _ (table notes shares tape : List ℕ) (sheets : List (List ℕ)) (probes
       record {
         passes = p;
         of = t;
-        supplied = subst (λ (c : Circuit). Supplied c shares tape) (t .circuit-is) (record {
-          shared = eqb-true (length shares) (k .inputs * k .d) b;
-          drawn = eqb-true (length tape) (k .randoms) c;
-          shareBits = bits-pass 0 shares e;
-          tapeBits = bits-pass (0 + length shares) tape f;
-        });
+        shared = eqb-true (length shares) (k .inputs * k .d) b ∙ ap (λ (c : Circuit). c .inputs * c .d) (t .circuit-is);
+        drawn = eqb-true (length tape) (k .randoms) c ∙ ap (λ (c : Circuit). c .randoms) (t .circuit-is);
+        shareBits = bits-pass 0 shares e;
+        tapeBits = bits-pass (0 + length shares) tape f;
         roomy = leb-true wireLimit room d;
         wires-are = w ∙ ap size (t .circuit-is);
         few = omega (arith, t .wires-few);
         probed = λ x i. omega (arith, probes-pass k 0 probes g x i);
       }
 
-  -- its buffers hold what is said of the table's circuit
+  -- its values are filled in, and its buffers hold what is said of the table's circuit
+  pub evaluable : {room wires n : ℕ} → Passed room wires → room ≤ n → Evaluable table shares tape n
+  evaluable p enough = record { accepted = p .of .accepted; shared = p .shared; drawn = p .drawn; roomy = omega arith }
+
+  pub evaluated : {room wires : ℕ} → Passed room wires → {old new : List ℕ} → Evaluates table 1 shares tape old new → room ≤ length old
+      → new ≡ overwrite (bytes (valuesOf (circuitIn table .wires) (bits shares) (bits tape))) old
+  evaluated p e enough = single e (p .shareBits) (p .tapeBits) (omega arith)
+
   pub holds : {room wires : ℕ} → Passed room wires → (bytes : Circuit → List ℕ) (old : List ℕ) {new : List ℕ} → new ≡ overwrite (bytes (circuitIn table)) old → new ≡ written rule (bytes k) old
   holds p bytes old e = e ∙ sym (ap₂ (λ i c. written i (bytes c) old) (p .passes) (p .of .circuit-is))
 

@@ -1,6 +1,6 @@
 -- Bits as bytes: their products and their sums modulo 2.
 use mathlib.Core.Path.{_≡_, refl}
-use mathlib.Core.Bool.{Bool, true, false, not, _&&_}
+use mathlib.Core.Bool.{Bool, true, false, _&&_}
 use mathlib.Core.List.{List}
 use Prim.Native.Nat.{ℕ, zero, suc, _≤_, _<_}
 use native.Mathlib.Omega.{arith}
@@ -37,7 +37,3 @@ byte-xor true true = refl
 byte-xor true false = refl
 byte-xor false true = refl
 byte-xor false false = refl
-
-pub byte-not : (a : Bool) → bitXor 1 (byte a) ≡ byte (not a)
-byte-not true = refl
-byte-not false = refl

@@ -7,7 +7,6 @@ use lib.Dec.{ltb}
 use lib.ListN.{length, set, length-set}
 use borrow.Author.Tests.{ltb-true, ltb-false}
 use Rattle.circuit.proofs.Base.{cases}
-use Rattle.semantics.specs.Values.{byte}
 use Rattle.gadgets.proofs.Stored.{nth-set}
 use Rattle.simulation.specs.Internal.Filling.{Values, Known, Fills}
 
@@ -44,10 +43,10 @@ pub fills-at : {E : Values → Type 0} {from from′ to to′ : ℕ} {old new : 
 fills-at {E} {from} {from′} {to} {to′} {old} {new} p q f = subst₂ (λ a b. Fills E a b old new) p q f
 
 -- one wire more
-pub fills-set : {E : Values → Type 0} {from p to : ℕ} {old mid : List ℕ} (e : ℕ) → (from ≤ p) × (p < length old) × (p + 1 ≡ to) → ((v : Values) → E v → Known v 0 from old → e ≡ byte (v p))
+pub fills-set : {E : Values → Type 0} {from p to : ℕ} {old mid : List ℕ} (e : ℕ) → (from ≤ p) × (p < length old) × (p + 1 ≡ to) → ((v : Values) → E v → Known v 0 from old → e ≡ v p)
     → Fills E from p old mid → Fills E from to old (set mid p e)
 fills-set {E} {from} {p} {to} {old} {mid} e place h f = record {
-  filled = λ v q k x i u. nth-set mid p e x r (λ same z. z ∙ h v q k ∙ ap (λ n. byte (v n)) (sym same)) (λ other z. z ∙ f .filled v q k x i (omega arith));
+  filled = λ v q k x i u. nth-set mid p e x r (λ same z. z ∙ h v q k ∙ ap v (sym same)) (λ other z. z ∙ f .filled v q k x i (omega arith));
   below = λ x i. nth-set mid p e x r (λ same z. absurd (omega arith)) (λ other z. z ∙ f .below x i);
   above = λ x i. nth-set mid p e x r (λ same z. absurd (omega arith)) (λ other z. z ∙ f .above x (omega arith));
   size = length-set mid p e ∙ f .size;
@@ -57,6 +56,6 @@ fills-set {E} {from} {p} {to} {old} {mid} e place h f = record {
     r = omega (arith, f .size)
 
 -- one wire alone
-pub fills-one : {E : Values → Type 0} (first : ℕ) (sheet : List ℕ) (e : ℕ) → first < length sheet → ((v : Values) → E v → Known v 0 first sheet → e ≡ byte (v first))
+pub fills-one : {E : Values → Type 0} (first : ℕ) (sheet : List ℕ) (e : ℕ) → first < length sheet → ((v : Values) → E v → Known v 0 first sheet → e ≡ v first)
     → Fills E first (first + 1) sheet (set sheet first e)
 fills-one first sheet e room h = fills-set e (omega arith) h (fills-none first sheet)

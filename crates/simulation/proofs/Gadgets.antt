@@ -1,67 +1,62 @@
 -- AND and REF filled in, part behind part.
 use mathlib.Core.Path.{_≡_, refl, sym, ap, subst, _∙_}
-use mathlib.Core.Bool.{Bool}
 use mathlib.Core.List.{List}
 use Prim.Native.Nat.{ℕ, _+_, _-_, _*_, _≤_, _<_}
 use lib.Bits.{bitXor}
 use native.Mathlib.Omega.{arith}
 use lib.ListN.{length, set}
-use Rattle.circuit.specs.Lists.{_⊕_, nth, range}
+use Rattle.circuit.specs.Lists.{nth, range}
+use Rattle.circuit.specs.Gadgets.{others}
 use Rattle.circuit.specs.Kinds.{pairs}
-use Rattle.circuit.proofs.Base.{xor-assoc}
 use Rattle.circuit.proofs.Sizes.{pairs-twice}
-use Rattle.semantics.specs.Values.{byte, xorSum}
 use Rattle.gadgets.specs.Internal.Places.{crossStart, productAt, outAt, maskAt, sumAt}
 use Rattle.gadgets.proofs.Slots.{mask-lt}
-use Rattle.simulation.specs.Internal.Filling.{Values, Known, Fills, Copied, Drawn, ShareProducts, Multiplied, AndValues, Masked, Held, RefValues}
+use Rattle.simulation.specs.Internal.Filling.{Values, wordSum, Known, Fills, Copied, Drawn, ShareProducts, Multiplied, AndValues, Masked, Held, RefValues}
 use Rattle.simulation.specs.Internal.Gadgets.{Sums}
-use Rattle.simulation.proofs.Adding.{Adds, adds-start, adds-turn, adds-end, xorSum-turn, xorSum-end, xorSum-others}
+use Rattle.simulation.proofs.Adding.{adds-turn, adds-end, add-others}
 use Rattle.simulation.proofs.Filled.{known-all, fills-next, fills-for, fills-at, fills-set}
 
-pub and-filled : (d first : ℕ) (a b : ℕ → ℕ) (tape : List ℕ) (used : ℕ) {old one two three : List ℕ} (count : ℕ) → count ≡ pairs d
+pub and-filled : (ones d first : ℕ) (a b : ℕ → ℕ) (tape : List ℕ) (used : ℕ) {old one two three : List ℕ} (count : ℕ) → count ≡ pairs d
     → Fills (Drawn tape used first count) first (first + 2 * count) old one → Fills (ShareProducts d first a b) (productAt d first 0) (productAt d first d) one two
-    → Fills (Multiplied d first a) (first + crossStart d 0) (outAt d first d) two three
-    → Fills (AndValues d first a b tape used) first (first + (7 * (d * (d - 1)) + 4 * d)) old three
-and-filled d first a b tape used count e draws products outs =
+    → Fills (Multiplied ones d first a) (first + crossStart d 0) (outAt d first d) two three
+    → Fills (AndValues ones d first a b tape used) first (first + (7 * (d * (d - 1)) + 4 * d)) old three
+and-filled ones d first a b tape used count e draws products outs =
     fills-next (omega arith) (omega arith) (λ v q k. q .multiplied)
     (fills-next (omega (arith, e, pairs-twice d)) (omega arith) (λ v q k. q .products)
     (fills-for (λ v q. subst (λ (n : ℕ). Drawn tape used first n v) (sym e) (q .drawn)) (fills-at refl (omega (arith, e, pairs-twice d)) draws)) products)
     (fills-at (omega arith) (omega arith) outs)
 
--- REF's random bits of the share i and each below j are added to a bit
-pub record MasksOn (d first i bit from to : ℕ) (values : List ℕ) (sum j : ℕ) : Type 0 where
+-- REF's random bits of the share i and each below j are added to a word
+pub record MasksOn (d first i word from to : ℕ) (values : List ℕ) (sum j : ℕ) : Type 0 where
   pub low : from ≤ j
   pub high : j ≤ to
-  pub adds : (x : Bool) → bit ≡ byte x → (v : Values) → Known v 0 (first + pairs d) values
-      → Adds (x ⊕ xorSum (range from (to - from)) (λ k. v (maskAt d first i k))) sum (xorSum (range j (to - j)) (λ k. v (maskAt d first i k)))
+  pub adds : (v : Values) → Known v 0 (first + pairs d) values → let f : Values = λ k. v (maskAt d first i k) in
+      bitXor word (wordSum (range from (to - from)) f) ≡ bitXor sum (wordSum (range j (to - j)) f)
 
-pub masks-start : {d first i bit from to : ℕ} {values : List ℕ} → from ≤ to → MasksOn d first i bit from to values bit from
-masks-start {d} {first} {i} {from = from} {to} h = record { low = omega arith; high = h; adds = λ x p v k. adds-start x (xorSum (range from (to - from)) (λ m. v (maskAt d first i m))) p }
+pub masks-start : {d first i word from to : ℕ} {values : List ℕ} → from ≤ to → MasksOn d first i word from to values word from
+masks-start h = record { low = omega arith; high = h; adds = λ v k. refl }
 
-module _ {d first i bit from to : ℕ} {values : List ℕ} {sum j : ℕ} (on : MasksOn d first i bit from to values sum j) where
-  pub masks-turn : i < d → j < d → (j ≡ i → ⊥) → j < to → (p : ℕ) → p ≡ maskAt d first i j → MasksOn d first i bit from to values (bitXor sum (nth values p)) (j + 1)
+module _ {d first i word from to : ℕ} {values : List ℕ} {sum j : ℕ} (on : MasksOn d first i word from to values sum j) where
+  pub masks-turn : i < d → j < d → (j ≡ i → ⊥) → j < to → (p : ℕ) → p ≡ maskAt d first i j → MasksOn d first i word from to values (bitXor sum (nth values p)) (j + 1)
   masks-turn l k ne h p e = record {
     low = omega (arith, on .low);
     high = omega arith;
-    adds = λ x q v known.
-        let f : ℕ → Bool = λ m. v (maskAt d first i m) in
-        adds-turn (nth values p) (f j) (xorSum (range (j + 1) (to - (j + 1))) f) (on .adds x q v known) (xorSum-turn f to j h)
-        (ap (nth values) e ∙ known (maskAt d first i j) (omega arith) (mask-lt d first i j l k ne));
+    adds = λ v known. rw (e, known (maskAt d first i j) (omega arith) (mask-lt d first i j l k ne)) (adds-turn sum (λ m. v (maskAt d first i m)) to j (on .adds v known) h);
   }
 
-  pub masks-end : to ≤ j → Sums d first i bit from to values sum
-  masks-end h = record { is = λ x p v k. adds-end (on .adds x p v k) (xorSum-end (λ m. v (maskAt d first i m)) to j h) }
+  pub masks-end : to ≤ j → Sums d first i word from to values sum
+  masks-end h = record { is = λ v k. adds-end sum (λ m. v (maskAt d first i m)) to j (on .adds v k) h }
 
 -- one sum of REF
 module _ {d first : ℕ} {a : ℕ → ℕ} {old mid : List ℕ} {i : ℕ} (f : Fills (Masked d first a) (first + pairs d) (first + pairs d + i) old mid)
     (l : i < d) (room : first + pairs d + i < length old) (early : a i < first) (x p : ℕ) (x-is : x ≡ a i) (p-is : p ≡ first + pairs d + i)
     {s t : ℕ} (r : Sums d first i (nth mid x) 0 i mid s) (q : Sums d first i s (i + 1) d mid t) where
-  sum-is : (v : Values) → Masked d first a v → Known v 0 (first + pairs d) old → t ≡ byte (v (sumAt d first i))
+  sum-is : (v : Values) → Masked d first a v → Known v 0 (first + pairs d) old → t ≡ v (sumAt d first i)
   sum-is v e k =
-      let g : ℕ → Bool = λ j. v (maskAt d first i j) in
+      let g : Values = λ j. v (maskAt d first i j) in
       let known : Known v 0 (first + pairs d) mid = λ x p u. known-all f v e k x p (omega arith) in
-      q .is (v (a i) ⊕ xorSum (range 0 (i - 0)) g) (r .is (v (a i)) (ap (nth mid) x-is ∙ known (a i) (omega arith) (omega arith)) v known) v known
-      ∙ ap byte (xor-assoc (v (a i)) (xorSum (range 0 (i - 0)) g) (xorSum (range (i + 1) (d - (i + 1))) g) ∙ ap (λ z. v (a i) ⊕ z) (sym (xorSum-others g d i l)) ∙ sym (e i l))
+      q .is v known ∙ ap (λ z. bitXor z (wordSum (range (i + 1) (d - (i + 1))) g)) (r .is v known) ∙ add-others g (nth mid x) d i l
+      ∙ ap (λ z. bitXor z (wordSum (others d i) g)) (ap (nth mid) x-is ∙ known (a i) (omega arith) (omega arith)) ∙ sym (e i l)
 
   pub masked-turn : Fills (Masked d first a) (first + pairs d) (first + pairs d + (i + 1)) old (set mid p t)
   masked-turn = rw p-is (fills-set t (omega arith) sum-is f)

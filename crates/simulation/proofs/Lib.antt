@@ -1,5 +1,6 @@
--- Sums modulo 2
+-- Words: sums modulo 2, and from bits to words
 pub mod Adding
+pub mod Packing
 -- The values of a circuit
 pub mod Solving
 -- Buffers filled in
@@ -11,3 +12,4 @@ pub mod Equations
 pub mod Outputs
 pub mod Gadgets
 pub mod Evaluating
+pub mod Single

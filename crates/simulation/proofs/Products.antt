@@ -1,15 +1,12 @@
 -- The wires B, m and M of a share.
-use mathlib.Core.Path.{_≡_, ap₂, _∙_}
-use mathlib.Core.Bool.{_&&_}
+use mathlib.Core.Path.{_≡_, ap₂}
 use mathlib.Core.List.{List}
-use Prim.Native.Nat.{ℕ, _+_, _-_, _≤_, _<_}
+use Prim.Native.Nat.{ℕ, _+_, _≤_, _<_}
 use native.Mathlib.Omega.{arith}
 use lib.Bits.{bitAnd}
 use lib.ListN.{length, set}
 use Rattle.circuit.specs.Lists.{nth}
-use Rattle.semantics.specs.Values.{byte}
 use Rattle.gadgets.specs.Internal.Places.{productAt}
-use Rattle.gadgets.proofs.Bits.{byte-and}
 use Rattle.simulation.specs.Internal.Filling.{Values, Known, Fills, ShareProducts}
 use Rattle.simulation.proofs.Filled.{known-all, fills-set}
 
@@ -21,20 +18,20 @@ module _ {d first : ℕ} {a b : ℕ → ℕ} {old mid : List ℕ} {i : ℕ} (l :
   abbrev x : ℕ
   x = productAt d first i
 
-  abbrev bit : ℕ
-  bit = nth mid (b i)
+  abbrev word : ℕ
+  word = nth mid (b i)
 
   abbrev both : ℕ
   both = bitAnd (nth mid (a i)) (nth mid (b i))
 
-  b-is : (v : Values) → E v → Known v 0 (productAt d first 0) old → bit ≡ byte (v (b i))
+  b-is : (v : Values) → E v → Known v 0 (productAt d first 0) old → word ≡ v (b i)
   b-is v e k = known-all f v e k (b i) (omega arith) (omega arith)
 
-  m-is : (v : Values) → E v → Known v 0 (productAt d first 0) old → both ≡ byte (v (a i) && v (b i))
-  m-is v e k = ap₂ bitAnd (known-all f v e k (a i) (omega arith) (omega arith)) (b-is v e k) ∙ byte-and (v (a i)) (v (b i))
+  m-is : (v : Values) → E v → Known v 0 (productAt d first 0) old → both ≡ bitAnd (v (a i)) (v (b i))
+  m-is v e k = ap₂ bitAnd (known-all f v e k (a i) (omega arith) (omega arith)) (b-is v e k)
 
   -- where the code finds B, a and b
   pub products-turn : (p y z : ℕ) → p ≡ x → y ≡ a i → z ≡ b i
       → Fills E (productAt d first 0) (productAt d first (i + 1)) old (set (set (set mid p (nth mid z)) (p + 1) (bitAnd (nth mid y) (nth mid z))) (p + 2) (bitAnd (nth mid y) (nth mid z)))
   products-turn p y z p-is y-is z-is = rw (p-is, y-is, z-is) (fills-set both (omega arith) (λ v e k. rw (e i l .2) (m-is v e k))
-      (fills-set both (omega arith) (λ v e k. rw (e i l .1) (m-is v e k)) (fills-set bit (omega arith) (λ v e k. rw (e i l .0) (b-is v e k)) f)))
+      (fills-set both (omega arith) (λ v e k. rw (e i l .1) (m-is v e k)) (fills-set word (omega arith) (λ v e k. rw (e i l .0) (b-is v e k)) f)))

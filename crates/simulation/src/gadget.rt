@@ -5,33 +5,33 @@ ghost use lib.ListN.{length};
 ghost use Rattle.circuit.specs.Kinds.{pairs};
 ghost use Rattle.gadgets.specs.Internal.Places.{wordA, wordB, productAt, crossStart, outAt};
 ghost use Rattle.gadgets.specs.Internal.Frames.{Small, RowBefore, Roomy};
-ghost use Rattle.simulation.specs.Internal.Filling.{Fills, Bits, Copied, Drawn, ShareProducts, Multiplied, AndValues, Masked, Held, RefValues};
+ghost use Rattle.simulation.specs.Internal.Filling.{Fills, Copied, Drawn, ShareProducts, Multiplied, AndValues, Masked, Held, RefValues};
 ghost use Rattle.simulation.specs.Internal.Gadgets.{Crosses, CrossesRow, Sums};
 use gadgets::places;
 
-// So many bits, from a place of another buffer on.
-pub(crate) fn copy(values: &mut [u8], at: usize, bits: &[u8], from: usize, count: usize)
-    requires { ⌜ (at + count ≤ length (now values)) × (from + count ≤ length (now bits)) × Bits (now bits) ⌝ }
-    ensures { λ _. ⌜ Fills (Copied (now (bits .entry)) from at count) at (at + count) (now (values .entry)) (now (values .exit)) ⌝ }
+// So many bytes, from a place of another buffer on.
+pub(crate) fn copy(values: &mut [u8], at: usize, source: &[u8], from: usize, count: usize)
+    requires { ⌜ (at + count ≤ length (now values)) × (from + count ≤ length (now source)) ⌝ }
+    ensures { λ _. ⌜ Fills (Copied (now (source .entry)) from at count) at (at + count) (now (values .entry)) (now (values .exit)) ⌝ }
 {
     let mut q = 0;
     while q < count {
-        values[at + q] = bits[from + q];
+        values[at + q] = source[from + q];
         q += 1;
     }
 }
 
 // AND's wires r and R of every pair.
 fn draws(values: &mut [u8], at: usize, tape: &[u8], used: usize, count: usize)
-    requires { ⌜ (at + 2 * count ≤ length (now values)) × (used + count ≤ length (now tape)) × Bits (now tape) ⌝ }
+    requires { ⌜ (at + 2 * count ≤ length (now values)) × (used + count ≤ length (now tape)) ⌝ }
     ensures { λ _. ⌜ Fills (Drawn (now (tape .entry)) used at count) at (at + 2 * count) (now (values .entry)) (now (values .exit)) ⌝ }
 {
     let mut q = 0;
     while q < count {
-        let bit = tape[used + q];
+        let word = tape[used + q];
         let r = at + 2 * q;
-        values[r] = bit;
-        values[r + 1] = bit;
+        values[r] = word;
+        values[r + 1] = word;
         q += 1;
     }
 }
@@ -55,12 +55,12 @@ fn share_products(values: &mut [u8], first: usize, d: usize, ops: &[u16])
     }
 }
 
-// AND's wires u, U, v, V, w and W of two shares, from the bits of a, b and r. The answer is the sum of U and W.
-fn cross(values: &mut [u8], at: usize, a: u8, b: u8, r: u8) -> u8
+// AND's wires u, U, v, V, w and W of two shares, from the words of a, b and r. The answer is the sum of U and W.
+fn cross(values: &mut [u8], at: usize, ones: u8, a: u8, b: u8, r: u8) -> u8
     requires { ⌜ at + 6 ≤ length (now values) ⌝ }
-    ensures { λ s. ⌜ Crosses at a b r (now (values .entry)) (now (values .exit)) s ⌝ }
+    ensures { λ s. ⌜ Crosses ones at a b r (now (values .entry)) (now (values .exit)) s ⌝ }
 {
-    let u = (1 ^ a) & r;
+    let u = (ones ^ a) & r;
     let v = b ^ r;
     let w = a & v;
     values[at] = u;
@@ -72,63 +72,80 @@ fn cross(values: &mut [u8], at: usize, a: u8, b: u8, r: u8) -> u8
     u ^ w
 }
 
-// The same of the share i and each from one to another, added to a bit.
+// The same of the share i and each from one to another, added to a word.
 fn cross_row(
     values: &mut [u8],
     first: usize,
     d: usize,
     i: usize,
+    ones: u8,
     a: u8,
-    bit: u8,
+    word: u8,
     from: usize,
     to: usize,
 ) -> u8
     requires { ⌜ Small first d × (i < d) × (to ≤ d) × Roomy d first (now values) × ((j : ℕ) → from ≤ j → j < to → j ≡ i → ⊥) × (from ≤ to) ⌝ }
-    ensures { λ s. ⌜ CrossesRow d first i a bit from to (now (values .entry)) (now (values .exit)) s ⌝ }
+    ensures { λ s. ⌜ CrossesRow ones d first i a word from to (now (values .entry)) (now (values .exit)) s ⌝ }
 {
-    let mut sum = bit;
+    let mut sum = word;
     let mut j = from;
     while j < to {
         let r = values[places::pair_at(d, first, i, j)];
         let b = values[places::product_at(d, first, j)];
-        sum = sum ^ cross(values, places::cross_at(d, first, i, j), a, b, r);
+        sum = sum ^ cross(values, places::cross_at(d, first, i, j), ones, a, b, r);
         j += 1;
     }
     sum
 }
 
 // The same of every share and each other, and the outputs.
-fn cross_all(values: &mut [u8], first: usize, d: usize, ops: &[u16])
+fn cross_all(values: &mut [u8], first: usize, d: usize, ones: u8, ops: &[u16])
     requires { ⌜ Small first d × (1 + d ≤ length (now ops)) × RowBefore first d (wordA (now ops)) × Roomy d first (now values) ⌝ }
-    ensures { λ _. ⌜ Fills (Multiplied d first (wordA (now (ops .entry)))) (first + crossStart d 0) (outAt d first d) (now (values .entry)) (now (values .exit)) ⌝ }
+    ensures { λ _. ⌜ Fills (Multiplied ones d first (wordA (now (ops .entry)))) (first + crossStart d 0) (outAt d first d) (now (values .entry)) (now (values .exit)) ⌝ }
 {
     let mut i = 0;
     while i < d {
         let a = values[places::word_a(ops, i)];
         let m = values[places::product_at(d, first, i) + 2];
-        let lower = cross_row(values, first, d, i, a, m, 0, i);
-        let sum = cross_row(values, first, d, i, a, lower, i + 1, d);
+        let lower = cross_row(values, first, d, i, ones, a, m, 0, i);
+        let sum = cross_row(values, first, d, i, ones, a, lower, i + 1, d);
         values[places::out_at(d, first, i)] = sum;
         i += 1;
     }
 }
 
 // AND.
-pub(crate) fn and(values: &mut [u8], first: usize, d: usize, ops: &[u16], tape: &[u8], used: usize)
-    requires { ⌜ Small first d × (length (now ops) ≡ 1 + d + d) × RowBefore first d (wordA (now ops)) × RowBefore first d (wordB d (now ops)) × Roomy d first (now values) × (used + pairs d ≤ length (now tape)) × Bits (now tape) ⌝ }
-    ensures { λ _. ⌜ Fills (AndValues d first (wordA (now (ops .entry))) (wordB d (now (ops .entry))) (now (tape .entry)) used) first (first + (7 * (d * (d - 1)) + 4 * d)) (now (values .entry)) (now (values .exit)) ⌝ }
+pub(crate) fn and(
+    values: &mut [u8],
+    first: usize,
+    d: usize,
+    ones: u8,
+    ops: &[u16],
+    tape: &[u8],
+    used: usize,
+)
+    requires { ⌜ Small first d × (length (now ops) ≡ 1 + d + d) × RowBefore first d (wordA (now ops)) × RowBefore first d (wordB d (now ops)) × Roomy d first (now values) × (used + pairs d ≤ length (now tape)) ⌝ }
+    ensures { λ _. ⌜ Fills (AndValues ones d first (wordA (now (ops .entry))) (wordB d (now (ops .entry))) (now (tape .entry)) used) first (first + (7 * (d * (d - 1)) + 4 * d)) (now (values .entry)) (now (values .exit)) ⌝ }
 {
     draws(values, first, tape, used, places::pairs(d));
     share_products(values, first, d, ops);
-    cross_all(values, first, d, ops);
+    cross_all(values, first, d, ones, ops);
 }
 
-// The sum of a bit and REF's random bits of the share i and each from one to another.
-fn add_masks(values: &[u8], first: usize, d: usize, i: usize, bit: u8, from: usize, to: usize) -> u8
+// The sum of a word and REF's random bits of the share i and each from one to another.
+fn add_masks(
+    values: &[u8],
+    first: usize,
+    d: usize,
+    i: usize,
+    word: u8,
+    from: usize,
+    to: usize,
+) -> u8
     requires { ⌜ Small first d × (i < d) × (to ≤ d) × (first + pairs d ≤ length (now values)) × ((j : ℕ) → from ≤ j → j < to → j ≡ i → ⊥) × (from ≤ to) ⌝ }
-    ensures { λ s. ⌜ Sums d first i bit from to (now (values .entry)) s ⌝ }
+    ensures { λ s. ⌜ Sums d first i word from to (now (values .entry)) s ⌝ }
 {
-    let mut sum = bit;
+    let mut sum = word;
     let mut j = from;
     while j < to {
         sum = sum ^ values[places::mask_at(d, first, i, j)];
@@ -173,7 +190,7 @@ pub(crate) fn refresh(
     tape: &[u8],
     used: usize,
 )
-    requires { ⌜ Small first d × (1 + d ≤ length (now ops)) × RowBefore first d (wordA (now ops)) × (first + pairs d + d + d ≤ length (now values)) × (used + pairs d ≤ length (now tape)) × Bits (now tape) ⌝ }
+    requires { ⌜ Small first d × (1 + d ≤ length (now ops)) × RowBefore first d (wordA (now ops)) × (first + pairs d + d + d ≤ length (now values)) × (used + pairs d ≤ length (now tape)) ⌝ }
     ensures { λ _. ⌜ Fills (RefValues d first (wordA (now (ops .entry))) (now (tape .entry)) used) first (first + (pairs d + 2 * d)) (now (values .entry)) (now (values .exit)) ⌝ }
 {
     copy(values, first, tape, used, places::pairs(d));

@@ -1,40 +1,38 @@
-// The value of each wire, frame by frame.
+// The value of each wire, frame by frame: a bit for each evaluation, of one or of eight at once. In ones, the bit of each is set.
 ghost use mathlib.Core.Path.{_≡_};
-ghost use mathlib.Core.Bool.{not};
+ghost use mathlib.Core.Bool.{cond};
 ghost use Prim.Native.Nat.{_+_, _≤_, _<_};
+ghost use lib.Bits.{bitXor};
 ghost use lib.ListN.{length};
-ghost use Rattle.circuit.specs.Lists.{_⊕_, overwrite};
 ghost use Rattle.circuit.specs.Circuit.{isSet};
-ghost use Rattle.semantics.specs.Values.{byte, bits, bytes, valuesOf};
 ghost use Rattle.gadgets.specs.Internal.Frames.{frameWires, Small, FrameEarly, FrameSupplied};
-ghost use Rattle.gadgets.specs.Internal.Accepting.{circuitIn};
-ghost use Rattle.simulation.specs.Internal.Filling.{Fills, Bits, FrameValues};
-ghost use Rattle.simulation.specs.Internal.Evaluating.{Evaluable};
+ghost use Rattle.simulation.specs.Internal.Filling.{Fills, FrameValues};
+ghost use Rattle.simulation.specs.Internal.Evaluating.{Evaluable, Evaluates};
 use super::gadget;
 use frames::walk::Frame;
 use frames::walk::Gate;
 use frames::walk::Step;
 use frames::walk::Walk;
 
-// A word as a bit.
-fn bit(word: u16) -> u8
-    ensures { λ r. ⌜ r ≡ byte (isSet word) ⌝ }
+// A word as a bit, in each evaluation.
+fn bit(word: u16, ones: u8) -> u8
+    ensures { λ r. ⌜ r ≡ cond (isSet word) ones 0 ⌝ }
 {
-    if word < 1 { 0 } else { 1 }
+    if word < 1 { 0 } else { ones }
 }
 
 // The wire of a CON.
-fn constant(values: &mut [u8], first: usize, word: u16)
+fn constant(values: &mut [u8], first: usize, word: u16, ones: u8)
     requires { ⌜ first + 1 ≤ length (now values) ⌝ }
-    ensures { λ _. ⌜ Fills (λ v. v first ≡ isSet word) first (first + 1) (now (values .entry)) (now (values .exit)) ⌝ }
+    ensures { λ _. ⌜ Fills (λ v. v first ≡ cond (isSet word) ones 0) first (first + 1) (now (values .entry)) (now (values .exit)) ⌝ }
 {
-    values[first] = bit(word);
+    values[first] = bit(word, ones);
 }
 
 // The wire of an XOR.
 fn sum(values: &mut [u8], first: usize, one: u16, other: u16)
     requires { ⌜ (first + 1 ≤ length (now values)) × (one < first) × (other < first) ⌝ }
-    ensures { λ _. ⌜ Fills (λ v. v first ≡ (v one ⊕ v other)) first (first + 1) (now (values .entry)) (now (values .exit)) ⌝ }
+    ensures { λ _. ⌜ Fills (λ v. v first ≡ bitXor (v one) (v other)) first (first + 1) (now (values .entry)) (now (values .exit)) ⌝ }
 {
     let x = one as usize;
     let y = other as usize;
@@ -42,12 +40,12 @@ fn sum(values: &mut [u8], first: usize, one: u16, other: u16)
 }
 
 // The wire of a NOT.
-fn inverse(values: &mut [u8], first: usize, wire: u16)
+fn inverse(values: &mut [u8], first: usize, wire: u16, ones: u8)
     requires { ⌜ (first + 1 ≤ length (now values)) × (wire < first) ⌝ }
-    ensures { λ _. ⌜ Fills (λ v. v first ≡ not (v wire)) first (first + 1) (now (values .entry)) (now (values .exit)) ⌝ }
+    ensures { λ _. ⌜ Fills (λ v. v first ≡ bitXor ones (v wire)) first (first + 1) (now (values .entry)) (now (values .exit)) ⌝ }
 {
     let x = wire as usize;
-    values[first] = 1 ^ values[x];
+    values[first] = ones ^ values[x];
 }
 
 // The wire of a REG.
@@ -60,9 +58,10 @@ fn register(values: &mut [u8], first: usize, wire: u16)
 }
 
 // A frame's wires, behind so many wires, shares and random bits.
-fn write_frame(
+pub fn write_frame(
     values: &mut [u8],
     frame: Frame,
+    ones: u8,
     d: usize,
     first: usize,
     from: usize,
@@ -71,8 +70,8 @@ fn write_frame(
     shares: &[u8],
     tape: &[u8],
 )
-    requires { ⌜ Small first d × (first + frameWires frame d ≤ length (now values)) × FrameEarly frame d first (now ops) × FrameSupplied frame d from used (length (now shares)) (length (now tape)) × Bits (now shares) × Bits (now tape) ⌝ }
-    ensures { λ _. ⌜ Fills (FrameValues frame d first from used (now (ops .entry)) (now (shares .entry)) (now (tape .entry))) first (first + frameWires frame d) (now (values .entry)) (now (values .exit)) ⌝ }
+    requires { ⌜ Small first d × (first + frameWires frame d ≤ length (now values)) × FrameEarly frame d first (now ops) × FrameSupplied frame d from used (length (now shares)) (length (now tape)) ⌝ }
+    ensures { λ _. ⌜ Fills (FrameValues frame ones d first from used (now (ops .entry)) (now (shares .entry)) (now (tape .entry))) first (first + frameWires frame d) (now (values .entry)) (now (values .exit)) ⌝ }
 {
     match frame {
         Frame::Gate(gate) => match gate {
@@ -81,24 +80,24 @@ fn write_frame(
                 label: _,
                 value,
                 stage: _,
-            } => constant(values, first, value),
+            } => constant(values, first, value, ones),
             Gate::Xor {
                 first: one,
                 second: other,
             } => sum(values, first, one, other),
-            Gate::Not { wire } => inverse(values, first, wire),
+            Gate::Not { wire } => inverse(values, first, wire, ones),
             Gate::Reg { wire } => register(values, first, wire),
             Gate::Out => {}
         },
-        Frame::And => gadget::and(values, first, d, ops, tape, used),
+        Frame::And => gadget::and(values, first, d, ones, ops, tape, used),
         Frame::Ref => gadget::refresh(values, first, d, ops, tape, used),
     }
 }
 
 // The values of an accepted table's wires.
-pub fn fill(table: &[u16], shares: &[u8], tape: &[u8], values: &mut [u8])
+pub fn fill(table: &[u16], ones: u8, shares: &[u8], tape: &[u8], values: &mut [u8])
     requires { ⌜ Evaluable (now table) (now shares) (now tape) (length (now values)) ⌝ }
-    ensures { λ _. ⌜ now (values .exit) ≡ overwrite (bytes (valuesOf (circuitIn (now (table .entry)) .wires) (bits (now (shares .entry))) (bits (now (tape .entry))))) (now (values .entry)) ⌝ }
+    ensures { λ _. ⌜ Evaluates (now (table .entry)) ones (now (shares .entry)) (now (tape .entry)) (now (values .entry)) (now (values .exit)) ⌝ }
 {
     let d = table[1];
     let n = d as usize;
@@ -115,7 +114,7 @@ pub fn fill(table: &[u16], shares: &[u8], tape: &[u8], values: &mut [u8])
                 walk: next,
             } => {
                 let ops = walk.operands(table);
-                write_frame(values, frame, n, first, from, used, ops, shares, tape);
+                write_frame(values, frame, ones, n, first, from, used, ops, shares, tape);
                 first += shape.wires;
                 from += n * shape.inputs;
                 used += shape.randoms;

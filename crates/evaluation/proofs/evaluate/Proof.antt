@@ -1,5 +1,6 @@
 -- The call is judged; accepted, its values are filled in, refused, they are as found.
 use mathlib.Core.List.{[], _∷_}
+use native.Mathlib.Omega.{arith}
 use lib.ListN.{length}
 use borrow.Author.Needs.{needs}
 use Rattle.circuit.specs.Circuit.{Circuit}
@@ -7,7 +8,7 @@ use Rattle.semantics.specs.Values.{bits, bytes, valuesOf}
 use Rattle.secrecy.proofs.Accepted.{gadgets-compute}
 use Rattle.evaluation.proofs.evaluate.Statement.{statement}
 use Rattle.evaluation.proofs.evaluate.Tie as tie
-use Rattle.evaluation.proofs.Answering.{Passed, passed, left, holds, one-sheet}
+use Rattle.evaluation.proofs.Answering.{Passed, passed, left, evaluable, evaluated, holds, one-sheet}
 
 abbrev start : tie.After-judge → tie.Start
 start c = c .before .before .before .before .before .before .before .before
@@ -30,7 +31,7 @@ returns-2 c =
     let v = c .before .before .before .before in
     let j = judged v .judge .ensures in
     let a = start (judged v) .args in
-    (j .answers _ (one-sheet (a .values .now)), (j .noted, (holds _ _ _ _ _ _ (passes v) (λ (k : Circuit). bytes (valuesOf (k .wires) (bits (a .shares .now)) (bits (a .tape .now)))) (a .values .now) (c .before .before .fill .ensures), λ h. gadgets-compute _ _ h _ _)))
+    (j .answers _ (one-sheet (a .values .now)), (j .noted, (holds _ _ _ _ _ _ (passes v) (λ (k : Circuit). bytes (valuesOf (k .wires) (bits (a .shares .now)) (bits (a .tape .now)))) (a .values .now) (evaluated _ _ _ _ _ _ (passes v) (c .before .before .fill .ensures) (omega arith)), λ h. gadgets-compute _ _ h _ _)))
 
 pub evaluate-spec : {M : Type 1} → statement M
 evaluate-spec =
@@ -39,6 +40,6 @@ evaluate-spec =
     (λ c. search needs) (λ c. search needs) (λ c. search needs) (λ c κs. search needs) (λ c. search needs)
     (λ c. search needs) (λ c. search needs)
     returns
-    (λ c κs. let p = passes (c .before) in record { accepted = p .of .accepted; supplied = p .supplied; roomy = p .roomy })
+    (λ c κs. evaluable _ _ _ _ _ _ (passes (c .before)) (omega arith))
     (λ c. search needs) (λ c. search needs)
     returns-2)

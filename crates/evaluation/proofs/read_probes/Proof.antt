@@ -12,7 +12,7 @@ use Rattle.checker.specs.Answers.{answerOf}
 use Rattle.evaluation.specs.Internal.Calling.{Shortest}
 use Rattle.evaluation.proofs.read_probes.Statement.{statement}
 use Rattle.evaluation.proofs.read_probes.Tie as tie
-use Rattle.evaluation.proofs.Answering.{Passed, passed, left, holds, two-sheets}
+use Rattle.evaluation.proofs.Answering.{Passed, passed, left, evaluable, evaluated, holds, two-sheets}
 
 -- behind the judgement: the two buffers, the shorter of which is as long as the code found
 abbrev start : tie.After-judge → tie.Start
@@ -49,7 +49,7 @@ returns-2 c =
     let v = c .before .before .before .before .before .before .before .before .before .before .before .before .before in
     let j = judged v .judge .ensures in
     let a = start (judged v) .args in
-    let new = c .before .before .before .before .before .before .before .before .before .before .fill .ensures in
+    let new = evaluated _ _ _ _ _ _ (passes v) (c .before .before .before .before .before .before .before .before .before .before .fill .ensures) (omega arith) in
     let read = c .before .before .show .ensures .is _ _ (bits (a .shares .now)) (bits (a .tape .now)) _ (c .before .before .before .before .before .before .reach-stops .ensures) new in (
       sym (ap answerOf (v .verdict .given .1)) ∙ j .answers (sheets (judged v)) (shorter (judged v)),
       (
@@ -67,7 +67,7 @@ read-probes-spec =
     (tie.spec
     (λ c κs. search needs) (λ c κs. search needs) (λ c. search needs) (λ c. search needs) (λ c. search needs)
     returns
-    (λ c κs. let p = passes (c .before .before) in record { accepted = p .of .accepted; supplied = p .supplied; roomy = omega (arith, p .roomy) })
+    (λ c κs. evaluable _ _ _ _ _ _ (passes (c .before .before)) (omega arith))
     (λ c κs. let p = passes (c .before .before .before .before .before .before) in (p .of .accepted, p .wires-are, p .probed, refl))
     show-requires
     (λ c. search needs) (λ c. search needs) (λ c. search needs)

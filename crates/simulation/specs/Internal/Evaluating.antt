@@ -1,22 +1,33 @@
--- What the values of an accepted table's wires rest on.
+-- What the values of an accepted table's wires rest on, and what they are: one or more sharings and tapes are evaluated at once.
 use mathlib.Core.Path.{_≡_}
+use mathlib.Core.Bool.{Bool, true}
 use mathlib.Core.List.{List}
-use Prim.Native.Nat.{ℕ, _*_, _≤_}
+use Prim.Native.Nat.{ℕ, zero, suc, _+_, _*_, _≤_, _<_}
 use lib.ListN.{length}
-use Rattle.circuit.specs.Limits.{wireLimit}
-use Rattle.circuit.specs.Circuit.{Circuit}
+use Rattle.circuit.specs.Lists.{nth}
+use Rattle.circuit.specs.Circuit.{size}
+use Rattle.semantics.specs.Values.{byte, at, valuesOf}
 use Rattle.gadgets.specs.Internal.Accepting.{AcceptedTable, circuitIn}
-use Rattle.simulation.specs.Internal.Filling.{Bits}
 
--- shares and a tape of a circuit's numbers, of bits
-pub record Supplied (k : Circuit) (shares tape : List ℕ) : Type 0 where
-  pub shared : length shares ≡ k .inputs * k .d
-  pub drawn : length tape ≡ k .randoms
-  pub shareBits : Bits shares
-  pub tapeBits : Bits tape
+-- the word whose bit l is f l, for l below n
+abbrev pub packed : ℕ → (ℕ → Bool) → ℕ
+packed zero f = 0
+packed (suc n) f = packed n (λ l. f (suc l)) * 2 + byte (f 0)
 
--- an accepted table, with its bits, and room for the values
+-- words that hold n lists of bits, the list l in the bits l
+abbrev pub Packs : (n : ℕ) (lists : ℕ → List Bool) (words : List ℕ) → Type 0
+Packs n lists words = (i : ℕ) → nth words i ≡ packed n (λ l. at (lists l) i)
+
+-- an accepted table, with as many words of shares and tape as it takes, and room for the values
 pub record Evaluable (table shares tape : List ℕ) (room : ℕ) : Type 0 where
   pub accepted : AcceptedTable table
-  pub supplied : Supplied (circuitIn table) shares tape
-  pub roomy : wireLimit ≤ room
+  pub shared : length shares ≡ circuitIn table .inputs * circuitIn table .d
+  pub drawn : length tape ≡ circuitIn table .randoms
+  pub roomy : size (circuitIn table) ≤ room
+
+-- the values of n sharings and tapes at once, in the bits of each wire's word; the rest is as it was
+pub record Evaluates (table : List ℕ) (ones : ℕ) (shares tape old new : List ℕ) : Type 0 where
+  pub known : (n : ℕ) (sharings tapes : ℕ → List Bool) → ones ≡ packed n (λ l. true) → Packs n sharings shares → Packs n tapes tape
+      → (x : ℕ) → x < size (circuitIn table) → nth new x ≡ packed n (λ l. at (valuesOf (circuitIn table .wires) (sharings l) (tapes l)) x)
+  pub above : (x : ℕ) → size (circuitIn table) ≤ x → nth new x ≡ nth old x
+  pub sized : length new ≡ length old

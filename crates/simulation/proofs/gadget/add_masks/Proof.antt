@@ -9,10 +9,10 @@ use Rattle.gadgets.proofs.Slots.{mask-lt}
 use Rattle.simulation.proofs.Gadgets.{MasksOn, masks-start, masks-turn, masks-end}
 
 abbrev Inv-loop : tie.InvT-loop
-Inv-loop values first d i bit from to sum₀ j₀ sum j = MasksOn d first i bit from to values sum j
+Inv-loop values first d i word from to sum₀ j₀ sum j = MasksOn d first i word from to values sum j
 
 abbrev μ-loop : tie.MeasureT-loop
-μ-loop values first d i bit from to sum₀ j₀ sum j = to - j
+μ-loop values first d i word from to sum₀ j₀ sum j = to - j
 
 -- a turn's shares are two
 abbrev start : tie.In-loop Inv-loop μ-loop → tie.Start Inv-loop μ-loop

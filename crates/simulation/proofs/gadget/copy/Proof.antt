@@ -1,27 +1,21 @@
--- The loop's invariant: the bits below q are copied.
-use mathlib.Core.Path.{refl}
+-- The loop's invariant: the bytes below q are copied.
+use mathlib.Core.Path.{refl, sym}
 use Prim.Native.Nat.{_+_, _-_, _≤_}
 use borrow.Author.Needs.{needs}
 use native.Mathlib.Omega.{arith}
 use Rattle.simulation.proofs.gadget.copy.Statement.{statement}
 use Rattle.simulation.proofs.gadget.copy.Tie as tie
-use Rattle.gadgets.proofs.Bits.{set-byte}
 use Rattle.simulation.proofs.Filled.{fills-none, fills-at, fills-set}
 use Rattle.simulation.specs.Internal.Filling.{Fills, Copied}
 
 abbrev Inv-loop : tie.InvT-loop
-Inv-loop values₀ at bits from count q₀ values q = (q ≤ count) × Fills (Copied bits from at count) at (at + q) values₀ values
+Inv-loop values₀ at source from count q₀ values q = (q ≤ count) × Fills (Copied source from at count) at (at + q) values₀ values
 
 abbrev μ-loop : tie.MeasureT-loop
-μ-loop values₀ at bits from count q₀ values q = count - q
+μ-loop values₀ at source from count q₀ values q = count - q
 
 loop-again : tie.Need-loop-again Inv-loop μ-loop
-loop-again c =
-    let a = c .before .before .before .args in
-    let q = c .before .before .loop .q in (
-      omega arith,
-      fills-set _ (omega arith) (λ v e k. rw (e q (c .before .loop-test .taken)) (set-byte _ (c .before .before .before .pre .2 (a .from + q)))) (c .before .before .loop .inv .1),
-    )
+loop-again c = (omega arith, fills-set _ (omega arith) (λ v e k. sym (e (c .before .before .loop .q) (c .before .loop-test .taken))) (c .before .before .loop .inv .1))
 
 pub copy-spec : {M : Type 1} → statement M
 copy-spec =

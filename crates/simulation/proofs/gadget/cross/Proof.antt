@@ -21,4 +21,4 @@ cross-spec =
     (λ c. search needs)
     (λ c. rw (length-set, length-set, length-set, length-set, length-set) (omega arith))
     (λ c. search needs)
-    (λ c. crosses (c .args .at) (c .args .a) (c .args .b) (c .args .r) (c .args .values .now) (c .pre)))
+    (λ c. crosses (c .args .ones) (c .args .at) (c .args .a) (c .args .b) (c .args .r) (c .args .values .now) (c .pre)))

@@ -1,12 +1,11 @@
 -- The loop's invariant: r and R of the pairs below q are filled in.
-use mathlib.Core.Path.{refl}
+use mathlib.Core.Path.{refl, sym}
 use Prim.Native.Nat.{_+_, _-_, _*_, _≤_}
 use borrow.Author.Needs.{needs}
 use native.Mathlib.Omega.{arith}
 use lib.ListN.{length-set}
 use Rattle.simulation.proofs.gadget.draws.Statement.{statement}
 use Rattle.simulation.proofs.gadget.draws.Tie as tie
-use Rattle.gadgets.proofs.Bits.{set-byte}
 use Rattle.simulation.proofs.Filled.{fills-none, fills-at, fills-set}
 use Rattle.simulation.specs.Internal.Filling.{Fills, Drawn}
 
@@ -18,13 +17,9 @@ abbrev μ-loop : tie.MeasureT-loop
 
 loop-again : tie.Need-loop-again Inv-loop μ-loop
 loop-again c =
-    let a = c .before .before .before .args in
     let q = c .before .before .loop .q in
-    let is = set-byte _ (c .before .before .before .pre .2 (a .used + q)) in (
-      omega arith,
-      fills-set _ (omega arith) (λ v e k. rw (e q (c .before .loop-test .taken) .1) is)
-          (fills-set _ (omega arith) (λ v e k. rw (e q (c .before .loop-test .taken) .0) is) (c .before .before .loop .inv .1)),
-    )
+    let t = c .before .loop-test .taken in
+    (omega arith, fills-set _ (omega arith) (λ v e k. sym (e q t .1)) (fills-set _ (omega arith) (λ v e k. sym (e q t .0)) (c .before .before .loop .inv .1)))
 
 pub draws-spec : {M : Type 1} → statement M
 draws-spec =

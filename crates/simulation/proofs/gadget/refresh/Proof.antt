@@ -19,7 +19,7 @@ refresh-spec =
     tie.close
     (tie.spec
     (λ c κs. (omega arith, omega arith))
-    (λ c κs. (omega arith, omega arith, c .before .before .before .before .before .pre .5))
+    (λ c κs. (omega arith, omega arith))
     (λ c κs. let p = c .before .before .before .before .before .before .before .before .before .pre in (p .0, p .1, p .2, omega arith))
     (λ c κs. (c .before .before .before .before .before .before .before .before .before .before .before .before .before .pre .0, omega arith))
     (λ c. search needs)

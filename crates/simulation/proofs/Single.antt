@@ -1,0 +1,55 @@
+-- One sharing and tape: the buffer then holds the bytes of its values.
+use mathlib.Core.Path.{_≡_, refl, sym, ap, _∙_}
+use mathlib.Core.Bool.{Bool, false}
+use mathlib.Core.List.{List, []}
+use Prim.Native.Nat.{ℕ, _+_, _-_, _≤_, _<_}
+use native.Mathlib.Nat.{zero-add}
+use native.Mathlib.Omega.{arith}
+use lib.Dec.{ltb}
+use lib.ListN.{length, drop, length-append, length-drop, length-map, List·getD-append, List·getD-map}
+use lib.Seq.{getD-append-add, getD-drop, ext-getD}
+use borrow.Author.Tests.{ltb-true, ltb-false}
+use Rattle.circuit.specs.Lists.{nth, overwrite}
+use Rattle.circuit.specs.Circuit.{size}
+use Rattle.circuit.proofs.Base.{cases}
+use Rattle.semantics.specs.Values.{bits, byte, bytes, at, valuesOf}
+use Rattle.semantics.proofs.Values.{values-length}
+use Rattle.gadgets.specs.Internal.Accepting.{circuitIn}
+use Rattle.gadgets.proofs.Bits.{bits-at, set-byte}
+use Rattle.simulation.specs.Internal.Evaluating.{packed, Packs, Evaluates}
+
+-- bytes that are bits
+abbrev pub Bits : List ℕ → Type 0
+Bits values = (x : ℕ) → nth values x ≤ 1
+
+one : (f : ℕ → Bool) → packed 1 f ≡ byte (f 0)
+one f = zero-add (byte (f 0))
+
+packs : (values : List ℕ) → Bits values → Packs 1 (λ l. bits values) values
+packs values h i = set-byte (nth values i) (h i) ∙ ap byte (sym (bits-at values i)) ∙ sym (one (λ l. at (bits values) i))
+
+-- a buffer that holds all values, the rest as it was
+all-known : (vs : List Bool) (old new : List ℕ) → length vs ≤ length old → ((x : ℕ) → x < length vs → nth new x ≡ byte (at vs x)) → ((x : ℕ) → length vs ≤ x → nth new x ≡ nth old x) → length new ≡ length old → new ≡ overwrite (bytes vs) old
+all-known vs old new room known rest size = ext-getD 0 new (overwrite (bytes vs) old) (size ∙ sym all) (λ x l. cases (ltb x (length vs)) (λ e. low x (ltb-true x (length vs) e)) (λ e. high x (ltb-false x (length vs) e)))
+  where
+    count : length (bytes vs) ≡ length vs
+    count = length-map vs byte
+
+    all : length (overwrite (bytes vs) old) ≡ length old
+    all = length-append (bytes vs) (drop (length (bytes vs)) old) ∙ omega (arith, length-drop (length (bytes vs)) old, count)
+
+    low : (x : ℕ) → x < length vs → nth new x ≡ nth (overwrite (bytes vs) old) x
+    low x l = known x l ∙ sym (List·getD-append (bytes vs) (drop (length (bytes vs)) old) 0 x (omega (arith, count)) ∙ List·getD-map byte vs x false)
+
+    high : (x : ℕ) → length vs ≤ x → nth new x ≡ nth (overwrite (bytes vs) old) x
+    high x l =
+        let e : x ≡ length (bytes vs) + (x - length (bytes vs)) = omega (arith, count) in
+        rest x l ∙ rw e (simp (getD-append-add, getD-drop))
+
+pub single : {table shares tape old new : List ℕ} → Evaluates table 1 shares tape old new → Bits shares → Bits tape → size (circuitIn table) ≤ length old
+    → new ≡ overwrite (bytes (valuesOf (circuitIn table .wires) (bits shares) (bits tape))) old
+single {table} {shares} {tape} {old} {new} e shared drawn room =
+    let vs = valuesOf (circuitIn table .wires) (bits shares) (bits tape) in
+    let count : length vs ≡ size (circuitIn table) = values-length (bits shares) (bits tape) [] (circuitIn table .wires) ∙ omega arith in
+    all-known vs old new (omega (arith, count)) (λ x l. e .known 1 (λ l. bits shares) (λ l. bits tape) refl (packs shares shared) (packs tape drawn) x (omega (arith, count)) ∙ one (λ l. at vs x))
+    (λ x l. e .above x (omega (arith, count))) (e .sized)
