@@ -109,7 +109,7 @@ pairs-by d n r zs f e = rw e (complete-all n zs (λ xs. sumBits r (f xs)) ∙ sy
 module _ (k : Circuit) (probes reading : List ℕ) (secrets : List Bool) (some : 1 ≤ k .d) (sized : length secrets ≡ k .inputs) where
   -- whether the reading arises from the pair of these free bits
   abbrev pub arises : List Bool → Bool
-  arises free = alike eqb (readingOf (k .wires) probes (sharingOf k probes secrets free) (tapeOf k probes secrets free)) reading
+  arises free = alike eqb (readingOf (k .wires) probes (sharingOf k secrets free) (tapeOf k free)) reading
 
   pub pairs-free : pairsFor k probes secrets reading ≡ sumBits (freeBits k) (λ free. cond (arises free) 1 0)
   unfolding tapesFor

@@ -16,8 +16,9 @@ use Rattle.circuit.specs.Circuit.{isSet}
 use Rattle.circuit.proofs.Base.{cases, and-left, and-right}
 use Rattle.semantics.specs.Values.{byte}
 use Rattle.gadgets.proofs.Bits.{set-byte}
+use Rattle.simulation.specs.Internal.Evaluating.{packed}
 use Rattle.counting.specs.Internal.Pairs.{numberOf}
-use Rattle.counting.specs.Internal.Lanes.{packed, laneBit, spreadOf, gathered, shownOn}
+use Rattle.counting.specs.Internal.Lanes.{laneBit, spreadOf, gathered, shownOn}
 use Rattle.counting.proofs.Numbered.{pow-mono, number-lt}
 
 -- a test that holds of all numbers below another

@@ -5,6 +5,11 @@ pub mod Numbered
 pub mod Shown
 -- The wires that are read
 pub mod Marked
+-- The list as it is written
+pub mod Written
 -- Eight pairs at once
 pub mod Gathering
 pub mod Adding
+pub mod FreeBits
+pub mod Completing
+pub mod Sharing

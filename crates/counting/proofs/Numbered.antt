@@ -61,7 +61,7 @@ combinations-length zero = refl
 combinations-length (suc n) = rw (pow-suc 2 n) (length-append (map (λ bs. false ∷ bs) (combinations n)) (map (λ bs. true ∷ bs) (combinations n))
     ∙ omega (arith, length-map (combinations n) (λ bs. false ∷ bs), length-map (combinations n) (λ bs. true ∷ bs), combinations-length n))
 
-map-at : {A B : Type 0} (f : A → B) (xs : List A) (n : ℕ) (d : B) (e : A) → n < length xs → getD (map f xs) n d ≡ f (getD xs n e)
+pub map-at : {A B : Type 0} (f : A → B) (xs : List A) (n : ℕ) (d : B) (e : A) → n < length xs → getD (map f xs) n d ≡ f (getD xs n e)
 map-at f [] n d e l = absurd (omega arith)
 map-at f (x ∷ xs) zero d e l = refl
 map-at f (x ∷ xs) (suc n) d e l = map-at f xs n d e (omega arith)

@@ -80,7 +80,7 @@ module _ (k : Circuit) (probes : List ℕ) (secrets : List Bool) (some : 1 ≤ k
   count-is bs l = pairs-free k probes (showing (isRead k probes) (range 0 wireLimit) bs) secrets some sized
       ∙ sum-same (freeBits k) (λ free. cond (arises k probes (showing (isRead k probes) (range 0 wireLimit) bs) secrets some sized free) 1 0)
       (λ free. cond (alike Bool·beq (seen k probes secrets free) bs) 1 0)
-      (λ free j. ap (λ t. cond t 1 0) (shown-where (isRead k probes) (valuesOf (k .wires) (sharingOf k probes secrets free) (tapeOf k probes secrets free)) (range 0 wireLimit) bs l))
+      (λ free j. ap (λ t. cond t 1 0) (shown-where (isRead k probes) (valuesOf (k .wires) (sharingOf k secrets free) (tapeOf k free)) (range 0 wireLimit) bs l))
 
   -- as the code counts: pair by pair, at the number of the combination
   pub count-shown : (n : ℕ) → n < 2 ^ length (readWires k probes)

@@ -5,3 +5,4 @@ pub mod Reading
 pub mod Listing
 -- Eight pairs at once
 pub mod Lanes
+pub mod Words

@@ -29,13 +29,13 @@ module _ (op : ℕ → ℕ → ℕ) (o : Bool → Bool → Bool) (none : op 0 0 
       let g′ : ℕ → Bool = λ l. g (suc l) in
       sym (block 1 (packed n f′) (packed n g′) (byte (f 0)) (byte (g 0)) (byte-lt (f 0)) (byte-lt (g 0)) ∙ ap₂ (λ (x y : ℕ). x * 2 + y) (sym (packed-both n f′ g′)) (bits (f 0) (g 0)))
 
-packed-xor : (n : ℕ) (f g : ℕ → Bool) → packed n (λ l. f l ⊕ g l) ≡ bitXor (packed n f) (packed n g)
+pub packed-xor : (n : ℕ) (f g : ℕ → Bool) → packed n (λ l. f l ⊕ g l) ≡ bitXor (packed n f) (packed n g)
 packed-xor = packed-both bitXor _⊕_ refl byte-xor xor-block
 
 packed-and : (n : ℕ) (f g : ℕ → Bool) → packed n (λ l. f l && g l) ≡ bitAnd (packed n f) (packed n g)
 packed-and = packed-both bitAnd _&&_ refl byte-and and-block
 
-packed-none : (n : ℕ) → packed n (λ l. false) ≡ 0
+pub packed-none : (n : ℕ) → packed n (λ l. false) ≡ 0
 packed-none zero = refl
 packed-none (suc n) = ap (λ (x : ℕ). x * 2 + 0) (packed-none n)
 

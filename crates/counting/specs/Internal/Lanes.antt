@@ -7,12 +7,7 @@ use lib.Dec.{eqb}
 use lib.ListN.{length}
 use Rattle.circuit.specs.Lists.{nth}
 use Rattle.circuit.specs.Circuit.{isSet}
-use Rattle.semantics.specs.Values.{byte}
 use Rattle.counting.specs.Internal.Pairs.{sumTo, numberOf}
-
-abbrev pub packed : ℕ → (ℕ → Bool) → ℕ
-packed zero f = 0
-packed (suc n) f = packed n (λ l. f (suc l)) * 2 + byte (f 0)
 
 -- the bit of a pair in a byte
 abbrev pub laneBit : (lane byte : ℕ) → Bool

@@ -30,16 +30,21 @@ abbrev pub numberOf : List Bool → ℕ
 numberOf [] = 0
 numberOf (b ∷ bs) = byte b * 2 ^ length bs + numberOf bs
 
+-- the sharing and the tape of free bits
+abbrev pub sharingOf : Circuit → (secrets free : List Bool) → List Bool
+sharingOf k secrets free = completed (k .d - 1) secrets free
+
+abbrev pub tapeOf : Circuit → (free : List Bool) → List Bool
+tapeOf k free = drop ((k .d - 1) * k .inputs) free
+
+-- the values of all wires in the pair of a number
+abbrev pub valuesIn : Circuit → (secrets : List Bool) (number : ℕ) → List Bool
+valuesIn k secrets t = let free = freeOf (freeBits k) t in valuesOf (k .wires) (sharingOf k secrets free) (tapeOf k free)
+
 module _ (k : Circuit) (probes : List ℕ) (secrets : List Bool) where
-  -- the sharing and the tape of free bits, and what the read wires show
-  abbrev pub sharingOf : List Bool → List Bool
-  sharingOf free = completed (k .d - 1) secrets free
-
-  abbrev pub tapeOf : List Bool → List Bool
-  tapeOf free = drop ((k .d - 1) * k .inputs) free
-
+  -- what the read wires show
   abbrev pub seen : List Bool → List Bool
-  seen free = map (at (valuesOf (k .wires) (sharingOf free) (tapeOf free))) (readWires k probes)
+  seen free = map (at (valuesOf (k .wires) (sharingOf k secrets free) (tapeOf k free))) (readWires k probes)
 
   -- the number of the combination that the pair of a number shows, and how many of the first t pairs show that of n
   abbrev pub seenIn : ℕ → ℕ

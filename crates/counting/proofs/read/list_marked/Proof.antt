@@ -1,42 +1,18 @@
+-- The loop's invariant: the marked wires so far are listed.
+use mathlib.Core.Path.{_≡_, subst}
+use Prim.Native.Nat.{ℕ, _-_, _≤_}
+use native.Mathlib.Omega.{arith}
+use borrow.Author.Needs.{needs}
+use Rattle.counting.specs.Internal.Reading.{Listed}
 use Rattle.counting.proofs.read.list_marked.Statement.{statement}
 use Rattle.counting.proofs.read.list_marked.Tie as tie
-use Rattle.counting.proofs.read.list_marked.Reads as reads
-use Rattle.counting.proofs.read.list_marked.Lts as lts
-use Rattle.counting.proofs.read.list_wire.Reads as list-wire-reads
+use Rattle.counting.proofs.Marked.{listed-start, listed-next}
 
 abbrev Inv-loop : tie.InvT-loop
-Inv-loop marks wires read₀ count₀ x₀ read count x = ?
+Inv-loop marks wires read₀ count₀ x₀ read count x = (x ≤ wires) × Listed marks x read count
 
 abbrev μ-loop : tie.MeasureT-loop
-μ-loop marks wires read₀ count₀ x₀ read count x = ?
-
--- src/read.rt:33:5
-loop-holds : tie.Need-loop-holds Inv-loop μ-loop
-loop-holds c = ?
-
--- src/read.rt:34:27
-element-copy-out-list-wire : tie.Need-element-copy-out-list-wire Inv-loop μ-loop
-element-copy-out-list-wire c = ?
-
--- src/read.rt:34:9
-list-wire-requires : tie.Need-list-wire-requires Inv-loop μ-loop
-list-wire-requires c κs = ?
-
--- src/read.rt:35:9
-add-x : tie.Need-add-x Inv-loop μ-loop
-add-x c = ?
-
--- src/read.rt:33:5
-loop-less : tie.Need-loop-less Inv-loop μ-loop
-loop-less c = ?
-
--- src/read.rt:33:5
-loop-again : tie.Need-loop-again Inv-loop μ-loop
-loop-again c = ?
-
--- src/read.rt:27:1
-returns : tie.Need-returns Inv-loop μ-loop
-returns c = ?
+μ-loop marks wires read₀ count₀ x₀ read count x = wires - x
 
 pub list-marked-spec : {M : Type 1} → statement M
 list-marked-spec =
@@ -44,10 +20,11 @@ list-marked-spec =
     (tie.spec
     Inv-loop
     μ-loop
-    loop-holds
-    element-copy-out-list-wire
-    list-wire-requires
-    add-x
-    loop-less
-    loop-again
-    returns)
+    (λ c. (omega arith, listed-start _ _ (c .pre .1)))
+    (λ c. omega arith)
+    (λ c κs. let l = c .before .before .before .loop .inv .1 in (omega arith, omega (arith, l .few), l .sized))
+    (λ c. search needs)
+    (λ c. omega arith)
+    (λ c. (omega arith, listed-next (c .before .before .before .before .loop .inv .1) (c .list-wire .ensures .0) (c .list-wire .ensures .1)))
+    (λ c. let a = c .before .before .args in let e : c .before .loop .x ≡ a .wires = omega arith in
+    subst (λ (n : ℕ). Listed (a .marks .now) n (c .before .loop .read) (c .before .loop .count)) e (c .before .loop .inv .1)))
