@@ -13,3 +13,6 @@ pub mod Adding
 pub mod FreeBits
 pub mod Completing
 pub mod Sharing
+pub mod Batches
+-- All pairs of one set
+pub mod Tallying

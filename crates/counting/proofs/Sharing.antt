@@ -5,7 +5,7 @@ use Prim.Native.Nat.{ℕ, zero, suc, _+_, _*_, _-_, _≤_, _<_}
 use native.Mathlib.Nat.{add-zero, sub-zero, mul-le-mul-left}
 use native.Mathlib.Omega.{arith}
 use lib.Bits.{bitXor}
-use lib.ListN.{length, take, drop, set, length-set, length-drop, drop-of-length-le}
+use lib.ListN.{length, take, drop, set, length-set, length-drop, length-append, drop-of-length-le}
 use lib.Seq.{sets, length-sets, length-take-le, drop-cons, drop-drop}
 use Rattle.circuit.specs.Lists.{nth}
 use Rattle.circuit.proofs.Base.{stores-append}
@@ -57,6 +57,14 @@ shares-length : (sum : ℕ) (ws : List ℕ) → length (sharesOf sum ws) ≡ suc
 unfolding sharesOf
 shares-length sum [] = refl
 shares-length sum (w ∷ ws) = ap suc (shares-length (bitXor sum w) ws)
+
+pub all-length : (n : ℕ) (zs ws : List ℕ) → n * length zs ≤ length ws → length (allShares n zs ws) ≡ (n + 1) * length zs
+unfolding allShares
+all-length n [] ws h = omega arith
+all-length n (z ∷ zs) ws h =
+    let one = sharesOf (255 * z) (take n ws) in
+    length-append one (allShares n zs (drop n ws))
+    ∙ omega (arith, shares-length (255 * z) (take n ws), length-take-le n ws (omega arith), all-length n zs (drop n ws) (rw (length-drop n ws) (omega arith)))
 
 module _ {words : List ℕ} {others : ℕ} {secrets old shares : List ℕ} {from at j : ℕ} (a : AllTo words others secrets old shares from at j) where
   -- the words that the bit j takes, and where the next begin

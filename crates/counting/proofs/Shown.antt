@@ -16,7 +16,7 @@ use Rattle.semantics.specs.Probes.{sheet}
 use Rattle.semantics.specs.Counts.{alike, EqualCounts}
 use Rattle.secrecy.proofs.Sums.{sumBits, sum-same}
 use Rattle.counting.specs.Counting.{combinations, showing, isRead, readWires, freeBits, pairCount, countOf, total, AddUp, SameColumns}
-use Rattle.counting.specs.Internal.Pairs.{freeOf, sumTo, numberOf, sharingOf, tapeOf, seen, seenIn, shownTo}
+use Rattle.counting.specs.Internal.Pairs.{freeOf, sumTo, numberOf, sharingOf, tapeOf, seen, shownOf}
 use Rattle.counting.proofs.Free.{sum-none, arises, pairs-free}
 use Rattle.counting.proofs.Numbered.{sum-numbers, combination-at, combination-length, sum-to-same}
 
@@ -84,13 +84,13 @@ module _ (k : Circuit) (probes : List ℕ) (secrets : List Bool) (some : 1 ≤ k
 
   -- as the code counts: pair by pair, at the number of the combination
   pub count-shown : (n : ℕ) → n < 2 ^ length (readWires k probes)
-      → countOf k probes secrets (getD (combinations (length (readWires k probes))) n []) ≡ shownTo k probes secrets (pairCount k) n
+      → countOf k probes secrets (getD (combinations (length (readWires k probes))) n []) ≡ shownOf k secrets (readWires k probes) (pairCount k) n
   count-shown n l =
       let m = length (readWires k probes) in
       let bs = getD (combinations m) n [] in
       let at-once : (free : List Bool) → length (seen k probes secrets free) ≡ m = λ free. length-map (readWires k probes) _ in
       count-is bs (combination-length m n l) ∙ sum-numbers (freeBits k) (λ free. cond (alike Bool·beq (seen k probes secrets free) bs) 1 0)
-      ∙ sum-to-same (pairCount k) (λ t. cond (alike Bool·beq (seen k probes secrets (freeOf (freeBits k) t)) bs) 1 0) (λ t. cond (eqb (seenIn k probes secrets t) n) 1 0)
+      ∙ sum-to-same (pairCount k) (λ t. cond (alike Bool·beq (seen k probes secrets (freeOf (freeBits k) t)) bs) 1 0) (λ t. cond (eqb (numberOf (seen k probes secrets (freeOf (freeBits k) t))) n) 1 0)
       (λ t h. ap (λ b. cond b 1 0) (at-number (seen k probes secrets (freeOf (freeBits k) t)) m n (at-once (freeOf (freeBits k) t)) l))
 
   -- every pair shows one combination

@@ -6,3 +6,5 @@ pub mod Listing
 -- Eight pairs at once
 pub mod Lanes
 pub mod Words
+-- All pairs of one set
+pub mod Tallying

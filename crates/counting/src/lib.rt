@@ -7,3 +7,4 @@ mod listing;
 mod numbers;
 mod pairs;
 mod read;
+mod tally;

@@ -46,9 +46,6 @@ module _ (k : Circuit) (probes : List ℕ) (secrets : List Bool) where
   abbrev pub seen : List Bool → List Bool
   seen free = map (at (valuesOf (k .wires) (sharingOf k secrets free) (tapeOf k free))) (readWires k probes)
 
-  -- the number of the combination that the pair of a number shows, and how many of the first t pairs show that of n
-  abbrev pub seenIn : ℕ → ℕ
-  seenIn t = numberOf (seen (freeOf (freeBits k) t))
-
-  abbrev pub shownTo : (t n : ℕ) → ℕ
-  shownTo t n = sumTo t (λ u. cond (eqb (seenIn u) n) 1 0)
+-- how many of the first so many pairs show the combination of number n on wires
+abbrev pub shownOf : Circuit → (secrets : List Bool) (wires : List ℕ) (count n : ℕ) → ℕ
+shownOf k secrets wires t n = sumTo t (λ u. cond (eqb (numberOf (map (at (valuesIn k secrets u)) wires)) n) 1 0)
