@@ -16,3 +16,5 @@ pub mod Sharing
 pub mod Batches
 -- All pairs of one set
 pub mod Tallying
+-- The rules of the call
+pub mod Judging

@@ -8,3 +8,5 @@ pub mod Lanes
 pub mod Words
 -- All pairs of one set
 pub mod Tallying
+-- The rules before 25
+pub mod Judging

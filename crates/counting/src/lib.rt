@@ -2,6 +2,7 @@
 // values in an accepted circuit.
 ghost use mathlib.Core.Path.{_≡_};
 
+mod judge;
 mod lanes;
 mod listing;
 mod numbers;

@@ -33,10 +33,10 @@ use Rattle.evaluation.specs.Internal.Calling.{Shortest, Judged}
 
 -- a refusal is that of the rules behind it too, and leaves a buffer as found
 module _ (k : Circuit) (j : Judgement) {a b c : ℕ} (h : refused a b c ≡ answer k j) where
-  answer-refuse : (rest : Judgement) → refused a b c ≡ answer k (j then rest)
+  pub answer-refuse : (rest : Judgement) → refused a b c ≡ answer k (j then rest)
   answer-refuse rest = rw (answer-refused k j h)
 
-  untouched : (new old : List ℕ) → old ≡ written j new old
+  pub untouched : (new old : List ℕ) → old ≡ written j new old
   untouched new old = rw (answer-refused k j h)
 
 -- what is left of a judgement once a rule is kept, and its end where it is broken
@@ -53,7 +53,7 @@ pub first-found : {j : Judgement} (rule i : ℕ) (xs : List ℕ) (r : ℕ) (rest
 first-found rule i xs r rest e h w z = e ∙ rw (lt-ltb r (length xs) h) (ap (refuse rule 0) z)
 
 -- shares, then tape
-then-assoc : (i j k : Judgement) → ((i then j) then k) ≡ (i then (j then k))
+pub then-assoc : (i j k : Judgement) → ((i then j) then k) ≡ (i then (j then k))
 then-assoc pass j k = refl
 then-assoc (refuse a b c) j k = refl
 
@@ -67,13 +67,13 @@ bytes-append n [] ys = simp add-zero
 bytes-append n (x ∷ xs) ys = rw (add-suc n (length xs), ← suc-add n (length xs), then-assoc (need (leb x 1) 18 0 n)) (ap (λ j. need (leb x 1) 18 0 n then j) (bytes-append (suc n) xs ys))
 
 -- bytes that pass are bits, and probes that pass are on wires
-bits-pass : (i : ℕ) (xs : List ℕ) → bytesRule i xs ≡ pass → Bits xs
+pub bits-pass : (i : ℕ) (xs : List ℕ) → bytesRule i xs ≡ pass → Bits xs
 unfolding bytesRule
 bits-pass i [] h x = omega arith
 bits-pass i (b ∷ xs) h zero = leb-true b 1 (need-then (leb b 1) 18 0 i (bytesRule (suc i) xs) h .0)
 bits-pass i (b ∷ xs) h (suc x) = bits-pass (suc i) xs (need-then (leb b 1) 18 0 i (bytesRule (suc i) xs) h .1) x
 
-probes-pass : (k : Circuit) (n : ℕ) (ps : List ℕ) → probesRule k n ps ≡ pass → (x : ℕ) → In x ps → x < size k
+pub probes-pass : (k : Circuit) (n : ℕ) (ps : List ℕ) → probesRule k n ps ≡ pass → (x : ℕ) → In x ps → x < size k
 unfolding probesRule
 probes-pass k n [] h x i = absurd (false≢true i)
 probes-pass k n (p ∷ ps) h x i =

@@ -3,7 +3,6 @@ ghost use mathlib.Core.Path.{_≡_};
 ghost use mathlib.Core.List.{[], _∷_};
 ghost use Prim.Native.Nat.{_≤_, min};
 ghost use lib.ListN.{length};
-ghost use Rattle.circuit.specs.Answer.{refused as refusedAnswer};
 ghost use Rattle.checker.specs.Answers.{answerOf};
 ghost use Rattle.semantics.specs.Calls.{Accepts, circuitOf, written, callRule, callAnswer, callNotes, valueBytes, readingBytes};
 ghost use Rattle.semantics.specs.Values.{bits, valuesOf};
@@ -15,18 +14,7 @@ use circuit::WIRES;
 use reach::readings;
 use simulation::values;
 
-mod rules;
-
-// A refusal of the call, at a word.
-fn refusal(rule: usize, word: usize) -> Verdict
-    ensures { λ r. ⌜ answerOf r ≡ refusedAnswer rule 0 word ⌝ }
-{
-    Verdict::Refused {
-        rule,
-        frame: 0,
-        word,
-    }
-}
+pub mod rules;
 
 // A call judged: by the checker, then by rules 15 to 19, the shortest buffer having so many bytes.
 fn judge(
@@ -50,25 +38,25 @@ fn judge(
         return verdict;
     };
     if shares.len() != inputs * table[1] as usize {
-        return refusal(15, 0);
+        return rules::refusal(15, 0);
     }
     if tape.len() != randoms {
-        return refusal(16, 0);
+        return rules::refusal(16, 0);
     }
     if room < WIRES {
-        return refusal(17, 0);
+        return rules::refusal(17, 0);
     }
     let share = rules::first_over(shares);
     if share < shares.len() {
-        return refusal(18, share);
+        return rules::refusal(18, share);
     }
     let drawn = rules::first_over(tape);
     if drawn < tape.len() {
-        return refusal(18, shares.len() + drawn);
+        return rules::refusal(18, shares.len() + drawn);
     }
     let probe = rules::first_missing(probes, wires);
     if probe < probes.len() {
-        return refusal(19, probe);
+        return rules::refusal(19, probe);
     }
     verdict
 }
