@@ -13,6 +13,8 @@ use Rattle.semantics.specs.Values.{bits, byte, at}
 use Rattle.semantics.specs.Probes.{stops}
 use Rattle.semantics.specs.Calls.{bytesRule, probesRule, circuitOf, written}
 use Rattle.semantics.specs.Counts.{countDistinct, pairsFor}
+use Rattle.counting.specs.declared.Counted.{Counted}
+use Rattle.counting.specs.declared.Counted.the-variants.{Accepted, Refused}
 
 -- all combinations of so many bits, in rising order, the first bit the highest
 abbrev pub combinations : ℕ → List (List Bool)
@@ -61,6 +63,11 @@ module _ (k : Circuit) (probes : List ℕ) where
 pub data CountAnswer : Type 0 where
   accepted : (read combinations pairs : ℕ) → CountAnswer
   refused : (rule frame word : ℕ) → CountAnswer
+
+-- what the code's answer says
+abbrev pub countAnswerOf : Counted → CountAnswer
+countAnswerOf (Accepted read combinations pairs) = accepted read combinations pairs
+countAnswerOf (Refused rule frame word) = refused rule frame word
 
 -- a call with notes of these words, both sets of secret bits in one list, and a sheet of counts
 module _ (table notes secrets probes counts : List ℕ) where

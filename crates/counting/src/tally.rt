@@ -5,10 +5,11 @@ ghost use lib.ListN.{length, take};
 ghost use Rattle.circuit.specs.Limits.{wireLimit};
 ghost use Rattle.circuit.specs.Lists.{nth};
 ghost use Rattle.circuit.specs.Circuit.{size};
-ghost use Rattle.gadgets.specs.Internal.Accepting.{circuitIn};
-ghost use Rattle.counting.specs.Counting.{freeBits};
-ghost use Rattle.counting.specs.Internal.Tallying.{Countable, HoldsPairs, Divides, Tallied};
+ghost use Rattle.gadgets.specs.Internal.Accepting.{AcceptedTable, circuitIn};
+ghost use Rattle.counting.specs.Counting.{freeBits, pairCount};
+ghost use Rattle.counting.specs.Internal.Tallying.{Countable, HoldsPairs, Divides, Tallied, BothCountable, ReadIn, ListsCounts};
 use super::lanes;
+use super::listing;
 use super::numbers;
 use super::pairs;
 use circuit::WIRES;
@@ -84,4 +85,36 @@ pub(crate) fn tally_set(
         lanes::add(tally, numbers, batches.lanes);
         batch += 1;
     }
+}
+
+// How many pairs there are for a set of secret bits.
+pub(crate) fn count_pairs(table: &[u16], inputs: usize, randoms: usize) -> usize
+    requires { ⌜ AcceptedTable (now table) × (inputs ≡ circuitIn (now table) .inputs) × (randoms ≡ circuitIn (now table) .randoms) × (freeBits (circuitIn (now table)) ≤ 16) ⌝ }
+    ensures { λ r. ⌜ (r ≡ pairCount (circuitIn (now (table .entry)))) × (1 ≤ r) × (r ≤ 65536) ⌝ }
+{
+    numbers::power((table[1] as usize - 1) * inputs + randoms)
+}
+
+// The list of counts under both sets of secret bits.
+pub(crate) fn list_counts(
+    table: &[u16],
+    secrets: &[u8],
+    inputs: usize,
+    randoms: usize,
+    read: &[u16; 8],
+    found: usize,
+    pairs: usize,
+    counts: &mut [u32],
+)
+    requires { ⌜ BothCountable (now table) (now secrets) inputs randoms × ReadIn (now table) (now read) found × (pairs ≡ pairCount (circuitIn (now table))) × (1024 ≤ length (now counts)) ⌝ }
+    ensures { λ _. ⌜ ListsCounts (now (table .entry)) (now (secrets .entry)) inputs (take found (now (read .entry))) (now (counts .entry)) (now (counts .exit)) ⌝ }
+{
+    let one = &secrets[0..inputs];
+    let end = secrets.len();
+    let other = &secrets[inputs..end];
+    let mut first = [0u32; 256];
+    let mut second = [0u32; 256];
+    tally_set(table, one, randoms, read, found, &mut first);
+    tally_set(table, other, randoms, read, found, &mut second);
+    listing::write_list(&first, &second, numbers::power(found), pairs as u32, counts);
 }

@@ -6,11 +6,11 @@ use lib.Dec.{leb, eqb}
 use lib.ListN.{length}
 use Rattle.circuit.specs.Circuit.{Circuit}
 use Rattle.circuit.specs.Rules.{Judgement, need, _then_, checked}
-use Rattle.circuit.specs.Answer.{answer, notesAfter}
+use Rattle.circuit.specs.Answer.{Answer, accepted as taken, refused as untaken, answer, notesAfter}
 use Rattle.semantics.specs.Calls.{bytesRule, probesRule, circuitOf}
 use Rattle.checker.specs.declared.Verdict.{Verdict}
 use Rattle.checker.specs.Answers.{answerOf, inputsAre}
-use Rattle.counting.specs.Counting.{freeBits}
+use Rattle.counting.specs.Counting.{freeBits, CountAnswer, refused}
 
 module _ (table notes secrets probes : List ℕ) (room : ℕ) where
   abbrev k : Circuit
@@ -30,3 +30,8 @@ module _ (table notes secrets probes : List ℕ) (room : ℕ) where
     pub answers : answerOf r ≡ answer k firstRules
     pub noted : newNotes ≡ notesAfter k notes
     pub inputs : inputsAre r (k .inputs)
+
+-- a refusal as this call's answer
+abbrev pub refusalIn : Answer → CountAnswer
+refusalIn (taken wires randoms latency) = refused 0 0 0
+refusalIn (untaken rule frame word) = refused rule frame word

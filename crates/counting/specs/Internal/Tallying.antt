@@ -2,13 +2,13 @@
 use mathlib.Core.Path.{_≡_}
 use mathlib.Core.List.{List}
 use Prim.Native.Nat.{ℕ, _+_, _*_, _-_, _^_, _≤_, _<_}
-use lib.ListN.{length, take}
-use Rattle.circuit.specs.Lists.{nth}
+use lib.ListN.{length, take, drop}
+use Rattle.circuit.specs.Lists.{nth, overwrite}
 use Rattle.circuit.specs.Circuit.{size}
 use Rattle.semantics.specs.Values.{bits, at}
 use Rattle.gadgets.specs.Internal.Accepting.{AcceptedTable, circuitIn}
 use Rattle.simulation.specs.Internal.Evaluating.{packed}
-use Rattle.counting.specs.Counting.{freeBits, pairCount}
+use Rattle.counting.specs.Counting.{freeBits, pairCount, readWires, countList}
 use Rattle.counting.specs.Internal.Pairs.{valuesIn, shownOf}
 
 -- an accepted table of few free bits, with a set of secret bits
@@ -33,3 +33,23 @@ pub record Divides (free count lanes : ℕ) : Type 0 where
 pub record Tallied (table secrets wires tally : List ℕ) : Type 0 where
   pub counts : (n : ℕ) → n < 256 → nth tally n ≡ shownOf (circuitIn table) (bits secrets) wires (pairCount (circuitIn table)) n
   pub few : (n : ℕ) → nth tally n ≤ 65536
+
+-- an accepted table of few free bits, with two sets of secret bits in one list
+pub record BothCountable (table secrets : List ℕ) (inputs randoms : ℕ) : Type 0 where
+  pub accepted : AcceptedTable table
+  pub inputs-are : inputs ≡ circuitIn table .inputs
+  pub randoms-are : randoms ≡ circuitIn table .randoms
+  pub sized : length secrets ≡ 2 * inputs
+  pub bit : (x : ℕ) → nth secrets x ≤ 1
+  pub few : freeBits (circuitIn table) ≤ 16
+
+-- a list of wires that are read
+pub record ReadIn (table read : List ℕ) (found : ℕ) : Type 0 where
+  pub few : found ≤ 8
+  pub sized : length read ≡ 8
+  pub made : (i : ℕ) → i < found → nth read i < size (circuitIn table)
+
+-- the list of counts for probes that read these wires
+pub record ListsCounts (table secrets : List ℕ) (inputs : ℕ) (wires old new : List ℕ) : Type 0 where
+  pub is : (probes : List ℕ) → readWires (circuitIn table) probes ≡ wires
+      → new ≡ overwrite (countList (circuitIn table) probes (bits (take inputs secrets)) (bits (drop inputs secrets))) old
