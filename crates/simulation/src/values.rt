@@ -15,7 +15,7 @@ use frames::walk::Step;
 use frames::walk::Walk;
 
 // A word as a bit, in each evaluation.
-fn bit(word: u16, ones: u8) -> u8
+pub fn bit(word: u16, ones: u8) -> u8
     ensures { λ r. ⌜ r ≡ cond (isSet word) ones 0 ⌝ }
 {
     if word < 1 { 0 } else { ones }

@@ -1,0 +1,179 @@
+-- The values of an expanded table's wires, run by run and frame by frame.
+use mathlib.Core.Path.{_≡_, refl, sym, ap, subst, fun-ext, _∙_}
+use mathlib.Core.Bool.{Bool, true, false}
+use mathlib.Core.List.{List, []}
+use Prim.Native.Nat.{ℕ, _+_, _*_, _≤_, _<_}
+use native.Mathlib.Numerals.{add-one}
+use native.Mathlib.Omega.{arith}
+use lib.Bits.{bitXor}
+use lib.ListN.{length, length-drop, List·getD-eq-default}
+use Rattle.circuit.specs.Limits.{wireLimit}
+use Rattle.circuit.specs.Lists.{nth}
+use Rattle.circuit.specs.Wires.{Wire}
+use Rattle.circuit.specs.Circuit.{Circuit, size}
+use Rattle.circuit.specs.Composition.{wordsOf}
+use Rattle.semantics.specs.Values.{valuesOf}
+use Rattle.semantics.proofs.Values.{values-length}
+use Rattle.frames.specs.declared.walk.Frame.{Frame as FrameCode}
+use Rattle.frames.specs.declared.walk.Walk.{Walk}
+use Rattle.frames.specs.declared.walk.Step.{Step}
+use Rattle.frames.specs.declared.walk.Step.the-variants.{Next, Refused, End}
+use Rattle.frames.specs.declared.kinds.Shape.{Shape as ShapeCode}
+use Rattle.frames.specs.Walk.{operandsAt, stepAt}
+use Rattle.gadgets.specs.Internal.Gates.{gateAt}
+use Rattle.gadgets.specs.Internal.Frames.{frameWires}
+use Rattle.gadgets.specs.Internal.Accepting.{AcceptedTable, circuitIn}
+use Rattle.gadgets.proofs.Walking.{whole, whole-few, whole-ordered, so-far, second-word, wires-grow, Met, Answers, step-answers}
+use Rattle.simulation.specs.Internal.Filling.{Known, Fills, FrameValues}
+use Rattle.simulation.specs.Internal.Evaluating.{packed, Packs, Evaluable, Evaluates}
+use Rattle.simulation.proofs.Packing.{packed-none}
+use Rattle.simulation.proofs.Filled.{known-all}
+use Rattle.simulation.proofs.Equations.{valuesAt, rank, gate-value}
+use Rattle.simulation.proofs.Evaluating.{FilledTo, frame-filled}
+use Rattle.expansion.specs.Internal.Expanding.{EarlyRun, SumRun, AffineRun, Listed, stepWires, endOf, Expanded}
+
+-- there is no wire wireLimit, and its value is 0
+no-value : (ws : List Wire) → length ws ≤ wireLimit → (n : ℕ) (sharings tapes : ℕ → List Bool) → valuesAt ws n sharings tapes wireLimit ≡ 0
+no-value ws few n sharings tapes = ap (packed n) (fun-ext (λ l. List·getD-eq-default (valuesOf ws (sharings l) (tapes l)) false (omega (arith, values-length (sharings l) (tapes l) [] ws)))) ∙ packed-none n
+
+-- the values of the wires below w are filled in
+pub record EvaluatedTo (ws : List Wire) (shares tape old values : List ℕ) (w : ℕ) : Type 0 where
+  pub known : (n : ℕ) (sharings tapes : ℕ → List Bool) → 255 ≡ packed n (λ l. true) → Packs n sharings shares → Packs n tapes tape
+      → Known (valuesAt ws n sharings tapes) 0 w values
+  pub above : (x : ℕ) → w ≤ x → nth values x ≡ nth old x
+  pub sized : length values ≡ length old
+
+pub evaluated-start : (ws : List Wire) (shares tape old : List ℕ) → EvaluatedTo ws shares tape old old 0
+evaluated-start ws shares tape old = record { known = λ n sharings tapes full shared drawn x l u. absurd (omega arith); above = λ x l. refl; sized = refl }
+
+-- a run of sums: what its code rests on, and its values
+module _ {table left right constants : List ℕ} (a : AcceptedTable table) {from to : ℕ} (r : AffineRun left right constants (whole a .wires) from to) (made : to ≤ size (whole a)) where
+  run-early : (wireLimit < length left) × (wireLimit < length right) × (wireLimit < length constants) → EarlyRun left right constants from to
+  run-early rooms = record {
+    rising = r .rising;
+    most = omega (arith, whole-few a);
+    left-room = rooms .0;
+    right-room = rooms .1;
+    room = rooms .2;
+    left-early = λ x l u. r .gates x l u .left-early;
+    right-early = λ x l u. r .gates x l u .right-early;
+  }
+
+  pub run-evaluated : {shares tape old values new : List ℕ} → Fills (SumRun left right constants from to) from to values new → EvaluatedTo (whole a .wires) shares tape old values from → EvaluatedTo (whole a .wires) shares tape old new to
+  run-evaluated {shares} {tape} g f = record {
+    known = λ n sharings tapes full shared drawn.
+        let ws = whole a .wires in
+        let v = valuesAt ws n sharings tapes in
+        let none = no-value ws (whole-few a) n sharings tapes in
+        let sums : (x : ℕ) → from ≤ x → x < to → v x ≡ bitXor (bitXor (v (nth left x)) (v (nth right x))) (nth constants x) = λ x l u. gate-value ws (whole-ordered a) 255 shares tape n sharings tapes full shared drawn x (gateAt ws x) (omega arith) refl ∙ r .gates x l u .is shares tape v _ none in
+        known-all g v (record { none = none; sums = sums }) (f .known n sharings tapes full shared drawn);
+    above = λ x l. g .above x l ∙ f .above x (omega (arith, r .rising));
+    sized = g .size ∙ f .sized;
+  }
+
+-- the wires up to the end of the first i listed frames are filled in
+pub record EvaluatingTo (table left right constants listed : List ℕ) (wires count : ℕ) (shares tape old values : List ℕ) (w i : ℕ) : Type 0 where
+  pub expanded : Expanded table left right constants listed wires count
+  pub evaluable : Evaluable table shares tape (length old)
+  pub all : wires ≡ size (circuitIn table)
+  pub room : wireLimit < length old
+  pub zero : nth old wireLimit ≡ 0
+  pub most : i ≤ count
+  pub end-is : w ≡ endOf table listed i
+  pub evaluated : EvaluatedTo (whole (expanded .accepted) .wires) shares tape old values w
+
+module _ {table left right constants listed : List ℕ} {wires count : ℕ} {shares tape old values : List ℕ} {w i : ℕ}
+    (t : EvaluatingTo table left right constants listed wires count shares tape old values w i) where
+  abbrev e : Expanded table left right constants listed wires count
+  e = t .expanded
+
+  abbrev a : AcceptedTable table
+  a = e .accepted
+
+  abbrev ws : List Wire
+  ws = whole a .wires
+
+  -- a run from here on
+  asks : {to : ℕ} → AffineRun left right constants ws w to → to ≤ length ws → EarlyRun left right constants w to × (wireLimit < length values) × (nth values wireLimit ≡ 0)
+  asks r made = (run-early a r made (e .left-room, e .right-room, e .room), omega (arith, t .room, t .evaluated .sized), t .evaluated .above wireLimit (omega (arith, r .rising, whole-few a)) ∙ t .zero)
+
+  -- behind the last listed frame
+  module _ (done : count ≤ i) where
+    last : AffineRun left right constants ws w wires
+    last = let same : count ≡ i = omega (arith, t .most) in subst (λ (n : ℕ). AffineRun left right constants ws n wires) (ap (endOf table listed) same ∙ sym (t .end-is)) (e .last)
+
+    all-made : wires ≡ length ws
+    all-made = t .all ∙ ap size (a .circuit-is)
+
+    pub last-asks : EarlyRun left right constants w wires × (wireLimit < length values) × (nth values wireLimit ≡ 0)
+    last-asks = asks last (omega (arith, all-made))
+
+    pub all-evaluated : {new : List ℕ} → Fills (SumRun left right constants w wires) w wires values new → Evaluates table 255 shares tape old new
+    all-evaluated g = let f = run-evaluated a last (omega (arith, all-made)) g (t .evaluated) in record {
+      known = λ n sharings tapes full shared drawn x l. rw (a .circuit-is) (f .known n sharings tapes full shared drawn x (omega arith) (omega (arith, t .all)));
+      above = λ x l. f .above x (omega (arith, t .all));
+      sized = f .sized;
+    }
+
+  -- the next listed frame
+  module _ (l : i < count) where
+    abbrev place : ℕ
+    place = nth listed (4 * i)
+
+    abbrev first : ℕ
+    first = nth listed (4 * i + 1)
+
+    abbrev from : ℕ
+    from = nth listed (4 * i + 2)
+
+    abbrev used : ℕ
+    used = nth listed (4 * i + 3)
+
+    abbrev d : ℕ
+    d = nth table 1
+
+    abbrev f : Listed left right constants a (endOf table listed i) place first from used wires
+    f = e .frames i l
+
+    pub gap : AffineRun left right constants ws w first
+    gap = subst (λ (n : ℕ). AffineRun left right constants ws n first) (sym (t .end-is)) (f .gap)
+
+    pub first-made : first ≤ length ws
+    first-made = omega (arith, f .first-is, wires-grow a (f .between))
+
+    pub frame-asks : EarlyRun left right constants w first × (wireLimit < length values) × (nth values wireLimit ≡ 0)
+    frame-asks = asks gap first-made
+
+    pub here : {s : Step} → stepAt table d place ≡ s → Answers a (f .between) d first from s
+    here = step-answers a (f .between) (second-word a) (f .first-is) (f .from-is)
+
+    pub no-end : stepAt table d place ≡ End → ⊥
+    no-end h = omega (arith, f .inside, length-drop place table, ap length (f .between .rest ∙ ap wordsOf (here h)))
+
+    -- behind the run before it
+    module _ {mid : List ℕ} (g : Fills (SumRun left right constants w first) w first values mid) where
+      abbrev pub filled : FilledTo table 255 shares tape old mid place first from used
+      filled = let v = run-evaluated a gap first-made g (t .evaluated) in record {
+        evaluable = record { accepted = a; shared = t .evaluable .shared; drawn = t .evaluable .drawn; roomy = t .evaluable .roomy };
+        between = f .between;
+        wires-are = f .first-is;
+        from-are = f .from-is;
+        used-are = f .used-is;
+        known = v .known;
+        above = v .above;
+        sized = v .sized;
+      }
+
+      pub frame-evaluated : {fr : FrameCode} {sh : ShapeCode} {wk : Walk} → stepAt table d place ≡ Next fr sh wk → {new : List ℕ}
+          → Fills (FrameValues fr 255 d first from used (operandsAt table d place) shares tape) first (first + frameWires fr d) mid new
+          → EvaluatingTo table left right constants listed wires count shares tape old new (first + sh .wires) (i + 1)
+      frame-evaluated {sh = sh} h {new} k = let v = frame-filled filled (second-word a) (here h) new k in record {
+        expanded = e;
+        evaluable = t .evaluable;
+        all = t .all;
+        room = t .room;
+        zero = t .zero;
+        most = omega arith;
+        end-is = sym (ap (endOf table listed) (add-one i) ∙ ap (λ s. first + stepWires s) h);
+        evaluated = subst (λ (k : Circuit). EvaluatedTo (k .wires) shares tape old new (first + sh .wires)) (sym (v .evaluable .accepted .circuit-is) ∙ a .circuit-is) (record { known = v .known; above = v .above; sized = v .sized });
+      }

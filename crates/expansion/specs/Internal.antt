@@ -1,0 +1,2 @@
+-- An accepted table, expanded
+pub mod Expanding

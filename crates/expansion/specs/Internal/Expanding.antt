@@ -1,0 +1,123 @@
+-- An accepted table, expanded: which wires are sums of two wires' values and a constant, and where the other frames stand.
+use mathlib.Core.Path.{_≡_}
+use mathlib.Core.Bool.{cond}
+use mathlib.Core.List.{List}
+use Prim.Native.Nat.{ℕ, zero, suc, _+_, _*_, _-_, _≤_, _<_}
+use lib.Bits.{bitXor}
+use lib.Dec.{ltb}
+use lib.ListN.{length}
+use Rattle.circuit.specs.Limits.{wireLimit}
+use Rattle.circuit.specs.Lists.{nth}
+use Rattle.circuit.specs.Wires.{Gate, Wire}
+use Rattle.circuit.specs.Circuit.{Circuit, size, isSet}
+use Rattle.frames.specs.declared.walk.Gate.{Gate as GateCode}
+use Rattle.frames.specs.declared.walk.Gate.the-variants as gate
+use Rattle.frames.specs.declared.walk.Frame.{Frame as FrameCode}
+use Rattle.frames.specs.declared.walk.Frame.the-variants as frame
+use Rattle.frames.specs.declared.walk.Step.{Step}
+use Rattle.frames.specs.declared.walk.Step.the-variants.{Next, Refused, End}
+use Rattle.frames.specs.Walk.{stepAt}
+use Rattle.gadgets.specs.Internal.Gates.{gateAt}
+use Rattle.gadgets.specs.Internal.Accepting.{AcceptedTable, Between}
+use Rattle.gadgets.proofs.Walking.{whole, so-far}
+use Rattle.simulation.specs.Internal.Filling.{Values}
+use Rattle.simulation.proofs.Packing.{wordValue}
+use Rattle.expansion.specs.declared.expand.Affine.{Affine}
+
+-- the bits that a sharing of given secret bits and a tape are free to choose
+abbrev pub freeBits : Circuit → ℕ
+freeBits k = (k .d - 1) * k .inputs + k .randoms
+
+-- the sum that a frame's wire is; the wire wireLimit stands for 0
+abbrev pub affineSum : (left right constant : ℕ) → Affine
+affineSum l r f = record { left = l; right = r; constant = f }
+
+abbrev pub noSum : Affine
+noSum = affineSum wireLimit wireLimit 0
+
+abbrev pub gateAffine : GateCode → Affine
+gateAffine (gate.In t) = noSum
+gateAffine (gate.Con l b t) = affineSum wireLimit wireLimit (cond (isSet b) 255 0)
+gateAffine (gate.Xor x y) = affineSum x y 0
+gateAffine (gate.Not x) = affineSum x wireLimit 255
+gateAffine (gate.Reg x) = affineSum x wireLimit 0
+gateAffine gate.Out = noSum
+
+abbrev pub affineOf : FrameCode → Affine
+affineOf (frame.Gate g) = gateAffine g
+affineOf frame.And = noSum
+affineOf frame.Ref = noSum
+
+-- a wire x with this gate is such a sum of earlier wires
+pub record Represents (gate : Gate) (x left right constant : ℕ) : Type 0 where
+  pub is : (shares tape : List ℕ) (v : Values) (used : ℕ) → v wireLimit ≡ 0 → wordValue 255 shares tape gate v used ≡ bitXor (bitXor (v left) (v right)) constant
+  pub left-early : x ≤ left → left ≡ wireLimit
+  pub right-early : x ≤ right → right ≡ wireLimit
+
+module _ (left right constants : List ℕ) where
+  -- the wires from one to another are sums of earlier wires
+  pub record EarlyRun (from to : ℕ) : Type 0 where
+    pub rising : from ≤ to
+    pub most : to ≤ wireLimit
+    pub left-room : wireLimit < length left
+    pub right-room : wireLimit < length right
+    pub room : wireLimit < length constants
+    pub left-early : (x : ℕ) → from ≤ x → x < to → x ≤ nth left x → nth left x ≡ wireLimit
+    pub right-early : (x : ℕ) → from ≤ x → x < to → x ≤ nth right x → nth right x ≡ wireLimit
+
+  -- values that are these sums
+  pub record SumRun (from to : ℕ) (v : Values) : Type 0 where
+    pub none : v wireLimit ≡ 0
+    pub sums : (x : ℕ) → from ≤ x → x < to → v x ≡ bitXor (bitXor (v (nth left x)) (v (nth right x))) (nth constants x)
+
+  -- wires whose gates are these sums
+  pub record AffineRun (ws : List Wire) (from to : ℕ) : Type 0 where
+    pub rising : from ≤ to
+    pub gates : (x : ℕ) → from ≤ x → x < to → Represents (gateAt ws x) x (nth left x) (nth right x) (nth constants x)
+
+  -- a frame on the list: the wires between the listed frame before it, which ends at a wire, and this one are sums; it comes
+  -- before wire w
+  pub record Listed {table : List ℕ} (a : AcceptedTable table) (end place first from used w : ℕ) : Type 0 where
+    pub between : Between table (a .fs) place
+    pub inside : place < length table
+    pub first-is : first ≡ size (so-far a between)
+    pub from-is : from ≡ so-far a between .inputs * a .d
+    pub used-is : used ≡ so-far a between .randoms
+    pub gap : AffineRun (whole a .wires) end first
+    pub below : first ≤ w
+
+-- the list has four words a frame: place, first wire, shares and random bits before it. The wires of the first n listed frames
+-- end here
+abbrev pub stepWires : Step → ℕ
+stepWires (Next fr sh wk) = sh .wires
+stepWires (Refused rule) = 0
+stepWires End = 0
+
+abbrev pub endOf : (table listed : List ℕ) → ℕ → ℕ
+endOf table listed zero = 0
+endOf table listed (suc i) = nth listed (4 * i + 1) + stepWires (stepAt table (nth table 1) (nth listed (4 * i)))
+
+-- the frames with the first w wires, expanded
+pub record Expanded (table left right constants listed : List ℕ) (w count : ℕ) : Type 0 where
+  pub accepted : AcceptedTable table
+  pub left-room : wireLimit < length left
+  pub right-room : wireLimit < length right
+  pub room : wireLimit < length constants
+  pub list-room : 64 ≤ length listed
+  pub few : count ≤ 16
+  pub frames : (i : ℕ) → i < count
+      → Listed left right constants accepted (endOf table listed i) (nth listed (4 * i)) (nth listed (4 * i + 1)) (nth listed (4 * i + 2)) (nth listed (4 * i + 3)) w
+  pub last : AffineRun left right constants (whole accepted .wires) (endOf table listed count) w
+
+-- one frame more on the list, where it takes bits
+pub record Entry (count place first from used : ℕ) (old new : List ℕ) : Type 0 where
+  pub below : (x : ℕ) → x < 4 * count → nth new x ≡ nth old x
+  pub place-is : nth new (4 * count) ≡ place
+  pub first-is : nth new (4 * count + 1) ≡ first
+  pub from-is : nth new (4 * count + 2) ≡ from
+  pub used-is : nth new (4 * count + 3) ≡ used
+
+pub record Enters (bits count place first from used : ℕ) (old new : List ℕ) (r : ℕ) : Type 0 where
+  pub passes : bits < 1 → (r ≡ count) × (new ≡ old)
+  pub enters : 0 < bits → (r ≡ count + 1) × Entry count place first from used old new
+  pub sized : length new ≡ length old

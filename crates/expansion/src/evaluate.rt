@@ -1,0 +1,81 @@
+// The values of all wires for eight sharings and tapes at once, from an expanded table.
+ghost use mathlib.Core.Path.{_≡_};
+ghost use Prim.Native.Nat.{ℕ, _+_, _≤_, _<_};
+ghost use lib.ListN.{length};
+ghost use Rattle.circuit.specs.Limits.{wireLimit};
+ghost use Rattle.circuit.specs.Lists.{nth};
+ghost use Rattle.circuit.specs.Circuit.{size};
+ghost use Rattle.gadgets.specs.Internal.Accepting.{circuitIn};
+ghost use Rattle.simulation.specs.Internal.Filling.{Fills};
+ghost use Rattle.simulation.specs.Internal.Evaluating.{Evaluable, Evaluates};
+ghost use Rattle.expansion.specs.Internal.Expanding.{EarlyRun, SumRun, Expanded};
+use frames::walk::Step;
+use frames::walk::Walk;
+use simulation::values::write_frame;
+
+// The wires from one to another, each of them a sum.
+fn run(left: &[u16], right: &[u16], constants: &[u8], from: usize, to: usize, values: &mut [u8])
+    requires { ⌜ EarlyRun (now left) (now right) (now constants) from to × (wireLimit < length (now values)) × (nth (now values) wireLimit ≡ 0) ⌝ }
+    ensures { λ _. ⌜ Fills (SumRun (now (left .entry)) (now (right .entry)) (now (constants .entry)) from to) from to (now (values .entry)) (now (values .exit)) ⌝ }
+{
+    let mut x = from;
+    while x < to {
+        let y = left[x] as usize;
+        let z = right[x] as usize;
+        values[x] = values[y] ^ values[z] ^ constants[x];
+        x += 1;
+    }
+}
+
+// The values of an accepted table's wires, once it is expanded.
+pub fn evaluate(
+    table: &[u16],
+    left: &[u16],
+    right: &[u16],
+    constants: &[u8],
+    listed: &[u16],
+    count: usize,
+    shares: &[u8],
+    tape: &[u8],
+    wires: usize,
+    values: &mut [u8],
+)
+    requires { ⌜ Expanded (now table) (now left) (now right) (now constants) (now listed) wires count × Evaluable (now table) (now shares) (now tape) (length (now values)) × (wires ≡ size (circuitIn (now table))) × (wireLimit < length (now values)) × (nth (now values) wireLimit ≡ 0) ⌝ }
+    ensures { λ _. ⌜ Evaluates (now (table .entry)) 255 (now (shares .entry)) (now (tape .entry)) (now (values .entry)) (now (values .exit)) ⌝ }
+{
+    let d = table[1];
+    let n = d as usize;
+    let mut w = 0;
+    let mut i = 0;
+    while i < count {
+        let entry = 4 * i;
+        let first = listed[entry + 1] as usize;
+        let from = listed[entry + 2] as usize;
+        let used = listed[entry + 3] as usize;
+        run(left, right, constants, w, first, values);
+        let walk = Walk {
+            d,
+            at: listed[entry] as usize,
+        };
+        let step = walk.step(table);
+        match step {
+            Step::End => {
+                return;
+            }
+            Step::Refused { rule: _ } => {
+                return;
+            }
+            Step::Next {
+                frame,
+                shape,
+                walk: _,
+            } => {
+                let ops = walk.operands(table);
+                write_frame(values, frame, 255, n, first, from, used, ops, shares, tape);
+                w = first + shape.wires;
+                i += 1;
+            }
+        }
+    }
+    run(left, right, constants, w, wires, values);
+}
