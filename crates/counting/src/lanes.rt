@@ -2,10 +2,8 @@
 ghost use mathlib.Core.Path.{_≡_};
 ghost use Prim.Native.Nat.{ℕ, _≤_, _<_};
 ghost use lib.ListN.{length, take};
-ghost use Rattle.circuit.specs.Limits.{wireLimit};
 ghost use Rattle.circuit.specs.Lists.{nth};
 ghost use Rattle.counting.specs.Internal.Lanes.{spreadOf, gathered, shownOn, Adds};
-use circuit::WIRES;
 
 // The bits of half a byte, each in a byte of its own.
 fn spread_half(bits: u64) -> u64
@@ -25,8 +23,8 @@ fn spread(bits: u8) -> u64
 }
 
 // The numbers of the combinations that eight pairs show on the read wires, each in a byte.
-pub(crate) fn gather(values: &[u8; WIRES], read: &[u16; 8], found: usize) -> u64
-    requires { ⌜ (found ≤ 8) × (length (now read) ≡ 8) × ((i : ℕ) → i < found → nth (now read) i < wireLimit) ⌝ }
+pub(crate) fn gather(values: &[u8], read: &[u16; 8], found: usize) -> u64
+    requires { ⌜ (found ≤ 8) × (length (now read) ≡ 8) × ((i : ℕ) → i < found → nth (now read) i < length (now values)) ⌝ }
     ensures { λ r. ⌜ r ≡ gathered 8 (shownOn (now (values .entry)) (take found (now (read .entry)))) ⌝ }
 {
     let mut numbers = 0;

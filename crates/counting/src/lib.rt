@@ -92,8 +92,7 @@ pub fn count(
             word: 0,
         };
     }
-    let pairs = tally::count_pairs(table, inputs, randoms);
-    tally::list_counts(table, secrets, inputs, randoms, &read, found, pairs, counts);
+    let pairs = tally::list_counts(table, secrets, inputs, randoms, wires, &read, found, counts);
     Counted::Accepted {
         read: found,
         combinations: numbers::power(found),

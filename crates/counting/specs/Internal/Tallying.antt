@@ -3,24 +3,30 @@ use mathlib.Core.Path.{_≡_}
 use mathlib.Core.List.{List}
 use Prim.Native.Nat.{ℕ, _+_, _*_, _-_, _^_, _≤_, _<_}
 use lib.ListN.{length, take, drop}
+use Rattle.circuit.specs.Limits.{wireLimit}
 use Rattle.circuit.specs.Lists.{nth, overwrite}
 use Rattle.circuit.specs.Circuit.{size}
 use Rattle.semantics.specs.Values.{bits, at}
 use Rattle.gadgets.specs.Internal.Accepting.{AcceptedTable, circuitIn}
 use Rattle.simulation.specs.Internal.Evaluating.{packed}
+use Rattle.counting.specs.declared.tally.Plan.{Plan}
 use Rattle.counting.specs.Counting.{freeBits, pairCount, readWires, countList}
 use Rattle.counting.specs.Internal.Pairs.{valuesIn, shownOf}
 
--- an accepted table of few free bits, with a set of secret bits
+-- an accepted table of few free bits, and its numbers
+pub record Numbered (table : List ℕ) (inputs randoms wires : ℕ) : Type 0 where
+  pub accepted : AcceptedTable table
+  pub few : freeBits (circuitIn table) ≤ 16
+  pub inputs-are : inputs ≡ circuitIn table .inputs
+  pub randoms-are : randoms ≡ circuitIn table .randoms
+  pub wires-are : wires ≡ size (circuitIn table)
+
+-- such a table, with a set of secret bits
 pub record Countable (table secrets : List ℕ) : Type 0 where
   pub accepted : AcceptedTable table
+  pub few : freeBits (circuitIn table) ≤ 16
   pub sized : length secrets ≡ circuitIn table .inputs
   pub bit : (x : ℕ) → nth secrets x ≤ 1
-  pub few : freeBits (circuitIn table) ≤ 16
-
--- bytes that hold the values of eight pairs, the first of which has the number 8 · batch
-pub record HoldsPairs (table secrets : List ℕ) (batch : ℕ) (values : List ℕ) : Type 0 where
-  pub are : (x : ℕ) → x < size (circuitIn table) → nth values x ≡ packed 8 (λ l. at (valuesIn (circuitIn table) (bits secrets) (8 * batch + l)) x)
 
 -- so many batches of so many pairs each make up all pairs; where there is more than one, each has eight
 pub record Divides (free count lanes : ℕ) : Type 0 where
@@ -29,25 +35,30 @@ pub record Divides (free count lanes : ℕ) : Type 0 where
   pub few : lanes ≤ 8
   pub behind : (batch : ℕ) → batch < count → batch * lanes ≡ 8 * batch
 
--- the number of pairs for each combination on wires
-pub record Tallied (table secrets wires tally : List ℕ) : Type 0 where
-  pub counts : (n : ℕ) → n < 256 → nth tally n ≡ shownOf (circuitIn table) (bits secrets) wires (pairCount (circuitIn table)) n
-  pub few : (n : ℕ) → nth tally n ≤ 65536
+-- the plan of a table
+pub record Planned (table : List ℕ) (plan : Plan) : Type 0 where
+  pub wires-are : plan .wires ≡ size (circuitIn table)
+  pub others-are : plan .others ≡ circuitIn table .d - 1
+  pub start-is : plan .start ≡ plan .others * circuitIn table .inputs
+  pub free-is : plan .free ≡ freeBits (circuitIn table)
+  pub divides : Divides (plan .free) (plan .batches) (plan .lanes)
 
--- an accepted table of few free bits, with two sets of secret bits in one list
-pub record BothCountable (table secrets : List ℕ) (inputs randoms : ℕ) : Type 0 where
-  pub accepted : AcceptedTable table
-  pub inputs-are : inputs ≡ circuitIn table .inputs
-  pub randoms-are : randoms ≡ circuitIn table .randoms
-  pub sized : length secrets ≡ 2 * inputs
-  pub bit : (x : ℕ) → nth secrets x ≤ 1
-  pub few : freeBits (circuitIn table) ≤ 16
+-- bytes that hold the values of eight pairs, the first of which has the number 8 · batch; behind the wires they are as they were
+pub record HoldsPairs (table secrets : List ℕ) (batch : ℕ) (old new : List ℕ) : Type 0 where
+  pub are : (x : ℕ) → x < size (circuitIn table) → nth new x ≡ packed 8 (λ l. at (valuesIn (circuitIn table) (bits secrets) (8 * batch + l)) x)
+  pub none : nth new wireLimit ≡ nth old wireLimit
+  pub sized : length new ≡ length old
 
 -- a list of wires that are read
 pub record ReadIn (table read : List ℕ) (found : ℕ) : Type 0 where
   pub few : found ≤ 8
   pub sized : length read ≡ 8
   pub made : (i : ℕ) → i < found → nth read i < size (circuitIn table)
+
+-- the number of pairs for each combination on wires
+pub record Tallied (table secrets wires tally : List ℕ) : Type 0 where
+  pub counts : (n : ℕ) → n < 256 → nth tally n ≡ shownOf (circuitIn table) (bits secrets) wires (pairCount (circuitIn table)) n
+  pub few : (n : ℕ) → nth tally n ≤ 65536
 
 -- the list of counts for probes that read these wires
 pub record ListsCounts (table secrets : List ℕ) (inputs : ℕ) (wires old new : List ℕ) : Type 0 where

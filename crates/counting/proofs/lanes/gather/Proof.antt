@@ -2,9 +2,8 @@
 use mathlib.Core.Path.{_≡_, sym, ap, _∙_}
 use Prim.Native.Nat.{_+_, _*_, _-_, _≤_, _<_}
 use native.Mathlib.Omega.{arith}
-use lib.ListN.{take, length-take}
+use lib.ListN.{length, take, length-take}
 use borrow.Author.Needs.{needs}
-use Rattle.circuit.specs.Limits.{wireLimit}
 use Rattle.circuit.specs.Lists.{nth}
 use Rattle.counting.specs.Internal.Lanes.{spreadOf, gathered, shownOn}
 use Rattle.counting.proofs.lanes.gather.Statement.{statement}
@@ -21,7 +20,7 @@ abbrev μ-loop : tie.MeasureT-loop
 abbrev start : tie.In-loop Inv-loop μ-loop → tie.Start Inv-loop μ-loop
 start c = c .before .before
 
-wire-few : (c : tie.In-loop Inv-loop μ-loop) → nth (start c .args .read .now) (c .before .loop .i) < wireLimit
+wire-few : (c : tie.In-loop Inv-loop μ-loop) → nth (start c .args .read .now) (c .before .loop .i) < length (start c .args .values .now)
 wire-few c = start c .pre .2 (c .before .loop .i) (c .loop-test .taken)
 
 turned : (c : tie.In-loop Inv-loop μ-loop) → let a = start c .args in let l = c .before .loop in
