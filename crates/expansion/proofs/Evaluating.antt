@@ -17,18 +17,18 @@ use Rattle.semantics.proofs.Values.{values-length}
 use Rattle.frames.specs.declared.walk.Frame.{Frame as FrameCode}
 use Rattle.frames.specs.declared.walk.Walk.{Walk}
 use Rattle.frames.specs.declared.walk.Step.{Step}
-use Rattle.frames.specs.declared.walk.Step.the-variants.{Next, Refused, End}
+use Rattle.frames.specs.declared.walk.Step.the-variants.{Next, End}
 use Rattle.frames.specs.declared.kinds.Shape.{Shape as ShapeCode}
 use Rattle.frames.specs.Walk.{operandsAt, stepAt}
 use Rattle.gadgets.specs.Internal.Gates.{gateAt}
 use Rattle.gadgets.specs.Internal.Frames.{frameWires}
 use Rattle.gadgets.specs.Internal.Accepting.{AcceptedTable, circuitIn}
-use Rattle.gadgets.proofs.Walking.{whole, whole-few, whole-ordered, so-far, second-word, wires-grow, Met, Answers, step-answers}
+use Rattle.gadgets.proofs.Walking.{whole, whole-few, whole-ordered, second-word, wires-grow, Answers, step-answers}
 use Rattle.simulation.specs.Internal.Filling.{Known, Fills, FrameValues}
 use Rattle.simulation.specs.Internal.Evaluating.{packed, Packs, Evaluable, Evaluates}
 use Rattle.simulation.proofs.Packing.{packed-none}
 use Rattle.simulation.proofs.Filled.{known-all}
-use Rattle.simulation.proofs.Equations.{valuesAt, rank, gate-value}
+use Rattle.simulation.proofs.Equations.{valuesAt, gate-value}
 use Rattle.simulation.proofs.Evaluating.{FilledTo, frame-filled}
 use Rattle.expansion.specs.Internal.Expanding.{EarlyRun, SumRun, AffineRun, Listed, stepWires, endOf, Expanded}
 
@@ -42,9 +42,6 @@ pub record EvaluatedTo (ws : List Wire) (shares tape old values : List ℕ) (w :
       → Known (valuesAt ws n sharings tapes) 0 w values
   pub above : (x : ℕ) → w ≤ x → nth values x ≡ nth old x
   pub sized : length values ≡ length old
-
-pub evaluated-start : (ws : List Wire) (shares tape old : List ℕ) → EvaluatedTo ws shares tape old old 0
-evaluated-start ws shares tape old = record { known = λ n sharings tapes full shared drawn x l u. absurd (omega arith); above = λ x l. refl; sized = refl }
 
 -- a run of sums: what its code rests on, and its values
 module _ {table left right constants : List ℕ} (a : AcceptedTable table) {from to : ℕ} (r : AffineRun left right constants (whole a .wires) from to) (made : to ≤ size (whole a)) where
@@ -81,6 +78,20 @@ pub record EvaluatingTo (table left right constants listed : List ℕ) (wires co
   pub most : i ≤ count
   pub end-is : w ≡ endOf table listed i
   pub evaluated : EvaluatedTo (whole (expanded .accepted) .wires) shares tape old values w
+
+pub evaluating-start : {table left right constants listed shares tape old : List ℕ} {wires count : ℕ} → Expanded table left right constants listed (size (circuitIn table)) count
+    → Evaluable table shares tape (length old) → wires ≡ size (circuitIn table) → wireLimit < length old → nth old wireLimit ≡ 0
+    → EvaluatingTo table left right constants listed wires count shares tape old old 0 0
+evaluating-start {table} {left} {right} {constants} {listed} {count = count} x evaluable all room zero = record {
+  expanded = subst (λ (n : ℕ). Expanded table left right constants listed n count) (sym all) x;
+  evaluable = evaluable;
+  all = all;
+  room = room;
+  zero = zero;
+  most = omega arith;
+  end-is = refl;
+  evaluated = record { known = λ n sharings tapes full shared drawn y l u. absurd (omega arith); above = λ y l. refl; sized = refl };
+}
 
 module _ {table left right constants listed : List ℕ} {wires count : ℕ} {shares tape old values : List ℕ} {w i : ℕ}
     (t : EvaluatingTo table left right constants listed wires count shares tape old values w i) where

@@ -9,9 +9,8 @@ use lib.Dec.{ltb}
 use lib.ListN.{length, set, length-set}
 use lib.Seq.{getD-set-same, getD-set-other}
 use borrow.Author.Tests.{ltb-true, ltb-false}
-use Rattle.circuit.specs.Limits.{wireLimit, tableLimit}
+use Rattle.circuit.specs.Limits.{wireLimit}
 use Rattle.circuit.specs.Lists.{nth}
-use Rattle.circuit.specs.Wires.{Wire}
 use Rattle.circuit.specs.Circuit.{Circuit, size, empty}
 use Rattle.circuit.specs.Composition.{build}
 use Rattle.circuit.proofs.Base.{cases, below-more}
@@ -22,7 +21,7 @@ use Rattle.frames.specs.declared.walk.Step.the-variants.{Next}
 use Rattle.frames.specs.declared.kinds.Shape.{Shape as ShapeCode}
 use Rattle.frames.specs.Walk.{stepAt}
 use Rattle.gadgets.specs.Internal.Accepting.{AcceptedTable, circuitIn, Between}
-use Rattle.gadgets.proofs.Walking.{whole, so-far, between-start, all-built, wires-grow, inputs-grow, randoms-grow, Met}
+use Rattle.gadgets.proofs.Walking.{whole, so-far, between-start, all-built, inputs-grow, randoms-grow, Met}
 use Rattle.expansion.specs.declared.expand.Affine.{Affine}
 use Rattle.expansion.specs.Internal.Expanding.{freeBits, affineOf, AffineRun, Listed, stepWires, endOf, Expanded, Entry, Enters}
 use Rattle.expansion.proofs.Summing.{frame-sum, run-kept, run-more}

@@ -88,8 +88,8 @@ module _ (d first from inputs randoms x : ℕ) (ops : List ℕ) (g : ℕ → Gat
 abbrev pub Written : (left right constants : List ℕ) (w : ℕ) → Affine → (ws : List Wire) (from to : ℕ) → Type 0
 Written left right constants w s ws from to = AffineRun (set left w (s .left)) (set right w (s .right)) (set constants w (s .constant)) ws from to
 
-module _ {left right constants : List ℕ} {ws : List Wire} {from to w : ℕ} (s : Affine) where
-  pub run-kept : to ≤ w → AffineRun left right constants ws from to → Written left right constants w s ws from to
+module _ {left right constants : List ℕ} {ws : List Wire} {from w : ℕ} (s : Affine) where
+  pub run-kept : {to : ℕ} → to ≤ w → AffineRun left right constants ws from to → Written left right constants w s ws from to
   run-kept h r = record {
     rising = r .rising;
     gates = λ x l u. let other : x ≡ w → ⊥ = λ e. omega arith in
@@ -97,24 +97,26 @@ module _ {left right constants : List ℕ} {ws : List Wire} {from to w : ℕ} (s
   }
 
   -- and is the sum of wire w, where that is the only one more
-  pub run-more : (w < length left) × (w < length right) × (w < length constants) → w ≤ to
+  pub run-more : {to : ℕ} → (w < length left) × (w < length right) × (w < length constants) → w ≤ to
       → ((x : ℕ) → w ≤ x → x < to → SumAt w x (gateAt ws w) s) → AffineRun left right constants ws from w → Written left right constants w s ws from to
   run-more room h more r = record {
     rising = omega (arith, r .rising);
     gates = λ x l u. cases (ltb x w)
-        (λ e. let other : x ≡ w → ⊥ = λ q. omega (arith, ltb-true x w e) in
-        rw (getD-set-other left w x (s .left) 0 other, getD-set-other right w x (s .right) 0 other, getD-set-other constants w x (s .constant) 0 other) (r .gates x l (ltb-true x w e)))
+        (λ e. run-kept (omega arith) r .gates x l (ltb-true x w e))
         (λ e. let (same, is) = more x (ltb-false x w e) u in
         rw (same, getD-set-same left w (s .left) 0 (room .0), getD-set-same right w (s .right) 0 (room .1), getD-set-same constants w (s .constant) 0 (room .2)) is);
   }
 
 -- the values of a run of sums, filled in one by one
 module _ {left right constants : List ℕ} {from to x : ℕ} (early : EarlyRun left right constants from to) (l : from ≤ x) (u : x < to) where
+  most : {y : ℕ} → (x ≤ y → y ≡ wireLimit) → y ≤ wireLimit
+  most {y} h = cases (ltb y x) (λ e. omega (arith, ltb-true y x e, early .most)) (λ e. omega (arith, h (ltb-false y x e)))
+
   pub left-most : nth left x ≤ wireLimit
-  left-most = cases (ltb (nth left x) x) (λ e. omega (arith, ltb-true (nth left x) x e, early .most)) (λ e. omega (arith, early .left-early x l u (ltb-false (nth left x) x e)))
+  left-most = most (early .left-early x l u)
 
   pub right-most : nth right x ≤ wireLimit
-  right-most = cases (ltb (nth right x) x) (λ e. omega (arith, ltb-true (nth right x) x e, early .most)) (λ e. omega (arith, early .right-early x l u (ltb-false (nth right x) x e)))
+  right-most = most (early .right-early x l u)
 
   module _ {old mid : List ℕ} (room : wireLimit < length old) (none : nth old wireLimit ≡ 0) (f : Fills (SumRun left right constants from to) from x old mid) where
     -- a wire that is taken has its value

@@ -1,6 +1,6 @@
 // The values of all wires for eight sharings and tapes at once, from an expanded table.
 ghost use mathlib.Core.Path.{_≡_};
-ghost use Prim.Native.Nat.{ℕ, _+_, _≤_, _<_};
+ghost use Prim.Native.Nat.{_<_};
 ghost use lib.ListN.{length};
 ghost use Rattle.circuit.specs.Limits.{wireLimit};
 ghost use Rattle.circuit.specs.Lists.{nth};
@@ -40,7 +40,7 @@ pub fn evaluate(
     wires: usize,
     values: &mut [u8],
 )
-    requires { ⌜ Expanded (now table) (now left) (now right) (now constants) (now listed) wires count × Evaluable (now table) (now shares) (now tape) (length (now values)) × (wires ≡ size (circuitIn (now table))) × (wireLimit < length (now values)) × (nth (now values) wireLimit ≡ 0) ⌝ }
+    requires { ⌜ Expanded (now table) (now left) (now right) (now constants) (now listed) (size (circuitIn (now table))) count × Evaluable (now table) (now shares) (now tape) (length (now values)) × (wires ≡ size (circuitIn (now table))) × (wireLimit < length (now values)) × (nth (now values) wireLimit ≡ 0) ⌝ }
     ensures { λ _. ⌜ Evaluates (now (table .entry)) 255 (now (shares .entry)) (now (tape .entry)) (now (values .entry)) (now (values .exit)) ⌝ }
 {
     let d = table[1];

@@ -1,11 +1,12 @@
 // The frames of an accepted table, expanded: a sum for each wire of an XOR, NOT, REG or CON, and a list of the INs, ANDs and REFs.
 ghost use mathlib.Core.Path.{_≡_};
-ghost use Prim.Native.Nat.{ℕ, _+_, _*_, _-_, _≤_, _<_};
+ghost use Prim.Native.Nat.{_+_, _*_, _≤_, _<_};
 ghost use lib.ListN.{length};
 ghost use Rattle.circuit.specs.Limits.{wireLimit, tableLimit};
 ghost use Rattle.circuit.specs.Circuit.{size};
 ghost use Rattle.gadgets.specs.Internal.Accepting.{AcceptedTable, circuitIn};
 ghost use Rattle.expansion.specs.Internal.Expanding.{noSum, affineOf, freeBits, Enters, Expanded};
+use circuit::WIRES;
 use frames::walk::Frame;
 use frames::walk::Gate;
 use frames::walk::Step;
@@ -13,7 +14,11 @@ use frames::walk::Walk;
 use simulation::values;
 
 // Stands for a wire where a sum has none: the place behind all wires, whose value is 0.
-pub const ZERO: u16 = 8192;
+pub const ZERO: u16 = WIRES as u16;
+// The least length of the sums and of the values: a word for each wire, and one for ZERO.
+pub const ROOM: usize = WIRES + 1;
+// The least length of the list: four words for each of at most 16 frames.
+pub const LIST_WORDS: usize = 64;
 
 // A wire whose value is the sum of two wires' values and a constant.
 pub struct Affine {

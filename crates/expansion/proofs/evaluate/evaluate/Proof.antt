@@ -1,19 +1,17 @@
 -- The loop's invariant: the wires up to the end of the first i listed frames are filled in.
-use mathlib.Core.Path.{_≡_, refl, sym, ap, _∙_}
-use Prim.Native.Nat.{_+_, _*_, _-_, _≤_, _<_}
+use mathlib.Core.Path.{_≡_, sym, _∙_}
+use Prim.Native.Nat.{_+_, _*_, _-_, _≤_}
 use native.Mathlib.Omega.{arith}
 use lib.ListN.{length}
 use borrow.Author.Needs.{needs}
-use Rattle.circuit.specs.Limits.{wireLimit}
 use Rattle.circuit.specs.Lists.{nth}
 use Rattle.frames.specs.declared.walk.Step.{Step}
-use Rattle.frames.specs.declared.walk.Step.the-variants.{Next}
-use Rattle.frames.specs.Walk.{operandsAt, stepAt}
+use Rattle.frames.specs.Walk.{stepAt}
 use Rattle.gadgets.proofs.Walking.{headed, second-word, Met}
-use Rattle.simulation.proofs.Evaluating.{FilledTo, room-in, inputs-in, draws-in}
+use Rattle.simulation.proofs.Evaluating.{room-in, inputs-in, draws-in}
 use Rattle.expansion.proofs.evaluate.evaluate.Statement.{statement}
 use Rattle.expansion.proofs.evaluate.evaluate.Tie as tie
-use Rattle.expansion.proofs.Evaluating.{EvaluatingTo, evaluated-start, last-asks, all-evaluated, frame-asks, here, no-end, filled, frame-evaluated}
+use Rattle.expansion.proofs.Evaluating.{EvaluatingTo, evaluating-start, last-asks, all-evaluated, frame-asks, here, no-end, filled, frame-evaluated}
 
 abbrev Inv-loop : tie.InvT-loop
 Inv-loop table left right constants listed count shares tape wires values₀ d n w₀ i₀ values w i = EvaluatingTo table left right constants listed wires count shares tape values₀ values w i
@@ -21,8 +19,11 @@ Inv-loop table left right constants listed count shares tape wires values₀ d n
 abbrev μ-loop : tie.MeasureT-loop
 μ-loop table left right constants listed count shares tape wires values₀ d n w₀ i₀ values w i = count - i
 
+abbrev entry : tie.After-shared-slice-known8 Inv-loop μ-loop → tie.Start Inv-loop μ-loop
+entry c = c .before .before .before .before .before .before .before .before .before
+
 abbrev start : tie.At-loop Inv-loop μ-loop → tie.Start Inv-loop μ-loop
-start c = c .before .before .before .before .before .before .before .before .before .before
+start c = entry (c .before)
 
 -- a turn's four words are on the list
 inside : (c : tie.In-loop Inv-loop μ-loop) → 4 * c .before .loop .i + 4 ≤ length (start (c .before) .args .listed .now)
@@ -73,18 +74,9 @@ evaluate-spec =
     (tie.spec
     Inv-loop
     μ-loop
-    (λ c. omega (arith, headed (c .before .before .before .before .before .before .before .before .before .pre .0 .accepted)))
-    (λ c. record { fits = omega (arith, second-word (c .before .before .before .before .before .before .before .before .before .pre .0 .accepted)) })
-    (λ c. let p = c .before .before .before .before .before .before .before .before .before .pre in record {
-      expanded = p .0;
-      evaluable = p .1;
-      all = p .2;
-      room = p .3;
-      zero = p .4;
-      most = omega arith;
-      end-is = refl;
-      evaluated = evaluated-start _ _ _ _;
-    })
+    (λ c. omega (arith, headed (entry c .pre .0 .accepted)))
+    (λ c. record { fits = omega (arith, second-word (entry c .pre .0 .accepted)) })
+    (λ c. let p = entry c .pre in evaluating-start (p .0) (p .1) (p .2) (p .3) (p .4))
     (λ c. record { fits = omega (arith, inside c, c .before .loop .inv .expanded .few) })
     (λ c. record { fits = omega (arith, inside c, c .before .loop .inv .expanded .few) })
     (λ c. record { fits = omega (arith, inside c, c .before .loop .inv .expanded .few) })

@@ -1,10 +1,10 @@
 -- The loop's invariant: the frames before the walk's place are expanded.
 use mathlib.Core.Path.{_≡_, refl, sym, ap, _∙_}
-use Prim.Native.Nat.{_+_, _*_, _-_, _≤_}
+use Prim.Native.Nat.{_-_, _≤_}
 use native.Mathlib.Omega.{arith}
 use lib.ListN.{length, length-set}
 use borrow.Author.Needs.{needs}
-use Rattle.circuit.specs.Limits.{wireLimit, tableLimit}
+use Rattle.circuit.specs.Limits.{wireLimit}
 use Rattle.circuit.specs.Lists.{nth}
 use Rattle.frames.specs.declared.walk.Step.{Step}
 use Rattle.frames.specs.Walk.{stepAt}
@@ -21,8 +21,11 @@ Inv-loop table left₀ right₀ constants₀ listed₀ d n walk₀ first₀ from
 abbrev μ-loop : tie.MeasureT-loop
 μ-loop table left₀ right₀ constants₀ listed₀ d n walk₀ first₀ from₀ used₀ count₀ left right constants listed walk first from used count = length table - walk .at
 
+abbrev entry : tie.After-shared-slice-known2 Inv-loop μ-loop → tie.Start Inv-loop μ-loop
+entry c = c .before .before .before .before .before .before
+
 abbrev start : tie.At-loop Inv-loop μ-loop → tie.Start Inv-loop μ-loop
-start c = c .before .before .before .before .before .before .before
+start c = entry (c .before)
 
 -- the step's answer at the loop's head
 told : (c : tie.At-loop Inv-loop μ-loop) {s : Step} → let table = start c .args .table .now in
@@ -77,9 +80,9 @@ expand-spec =
     (tie.spec
     Inv-loop
     μ-loop
-    (λ c. omega (arith, headed (c .before .before .before .before .before .before .pre .0)))
-    (λ c. record { fits = omega (arith, second-word (c .before .before .before .before .before .before .pre .0)) })
-    (λ c. let p = c .before .before .before .before .before .before .pre in (refl, expanded-start (p .0) (p .1) (p .2, p .3, p .4, p .5), refl, refl, refl, refl))
+    (λ c. omega (arith, headed (entry c .pre .0)))
+    (λ c. record { fits = omega (arith, second-word (entry c .pre .0)) })
+    (λ c. let p = entry c .pre in (refl, expanded-start (p .0) (p .1) (p .2, p .3, p .4, p .5), refl, refl, refl, refl))
     (λ c κs. search needs) (λ c. search needs) (λ c κs. search needs)
     (λ c. record { fits = omega (arith, first-most (c .before .before)) })
     (λ c. omega (arith, first-most (c .before .before), c .before .before .before .before .before .loop .inv .1 .expanded .left-room))
