@@ -89,7 +89,7 @@ columns-lane l n (z ∷ zs) cs =
 freeColumns : (batch free : ℕ) → List Column
 freeColumns b n = map (λ i l. laneBit i (8 * b + l)) (range 0 n)
 
-range-next : {A : Type 0} (f : ℕ → A) (m n : ℕ) → map f (range (suc m) n) ≡ map (λ i. f (suc i)) (range m n)
+pub range-next : {A : Type 0} (f : ℕ → A) (m n : ℕ) → map f (range (suc m) n) ≡ map (λ i. f (suc i)) (range m n)
 range-next f m zero = refl
 range-next f m (suc n) = ap (λ r. f (suc m) ∷ r) (range-next f (suc m) n)
 

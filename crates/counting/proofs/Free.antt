@@ -12,11 +12,10 @@ use Rattle.circuit.specs.Circuit.{Circuit}
 use Rattle.circuit.proofs.Base.{xor-comm, xor-assoc}
 use Rattle.semantics.specs.Values.{bits, valuesOf}
 use Rattle.semantics.specs.Probes.{stops, sheet, readingOf}
-use Rattle.semantics.specs.Counts.{sumOver, alike, parity, secretsOf, pairsFor}
+use Rattle.semantics.specs.Counts.{sumOver, alike, parity, secretsOf, pairsFor, freeBits}
 use Rattle.secrecy.specs.Deciding.{tapesFor}
 use Rattle.secrecy.proofs.Sums.{sumBits, overwrite-bits, sum-same}
 use Rattle.secrecy.proofs.Sharings.{ofSharing, by-sharing}
-use Rattle.counting.specs.Counting.{freeBits}
 use Rattle.counting.specs.Internal.Pairs.{completed, sharingOf, tapeOf}
 
 -- a sum over lists in two parts

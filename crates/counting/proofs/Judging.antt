@@ -7,6 +7,7 @@ use native.Mathlib.Omega.{arith}
 use lib.Dec.{leb, eqb}
 use lib.ListN.{length}
 use borrow.Author.Tests.{eqb-true, leb-true}
+use Rattle.semantics.specs.Counts.{freeBits}
 use Rattle.circuit.specs.Limits.{wireLimit}
 use Rattle.circuit.specs.Lists.{nth}
 use Rattle.circuit.specs.Wires.{Wire}
@@ -23,7 +24,7 @@ use Rattle.checker.specs.declared.Verdict.the-variants as verdict
 use Rattle.checker.specs.Answers.{answerOf, inputsAre}
 use Rattle.gadgets.proofs.Walking.{second-word, whole, whole-few}
 use Rattle.evaluation.proofs.Answering.{Taken, taken, answer-refuse, then-assoc, bits-pass, probes-pass}
-use Rattle.counting.specs.Counting.{freeBits, readWires, countRule}
+use Rattle.counting.specs.Counting.{readWires, countRule}
 use Rattle.counting.specs.Internal.Judging.{firstRules}
 
 -- random bits are wires

@@ -16,5 +16,7 @@ pub mod Sharing
 pub mod Batches
 -- All pairs of one set
 pub mod Tallying
+-- The list that is written
+pub mod Counts
 -- The rules of the call
 pub mod Judging

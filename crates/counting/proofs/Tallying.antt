@@ -6,14 +6,15 @@ use Prim.Native.Nat.{ℕ, zero, suc, _+_, _*_, _≤_, _<_}
 use native.Mathlib.Nat.{add-zero, add-suc, mul-le-mul-right}
 use native.Mathlib.Omega.{arith}
 use lib.Dec.{ltb, eqb}
-use lib.ListN.{length, List·getD-eq-default}
+use lib.ListN.{length, replicate, List·getD-eq-default}
 use borrow.Author.Tests.{ltb-true, ltb-false}
+use Rattle.semantics.specs.Counts.{freeBits}
 use Rattle.circuit.specs.Lists.{nth}
 use Rattle.circuit.specs.Circuit.{Circuit, size}
 use Rattle.circuit.proofs.Base.{cases}
 use Rattle.semantics.specs.Values.{bits, at}
 use Rattle.gadgets.specs.Internal.Accepting.{circuitIn}
-use Rattle.counting.specs.Counting.{freeBits, pairCount}
+use Rattle.counting.specs.Counting.{pairCount}
 use Rattle.counting.specs.Internal.Pairs.{sumTo, numberOf, valuesIn, shownOf}
 use Rattle.counting.specs.Internal.Lanes.{laneBit, gathered, shownOn, Adds}
 use Rattle.counting.specs.Internal.Tallying.{HoldsPairs, Divides, Tallied}
@@ -37,6 +38,12 @@ map-same : {A : Type 0} (f g : ℕ → A) (xs : List ℕ) → ((i : ℕ) → i <
 map-same f g [] h = refl
 map-same f g (x ∷ xs) h = ap₂ _∷_ (h 0 (omega arith)) (map-same f g xs (λ i l. h (suc i) (omega arith)))
 
+-- no count at first
+pub zeros-at : (m n : ℕ) → nth (replicate m 0) n ≡ 0
+zeros-at zero n = refl
+zeros-at (suc m) zero = refl
+zeros-at (suc m) (suc n) = zeros-at m n
+
 -- the pairs of the batches so far are counted
 pub record TalliedTo (table secrets wires tally : List ℕ) (batch lanes : ℕ) : Type 0 where
   pub counts : (n : ℕ) → n < 256 → nth tally n ≡ shownOf (circuitIn table) (bits secrets) wires (batch * lanes) n
@@ -48,7 +55,7 @@ tallied-start {lanes = lanes} s h = let none : 0 * lanes ≡ 0 = omega arith in 
 
 -- one batch more
 module _ {table secrets wires tally : List ℕ} {batch lanes : ℕ} (t : TalliedTo table secrets wires tally batch lanes) (behind : batch * lanes ≡ 8 * batch) (most : lanes ≤ 8)
-    {values : List ℕ} (h : HoldsPairs table secrets batch values) (few : length wires ≤ 8) (made : (i : ℕ) → i < length wires → nth wires i < size (circuitIn table)) where
+    {old values : List ℕ} (h : HoldsPairs table secrets batch old values) (few : length wires ≤ 8) (made : (i : ℕ) → i < length wires → nth wires i < size (circuitIn table)) where
   abbrev k : Circuit
   k = circuitIn table
 

@@ -2,7 +2,7 @@
 use mathlib.Core.Path.{_≡_}
 use mathlib.Core.Bool.{Bool, true, false, cond}
 use mathlib.Core.List.{List, [], _∷_, _++_, map}
-use Prim.Native.Nat.{ℕ, zero, suc, _+_, _-_, _*_, _/_, _^_, _<_}
+use Prim.Native.Nat.{ℕ, zero, suc, _+_, _*_, _/_, _^_, _<_}
 use lib.Dec.{leb, eqb}
 use lib.ListN.{length, take, drop}
 use Rattle.circuit.specs.Limits.{wireLimit}
@@ -12,7 +12,7 @@ use Rattle.circuit.specs.Rules.{Judgement, pass, refuse, need, _then_, checked}
 use Rattle.semantics.specs.Values.{bits, byte, at}
 use Rattle.semantics.specs.Probes.{stops}
 use Rattle.semantics.specs.Calls.{bytesRule, probesRule, circuitOf, written}
-use Rattle.semantics.specs.Counts.{countDistinct, pairsFor}
+use Rattle.semantics.specs.Counts.{freeBits, countDistinct, pairsFor}
 use Rattle.counting.specs.declared.Counted.{Counted}
 use Rattle.counting.specs.declared.Counted.the-variants.{Accepted, Refused}
 
@@ -30,10 +30,7 @@ unfoldable pub showing : (isRead : ℕ → Bool) (wires : List ℕ) (values : Li
 showing isRead [] values = []
 showing isRead (x ∷ xs) values = cond (isRead x) (byte (at values 0) ∷ showing isRead xs (drop 1 values)) (2 ∷ showing isRead xs values)
 
--- the bits that a sharing of given secret bits and a tape are free to choose, and the number of these pairs
-abbrev pub freeBits : Circuit → ℕ
-freeBits k = (k .d - 1) * k .inputs + k .randoms
-
+-- the number of pairs of a sharing of given secret bits and a tape
 abbrev pub pairCount : Circuit → ℕ
 pairCount k = 2 ^ freeBits k
 

@@ -1,6 +1,6 @@
 // All pairs of a sharing of given secret bits and a tape, eight at once: how often the read wires show each combination.
 ghost use mathlib.Core.Path.{_≡_};
-ghost use Prim.Native.Nat.{ℕ, _≤_, _<_};
+ghost use Prim.Native.Nat.{ℕ, _+_, _≤_, _<_};
 ghost use lib.ListN.{length, take};
 ghost use Rattle.circuit.specs.Limits.{wireLimit};
 ghost use Rattle.circuit.specs.Lists.{nth};
@@ -54,7 +54,7 @@ fn divide(free: usize) -> Batches
 }
 
 // The plan for an accepted table whose expansion lists so many frames.
-fn plan(table: &[u16], inputs: usize, randoms: usize, wires: usize, listed: usize) -> Plan
+fn plan_pairs(table: &[u16], inputs: usize, randoms: usize, wires: usize, listed: usize) -> Plan
     requires { ⌜ Numbered (now table) inputs randoms wires ⌝ }
     ensures { λ r. ⌜ Planned (now (table .entry)) r × (r .listed ≡ listed) ⌝ }
 {
@@ -85,7 +85,7 @@ fn evaluate_pairs(
     batch: usize,
     values: &mut [u8],
 )
-    requires { ⌜ Countable (now table) (now secrets) × Planned (now table) plan × Expanded (now table) (now left) (now right) (now constants) (now listed) (plan .wires) (plan .listed) × (wireLimit < length (now values)) × (nth (now values) wireLimit ≡ 0) ⌝ }
+    requires { ⌜ Countable (now table) (now secrets) × Planned (now table) plan × Expanded (now table) (now left) (now right) (now constants) (now listed) (size (circuitIn (now table))) (plan .listed) × (wireLimit < length (now values)) × (nth (now values) wireLimit ≡ 0) ⌝ }
     ensures { λ _. ⌜ HoldsPairs (now (table .entry)) (now (secrets .entry)) batch (now (values .entry)) (now (values .exit)) ⌝ }
 {
     let start = plan.start;
@@ -112,11 +112,11 @@ fn tally_set(
     found: usize,
     tally: &mut [u32; 256],
 )
-    requires { ⌜ Countable (now table) (now secrets) × Planned (now table) plan × Expanded (now table) (now left) (now right) (now constants) (now listed) (plan .wires) (plan .listed)
+    requires { ⌜ Countable (now table) (now secrets) × Planned (now table) plan × Expanded (now table) (now left) (now right) (now constants) (now listed) (size (circuitIn (now table))) (plan .listed)
         × ReadIn (now table) (now read) found × (length (now tally) ≡ 256) × ((n : ℕ) → nth (now tally) n ≡ 0) ⌝ }
     ensures { λ _. ⌜ Tallied (now (table .entry)) (now (secrets .entry)) (take found (now (read .entry))) (now (tally .exit)) ⌝ }
 {
-    let mut values = [0u8; 8193];
+    let mut values = [0u8; expand::ROOM];
     let mut batch = 0;
     while batch < plan.batches {
         evaluate_pairs(table, left, right, constants, listed, plan, secrets, batch, &mut values);
@@ -140,12 +140,12 @@ pub(crate) fn list_counts(
     requires { ⌜ Numbered (now table) inputs randoms wires × (length (now secrets) ≡ inputs + inputs) × ((x : ℕ) → nth (now secrets) x ≤ 1) × ReadIn (now table) (now read) found × (1024 ≤ length (now counts)) ⌝ }
     ensures { λ r. ⌜ (r ≡ pairCount (circuitIn (now (table .entry)))) × ListsCounts (now (table .entry)) (now (secrets .entry)) inputs (take found (now (read .entry))) (now (counts .entry)) (now (counts .exit)) ⌝ }
 {
-    let mut left = [0u16; 8193];
-    let mut right = [0u16; 8193];
-    let mut constants = [0u8; 8193];
-    let mut listed = [0u16; 64];
+    let mut left = [0u16; expand::ROOM];
+    let mut right = [0u16; expand::ROOM];
+    let mut constants = [0u8; expand::ROOM];
+    let mut listed = [0u16; expand::LIST_WORDS];
     let frames = expand::expand(table, &mut left, &mut right, &mut constants, &mut listed);
-    let plan = plan(table, inputs, randoms, wires, frames);
+    let plan = plan_pairs(table, inputs, randoms, wires, frames);
     let pairs = plan.batches * plan.lanes;
     let one = &secrets[0..inputs];
     let end = secrets.len();

@@ -9,6 +9,7 @@ use lib.Dec.{ltb}
 use lib.ListN.{length, set, length-set}
 use lib.Seq.{getD-set-same, getD-set-other}
 use borrow.Author.Tests.{ltb-true, ltb-false}
+use Rattle.semantics.specs.Counts.{freeBits}
 use Rattle.circuit.specs.Limits.{wireLimit}
 use Rattle.circuit.specs.Lists.{nth}
 use Rattle.circuit.specs.Circuit.{Circuit, size, empty}
@@ -23,7 +24,7 @@ use Rattle.frames.specs.Walk.{stepAt}
 use Rattle.gadgets.specs.Internal.Accepting.{AcceptedTable, circuitIn, Between}
 use Rattle.gadgets.proofs.Walking.{whole, so-far, between-start, all-built, inputs-grow, randoms-grow, Met}
 use Rattle.expansion.specs.declared.expand.Affine.{Affine}
-use Rattle.expansion.specs.Internal.Expanding.{freeBits, affineOf, AffineRun, Listed, stepWires, endOf, Expanded, Entry, Enters}
+use Rattle.expansion.specs.Internal.Expanding.{affineOf, AffineRun, Listed, stepWires, endOf, Expanded, Entry, Enters}
 use Rattle.expansion.proofs.Summing.{frame-sum, run-kept, run-more}
 
 -- four words behind those that are there

@@ -2,10 +2,11 @@
 ghost use mathlib.Core.Path.{_≡_};
 ghost use Prim.Native.Nat.{_+_, _*_, _≤_, _<_};
 ghost use lib.ListN.{length};
+ghost use Rattle.semantics.specs.Counts.{freeBits};
 ghost use Rattle.circuit.specs.Limits.{wireLimit, tableLimit};
 ghost use Rattle.circuit.specs.Circuit.{size};
 ghost use Rattle.gadgets.specs.Internal.Accepting.{AcceptedTable, circuitIn};
-ghost use Rattle.expansion.specs.Internal.Expanding.{noSum, affineOf, freeBits, Enters, Expanded};
+ghost use Rattle.expansion.specs.Internal.Expanding.{noSum, affineOf, Enters, Expanded};
 use circuit::WIRES;
 use frames::walk::Frame;
 use frames::walk::Gate;

@@ -2,7 +2,7 @@
 use mathlib.Core.Path.{_≡_}
 use mathlib.Core.Bool.{Bool, true, false, cond, _&&_, Bool·beq}
 use mathlib.Core.List.{List, [], _∷_}
-use Prim.Native.Nat.{ℕ, zero, suc, _+_, _*_, _<_}
+use Prim.Native.Nat.{ℕ, zero, suc, _+_, _-_, _*_, _<_}
 use lib.Dec.{eqb}
 use lib.ListN.{length, take, drop}
 use Rattle.circuit.specs.Lists.{_⊕_, mem}
@@ -30,6 +30,10 @@ parity (b ∷ bs) = b ⊕ parity bs
 abbrev pub secretsOf : (d n : ℕ) (shares : List Bool) → List Bool
 secretsOf d zero shares = []
 secretsOf d (suc n) shares = parity (take d shares) ∷ secretsOf d n (drop d shares)
+
+-- the bits that a sharing of given secret bits and a tape are free to choose: all shares of an IN but one, and the tape
+abbrev pub freeBits : Circuit → ℕ
+freeBits k = (k .d - 1) * k .inputs + k .randoms
 
 -- how many different wires a probe list has
 abbrev pub countDistinct : List ℕ → ℕ

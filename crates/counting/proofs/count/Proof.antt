@@ -7,7 +7,6 @@ use Rattle.counting.proofs.judge.judge.Reads as judge-reads
 use Rattle.counting.proofs.numbers.power.Reads as power-reads
 use Rattle.counting.proofs.read.list_marked.Reads as list-marked-reads
 use Rattle.counting.proofs.refused.Reads as refused-reads
-use Rattle.counting.proofs.tally.count_pairs.Reads as count-pairs-reads
 use Rattle.counting.proofs.tally.list_counts.Reads as list-counts-reads
 use Rattle.reach.proofs.readings.reach_stops.Reads as reach-stops-reads
 
@@ -52,14 +51,10 @@ returns-2 : tie.Need-returns-2
 returns-2 c = ?
 
 -- src/lib.rt:95:9
-count-pairs-requires : tie.Need-count-pairs-requires
-count-pairs-requires c κs = ?
-
--- src/lib.rt:96:5
 list-counts-requires : tie.Need-list-counts-requires
 list-counts-requires c κs = ?
 
--- src/lib.rt:99:23
+-- src/lib.rt:98:23
 power-requires : tie.Need-power-requires
 power-requires c κs = search needs
 
@@ -89,7 +84,6 @@ count-spec =
     list-marked-requires
     same-length-2
     returns-2
-    count-pairs-requires
     list-counts-requires
     power-requires
     same-length-3

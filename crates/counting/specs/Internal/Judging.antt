@@ -4,13 +4,14 @@ use mathlib.Core.List.{List}
 use Prim.Native.Nat.{ℕ, _*_}
 use lib.Dec.{leb, eqb}
 use lib.ListN.{length}
+use Rattle.semantics.specs.Counts.{freeBits}
 use Rattle.circuit.specs.Circuit.{Circuit}
 use Rattle.circuit.specs.Rules.{Judgement, need, _then_, checked}
 use Rattle.circuit.specs.Answer.{Answer, accepted as taken, refused as untaken, answer, notesAfter}
 use Rattle.semantics.specs.Calls.{bytesRule, probesRule, circuitOf}
 use Rattle.checker.specs.declared.Verdict.{Verdict}
 use Rattle.checker.specs.Answers.{answerOf, inputsAre}
-use Rattle.counting.specs.Counting.{freeBits, CountAnswer, refused}
+use Rattle.counting.specs.Counting.{CountAnswer, refused}
 
 module _ (table notes secrets probes : List ℕ) (room : ℕ) where
   abbrev k : Circuit

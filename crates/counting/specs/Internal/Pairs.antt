@@ -7,8 +7,8 @@ use lib.ListN.{length, take, drop}
 use Rattle.circuit.specs.Lists.{_⊕_}
 use Rattle.circuit.specs.Circuit.{Circuit, isSet}
 use Rattle.semantics.specs.Values.{byte, at, valuesOf}
-use Rattle.semantics.specs.Counts.{parity}
-use Rattle.counting.specs.Counting.{freeBits, readWires}
+use Rattle.semantics.specs.Counts.{parity, freeBits}
+use Rattle.counting.specs.Counting.{readWires}
 
 -- shares of secret bits: of each IN the next so many free bits, then the bit that completes them
 unfoldable pub completed : (others : ℕ) (secrets free : List Bool) → List Bool

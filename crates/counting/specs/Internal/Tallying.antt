@@ -3,6 +3,7 @@ use mathlib.Core.Path.{_≡_}
 use mathlib.Core.List.{List}
 use Prim.Native.Nat.{ℕ, _+_, _*_, _-_, _^_, _≤_, _<_}
 use lib.ListN.{length, take, drop}
+use Rattle.semantics.specs.Counts.{freeBits}
 use Rattle.circuit.specs.Limits.{wireLimit}
 use Rattle.circuit.specs.Lists.{nth, overwrite}
 use Rattle.circuit.specs.Circuit.{size}
@@ -10,7 +11,7 @@ use Rattle.semantics.specs.Values.{bits, at}
 use Rattle.gadgets.specs.Internal.Accepting.{AcceptedTable, circuitIn}
 use Rattle.simulation.specs.Internal.Evaluating.{packed}
 use Rattle.counting.specs.declared.tally.Plan.{Plan}
-use Rattle.counting.specs.Counting.{freeBits, pairCount, readWires, countList}
+use Rattle.counting.specs.Counting.{pairCount, readWires, countList}
 use Rattle.counting.specs.Internal.Pairs.{valuesIn, shownOf}
 
 -- an accepted table of few free bits, and its numbers

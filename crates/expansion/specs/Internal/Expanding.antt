@@ -23,10 +23,6 @@ use Rattle.simulation.specs.Internal.Filling.{Values}
 use Rattle.simulation.proofs.Packing.{wordValue}
 use Rattle.expansion.specs.declared.expand.Affine.{Affine}
 
--- the bits that a sharing of given secret bits and a tape are free to choose
-abbrev pub freeBits : Circuit → ℕ
-freeBits k = (k .d - 1) * k .inputs + k .randoms
-
 -- the sum that a frame's wire is; the wire wireLimit stands for 0
 abbrev pub affineSum : (left right constant : ℕ) → Affine
 affineSum l r f = record { left = l; right = r; constant = f }

@@ -7,6 +7,7 @@ use lib.Dec.{leb, eqb}
 use lib.ListN.{length}
 use borrow.Author.Needs.{needs}
 use borrow.Author.Tests.{eq-eqb, ne-eqb, le-leb, lt-leb}
+use Rattle.semantics.specs.Counts.{freeBits}
 use Rattle.circuit.specs.Limits.{wireLimit}
 use Rattle.circuit.specs.Lists.{nth}
 use Rattle.circuit.specs.Circuit.{Circuit, size}
@@ -20,7 +21,6 @@ use Rattle.checker.specs.Answers.{answerOf, inputsAre}
 use Rattle.gadgets.proofs.Walking.{headed}
 use Rattle.evaluation.specs.Internal.Refusing.{refusal}
 use Rattle.evaluation.proofs.Answering.{Taken, taken, kept, broken, none-found, first-found}
-use Rattle.counting.specs.Counting.{freeBits}
 use Rattle.counting.specs.Internal.Judging.{firstRules, Judged}
 use Rattle.counting.proofs.judge.judge.Statement.{statement}
 use Rattle.counting.proofs.judge.judge.Tie as tie

@@ -18,7 +18,7 @@ abbrev μ-loop : tie.MeasureT-loop
 
 -- a turn's wire, and what the numbers become
 abbrev start : tie.In-loop Inv-loop μ-loop → tie.Start Inv-loop μ-loop
-start c = c .before .before
+start c = c .before .before .before
 
 wire-few : (c : tie.In-loop Inv-loop μ-loop) → nth (start c .args .read .now) (c .before .loop .i) < length (start c .args .values .now)
 wire-few c = start c .pre .2 (c .before .loop .i) (c .loop-test .taken)
@@ -44,10 +44,10 @@ gather-spec =
     (λ c. omega arith)
     (λ c. record { fits = omega (arith, wire-few (c .before)) })
     (λ c. record { fits = omega (arith, turned (c .before), small (c .before)) })
-    (λ c. wire-few (c .before))
+    (λ c. wire-few (c .before .before))
     (λ c κs. search needs)
     (λ c. record { fits = omega (arith, c .spread .ensures, turned (turn c), small (turn c)) })
     (λ c. search needs)
     (λ c. omega arith)
     (λ c. (omega arith, ap (λ s. 2 * turn c .before .loop .numbers + s) (c .spread .ensures) ∙ turned (turn c)))
-    (λ c. let e : c .before .loop .i ≡ c .before .before .args .found = omega arith in c .before .loop .inv .1 ∙ ap (λ n. gathered 8 (shownOn (c .before .before .args .values .now) (take n (c .before .before .args .read .now)))) e))
+    (λ c. let a = c .before .before .before .args in let e : c .before .loop .i ≡ a .found = omega arith in c .before .loop .inv .1 ∙ ap (λ n. gathered 8 (shownOn (a .values .now) (take n (a .read .now)))) e))
