@@ -20,3 +20,4 @@ pub mod Tallying
 pub mod Counts
 -- The rules of the call
 pub mod Judging
+pub mod Calling

@@ -2,18 +2,21 @@
 use mathlib.Core.Path.{_≡_, refl, sym, ap, subst₂, _∙_}
 use mathlib.Core.Bool.{Bool, true, false, cond}
 use mathlib.Core.List.{List, [], _∷_, _++_, append-nil}
-use Prim.Native.Nat.{ℕ, _+_, _≤_, _<_}
+use Prim.Native.Nat.{ℕ, zero, suc, _+_, _-_, _≤_, _<_}
 use native.Mathlib.Nat.{zero-add}
 use native.Mathlib.Omega.{arith}
 use lib.Dec.{ltb}
-use lib.ListN.{length, set, length-append, length-set, List·getD-append}
-use lib.Seq.{getD-set-same, getD-set-other, getD-at}
+use lib.ListN.{length, take, set, length-append, length-set, List·getD-append}
+use lib.Seq.{getD-set-same, getD-set-other, getD-at, getD-take, length-take-le, ext-getD}
 use borrow.Author.Tests.{ltb-true, ltb-false, lt-ltb}
+use Rattle.circuit.specs.Limits.{wireLimit}
 use Rattle.circuit.specs.Lists.{nth, range, filter}
-use Rattle.circuit.specs.Circuit.{isSet}
-use Rattle.circuit.proofs.Base.{cases}
+use Rattle.circuit.specs.Circuit.{Circuit, size, isSet}
+use Rattle.circuit.proofs.Base.{cases, In, in-head, in-tail, range-in, filter-in}
 use Rattle.gadgets.proofs.Bits.{set-low, set-high}
-use Rattle.gadgets.proofs.Ranges.{range-split, filter-append}
+use Rattle.gadgets.proofs.Ranges.{range-split, filter-append, filter-none}
+use Rattle.reach.specs.Internal.Reading.{OnStops}
+use Rattle.counting.specs.Counting.{isRead, readWires}
 use Rattle.counting.specs.Internal.Reading.{markedBelow, listedWith, Listed}
 
 -- one wire more
@@ -53,3 +56,42 @@ module _ {marks read : List ℕ} {x count : ℕ} (l : Listed marks x read count)
       (λ h. let on = set-high (nth marks x) (ltb-false _ _ h) in rw h (cases (ltb count 8)
       (λ k. rw k (more on (length-set read count x ∙ l .sized) (λ i p q. getD-set-other read count i x 0 (λ z. omega arith)) (λ p. getD-set-same read count x 0 (omega (arith, l .sized)))))
       (λ k. rw k (more on (l .sized) (λ i p q. refl) (λ p. absurd (omega (arith, ltb-false count 8 k))))))))
+
+-- the marks stand on the stops that are read
+filter-same : (p q : ℕ → Bool) (xs : List ℕ) → ((x : ℕ) → p x ≡ q x) → filter p xs ≡ filter q xs
+filter-same p q [] h = refl
+filter-same p q (x ∷ xs) h = rw (h x) (ap (λ r. cond (q x) (x ∷ r) r) (filter-same p q xs h))
+
+nth-in : (xs : List ℕ) (i : ℕ) → i < length xs → In (nth xs i) xs
+nth-in [] i l = absurd (omega arith)
+nth-in (x ∷ xs) zero l = in-head x xs
+nth-in (x ∷ xs) (suc i) l = in-tail (nth xs i) x xs (nth-in xs i (omega arith))
+
+module _ (k : Circuit) {probes marks : List ℕ} (on : OnStops (k .wires) probes marks) (few : size k ≤ wireLimit) where
+  abbrev marked : ℕ → Bool
+  marked x = isSet (nth marks x)
+
+  pub read-marked : readWires k probes ≡ markedBelow marks (size k)
+  unfolding readWires
+  read-marked =
+      let rest = wireLimit - size k in
+      let e : wireLimit ≡ size k + rest = omega arith in
+      filter-same (isRead k probes) marked (range 0 wireLimit) (λ x. sym (on .is x)) ∙ ap (λ n. filter marked (range 0 n)) e
+      ∙ ap (filter marked) (range-split 0 (size k) rest) ∙ filter-append marked (range 0 (size k)) (range (0 + size k) rest)
+      ∙ ap (λ r. markedBelow marks (size k) ++ r) (filter-none marked (0 + size k) rest
+      (λ x l u. cases (marked x) (λ b. absurd (omega (arith, on .made x b))) (λ b. b))) ∙ append-nil (markedBelow marks (size k))
+
+  -- the list of those that are read
+  module _ {read : List ℕ} {found : ℕ} (l : Listed marks (size k) read found) where
+    pub found-is : found ≡ length (readWires k probes)
+    found-is = l .all ∙ sym (ap length read-marked)
+
+    pub read-is : found ≤ 8 → readWires k probes ≡ take found read
+    read-is h = read-marked ∙ sym (ext-getD 0 (take found read) (markedBelow marks (size k)) (sized ∙ l .all)
+        (λ i j. let z : i < found = omega (arith, sized) in getD-take found read i 0 z ∙ l .first i z (omega arith)))
+      where
+        sized : length (take found read) ≡ found
+        sized = length-take-le found read (omega (arith, l .sized))
+
+    pub read-made : (i : ℕ) → i < found → i < 8 → nth read i < size k
+    read-made i h j = rw (l .first i h j) (omega (arith, range-in _ 0 (size k) (filter-in marked (range 0 (size k)) (nth (markedBelow marks (size k)) i) (nth-in (markedBelow marks (size k)) i (omega (arith, l .all))) .0)))

@@ -96,7 +96,18 @@ fn evaluate_pairs(
     let count = (plan.others + 1) * secrets.len();
     let sharing = &shares[0..count];
     let tape = &words[start..free];
-    evaluate(table, left, right, constants, listed, plan.listed, sharing, tape, plan.wires, values);
+    evaluate(
+        table,
+        left,
+        right,
+        constants,
+        listed,
+        plan.listed,
+        sharing,
+        tape,
+        plan.wires,
+        values,
+    );
 }
 
 // Counts, from 0, how many pairs of a set of secret bits show each combination on the read wires.
@@ -119,7 +130,17 @@ fn tally_set(
     let mut values = [0u8; expand::ROOM];
     let mut batch = 0;
     while batch < plan.batches {
-        evaluate_pairs(table, left, right, constants, listed, plan, secrets, batch, &mut values);
+        evaluate_pairs(
+            table,
+            left,
+            right,
+            constants,
+            listed,
+            plan,
+            secrets,
+            batch,
+            &mut values,
+        );
         let numbers = lanes::gather(&values, read, found);
         lanes::add(tally, numbers, plan.lanes);
         batch += 1;
@@ -152,8 +173,30 @@ pub(crate) fn list_counts(
     let other = &secrets[inputs..end];
     let mut first = [0u32; 256];
     let mut second = [0u32; 256];
-    tally_set(table, &left, &right, &constants, &listed, plan, one, read, found, &mut first);
-    tally_set(table, &left, &right, &constants, &listed, plan, other, read, found, &mut second);
+    tally_set(
+        table,
+        &left,
+        &right,
+        &constants,
+        &listed,
+        plan,
+        one,
+        read,
+        found,
+        &mut first,
+    );
+    tally_set(
+        table,
+        &left,
+        &right,
+        &constants,
+        &listed,
+        plan,
+        other,
+        read,
+        found,
+        &mut second,
+    );
     listing::write_list(&first, &second, numbers::power(found), pairs as u32, counts);
     pairs
 }

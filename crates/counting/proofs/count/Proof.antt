@@ -1,91 +1,173 @@
+-- The call ends in one of three ways, each a judgement; what it promises follows from that judgement.
+use mathlib.Core.Path.{_≡_, refl, sym, ap, ap₂, subst, _∙_}
+use mathlib.Core.List.{List}
+use Prim.Native.Nat.{ℕ, _+_, _*_, _^_, _≤_, _<_}
+use native.Mathlib.Omega.{arith}
+use lib.ListN.{length, take, drop}
 use borrow.Author.Needs.{needs}
+use Rattle.circuit.specs.Limits.{wireLimit}
+use Rattle.circuit.specs.Circuit.{Circuit, size}
+use Rattle.circuit.specs.Rules.{Judgement, pass, refuse, checked}
+use Rattle.circuit.specs.Answer.{notesAfter}
+use Rattle.circuit.proofs.Answers.{answer-pass, answer-refused}
+use Rattle.semantics.specs.Values.{bits}
+use Rattle.semantics.specs.Counts.{freeBits}
+use Rattle.semantics.specs.Calls.{Accepts, circuitOf, written}
+use Rattle.checker.specs.declared.Verdict.{Verdict}
+use Rattle.checker.specs.Answers.{answerOf, inputsAre}
+use Rattle.gadgets.specs.Internal.Accepting.{circuitIn}
+use Rattle.reach.specs.Internal.Reading.{OnStops}
+use Rattle.counting.specs.Counting.{pairCount, readWires, countList, CountAnswer, accepted, countRule, answerTo, countAnswer, countsAfter, AddUp, SameColumns}
+use Rattle.counting.specs.Internal.Judging.{firstRules, refusalIn}
+use Rattle.counting.specs.Internal.Reading.{Listed}
 use Rattle.counting.proofs.count.Statement.{statement}
 use Rattle.counting.proofs.count.Tie as tie
-use Rattle.counting.proofs.count.Reads as reads
-use Rattle.counting.proofs.count.Lts as lts
-use Rattle.counting.proofs.judge.judge.Reads as judge-reads
-use Rattle.counting.proofs.numbers.power.Reads as power-reads
-use Rattle.counting.proofs.read.list_marked.Reads as list-marked-reads
-use Rattle.counting.proofs.refused.Reads as refused-reads
-use Rattle.counting.proofs.tally.list_counts.Reads as list-counts-reads
-use Rattle.reach.proofs.readings.reach_stops.Reads as reach-stops-reads
+use Rattle.counting.proofs.Marked.{found-is, read-is, read-made}
+use Rattle.counting.proofs.Judging.{Passed, passed}
+use Rattle.counting.proofs.Calling.{refuses, too-many, passes, sheet, adds-up, same-columns}
 
--- src/lib.rt:74:9
-judge-requires : tie.Need-judge-requires
-judge-requires c κs = search needs
+abbrev start : tie.After-judge → tie.Start
+start c = c .before .before .before .before .before .before .before
 
--- src/lib.rt:76:9
-enum-known-verdict : tie.Need-enum-known-verdict
-enum-known-verdict c = search needs
+abbrev table : tie.After-judge → List ℕ
+table c = start c .args .table .now
 
--- src/lib.rt:82:9
-enum-told : tie.Need-enum-told
-enum-told c = search needs
+abbrev notes : tie.After-judge → List ℕ
+notes c = start c .args .notes .now
 
--- src/lib.rt:82:9
-refused-requires : tie.Need-refused-requires
-refused-requires c κs = search needs
+abbrev secrets : tie.After-judge → List ℕ
+secrets c = start c .args .secrets .now
 
--- src/lib.rt:82:9
-same-length : tie.Need-same-length
-same-length c = search needs
+abbrev probes : tie.After-judge → List ℕ
+probes c = start c .args .probes .now
 
--- src/lib.rt:82:9
+abbrev counts : tie.After-judge → List ℕ
+counts c = start c .args .counts .now
+
+abbrev k : tie.After-judge → Circuit
+k c = circuitOf (table c) (notes c)
+
+abbrev listFor : tie.After-judge → List ℕ
+listFor c = countList (k c) (probes c) (bits (take (k c .inputs) (secrets c))) (bits (drop (k c .inputs) (secrets c)))
+
+-- the five promises, once the call comes to a judgement
+promised : (c : tie.After-judge) {j : Judgement} {told : CountAnswer} {new : List ℕ} → countRule (table c) (notes c) (secrets c) (probes c) (counts c) ≡ j
+    → told ≡ answerTo (table c) (notes c) (secrets c) (probes c) (counts c) j → new ≡ written j (listFor c) (counts c)
+    → (told ≡ countAnswer (table c) (notes c) (secrets c) (probes c) (counts c))
+    × ((c .judge .last .1 .0 ≡ notesAfter (checked (table c) (length (notes c)) .circuit) (notes c))
+    × ((new ≡ countsAfter (table c) (notes c) (secrets c) (probes c) (counts c))
+    × ((Accepts (table c) (notes c) → AddUp (k c) (probes c)) × (Accepts (table c) (notes c) → SameColumns (k c) (probes c)))))
+promised c e tells wrote = (
+  tells ∙ sym (ap (answerTo (table c) (notes c) (secrets c) (probes c) (counts c)) e),
+  (
+    c .judge .ensures .noted,
+    (
+      wrote ∙ sym (ap (λ (j : Judgement). written j (listFor c) (counts c)) e),
+      (adds-up (table c) (notes c) (secrets c) (probes c) (counts c), same-columns (table c) (notes c) (secrets c) (probes c) (counts c)),
+    ),
+  ),
+)
+
+-- behind an accepting verdict: its numbers
+abbrev judged : tie.After-verdict → tie.After-judge
+judged v = v .before .before .before .before
+
+record Numbers (v : tie.After-verdict) : Type 0 where
+  first : firstRules (table (judged v)) (notes (judged v)) (secrets (judged v)) (probes (judged v)) (length (counts (judged v))) ≡ pass
+  of : Passed (table (judged v)) (notes (judged v)) (secrets (judged v)) (probes (judged v)) (length (counts (judged v)))
+  wires : v .verdict .given .0 .0 ≡ size (circuitIn (table (judged v)))
+  randoms : v .verdict .given .0 .1 .0 ≡ circuitIn (table (judged v)) .randoms
+  inputs : v .verdict .given .0 .1 .1 .1 .0 ≡ k (judged v) .inputs
+
+numbers : (v : tie.After-verdict) → Numbers v
+numbers v =
+    let c = judged v in
+    let (p, wires, randoms) = answer-pass (k c) _ (sym (ap answerOf (v .verdict .given .1)) ∙ c .judge .ensures .answers) in
+    let q = passed _ _ _ _ _ p in
+    record {
+      first = p;
+      of = q;
+      wires = wires ∙ ap size (q .of .circuit-is);
+      randoms = randoms ∙ ap (λ (z : Circuit). z .randoms) (q .of .circuit-is);
+      inputs = subst (λ (r : Verdict). inputsAre r (k c .inputs)) (v .verdict .given .1) (c .judge .ensures .inputs);
+    }
+
 returns : tie.Need-returns
-returns c = ?
+returns c =
+    let g = c .before .before .before .before .before in
+    let e = c .before .enum-told .given .1 in
+    promised g (refuses (table g) (notes g) (secrets g) (probes g) (counts g) (answer-refused (k g) _ (sym (ap answerOf e) ∙ g .judge .ensures .answers)))
+    (c .refused .ensures ∙ ap (λ v. refusalIn (answerOf v)) e) refl
 
--- src/lib.rt:85:5
-reach-stops-requires : tie.Need-reach-stops-requires
-reach-stops-requires c κs = ?
+-- the wires that are read
+abbrev accepting : tie.After-list-marked → tie.After-verdict
+accepting m = m .before .before .before .before .before .before
 
--- src/lib.rt:87:9
-list-marked-requires : tie.Need-list-marked-requires
-list-marked-requires c κs = ?
+few : (v : tie.After-verdict) → size (circuitIn (table (judged v))) ≤ wireLimit
+few v = omega (arith, numbers v .of .of .wires-few, ap size (numbers v .of .of .circuit-is))
 
--- src/lib.rt:89:9
-same-length-2 : tie.Need-same-length-2
-same-length-2 c = search needs
+record Read (m : tie.After-list-marked) : Type 0 where
+  marked : OnStops (circuitIn (table (judged (accepting m))) .wires) (probes (judged (accepting m))) (m .before .before .before .reach-stops .last .1 .1 .1 .0)
+  listed : Listed (m .before .before .before .reach-stops .last .1 .1 .1 .0) (size (circuitIn (table (judged (accepting m))))) (m .list-marked .last .1 .1 .0) (m .list-marked .result)
+  found : m .list-marked .result ≡ length (readWires (k (judged (accepting m))) (probes (judged (accepting m))))
 
--- src/lib.rt:89:9
+read : (m : tie.After-list-marked) → Read m
+read m =
+    let v = accepting m in
+    let n = numbers v in
+    let on = m .before .before .before .reach-stops .ensures in
+    let l = subst (λ (w : ℕ). Listed (m .before .before .before .reach-stops .last .1 .1 .1 .0) w (m .list-marked .last .1 .1 .0) (m .list-marked .result)) (n .wires) (m .list-marked .ensures) in
+    record { marked = on; listed = l; found = found-is (circuitIn (table (judged v))) on (few v) l ∙ ap (λ (c : Circuit). length (readWires c (probes (judged v)))) (sym (n .of .of .circuit-is)) }
+
 returns-2 : tie.Need-returns-2
-returns-2 c = ?
+returns-2 c =
+    let m = c .before in
+    let v = accepting m in
+    let g = judged v in
+    promised g (too-many (table g) (notes g) (secrets g) (probes g) (counts g) (numbers v .first) (omega (arith, read m .found, c .if1 .taken))) refl refl
 
--- src/lib.rt:95:9
 list-counts-requires : tie.Need-list-counts-requires
-list-counts-requires c κs = ?
+list-counts-requires c κs =
+    let e = c .before .before in
+    let m = e .before in
+    let v = accepting m in
+    let n = numbers v in
+    let r = read m in (
+      record { accepted = n .of .of .accepted; few = subst (λ (z : Circuit). freeBits z ≤ 16) (n .of .of .circuit-is) (n .of .few); inputs-are = n .inputs ∙ ap (λ (z : Circuit). z .inputs) (n .of .of .circuit-is); randoms-are = n .randoms; wires-are = n .wires },
+      omega (arith, n .of .sized, n .inputs),
+      n .of .bit,
+      record { few = e .if1 .left; sized = r .listed .sized; made = λ i h. read-made (circuitIn (table (judged v))) (r .marked) (few v) (r .listed) i h (omega arith) },
+      n .of .roomy,
+    )
 
--- src/lib.rt:98:23
-power-requires : tie.Need-power-requires
-power-requires c κs = search needs
-
--- src/lib.rt:60:1
-same-length-3 : tie.Need-same-length-3
-same-length-3 c = search needs
-
--- src/lib.rt:60:1
-same-length-4 : tie.Need-same-length-4
-same-length-4 c = search needs
-
--- src/lib.rt:60:1
 returns-3 : tie.Need-returns-3
-returns-3 c = ?
+returns-3 c =
+    let t = c .before .before .before in
+    let e = t .before .before .before in
+    let m = e .before in
+    let v = accepting m in
+    let g = judged v in
+    let n = numbers v in
+    let r = read m in
+    let same = n .of .of .circuit-is in
+    let number = length (readWires (k g) (probes g)) in
+    promised g (passes (table g) (notes g) (secrets g) (probes g) (counts g) (n .first) (omega (arith, r .found, e .if1 .left)))
+    (ap₂ (λ x y. accepted x y (t .list-counts .result)) (r .found) (c .power .ensures .0 ∙ ap (λ y. 2 ^ y) (r .found)) ∙ ap (λ z. accepted number (2 ^ number) z) (t .list-counts .ensures .0 ∙ ap pairCount (sym same)))
+    (sheet (table g) (notes g) (secrets g) (probes g) (counts g) (n .of .of) (n .inputs) (t .list-counts .ensures .1)
+    (ap (λ (z : Circuit). readWires z (probes g)) same ∙ read-is (circuitIn (table g)) (r .marked) (few v) (r .listed) (e .if1 .left)))
 
 pub count-spec : {M : Type 1} → statement M
 count-spec =
     tie.close
     (tie.spec
-    judge-requires
-    enum-known-verdict
-    enum-told
-    refused-requires
-    same-length
+    (λ c κs. search needs) (λ c. search needs) (λ c. search needs) (λ c κs. search needs) (λ c. search needs)
     returns
-    reach-stops-requires
-    list-marked-requires
-    same-length-2
+    (λ c κs. let v = c .before .before in let n = numbers v in (n .of .of .accepted, n .wires, (λ x i. omega (arith, n .of .probed x i, n .wires, ap size (n .of .of .circuit-is))), refl))
+    (λ c κs. let v = c .before .before .before .before .before in (omega (arith, numbers v .wires, few v), refl))
+    (λ c. search needs)
     returns-2
     list-counts-requires
-    power-requires
-    same-length-3
-    same-length-4
+    (λ c κs. omega (arith, c .before .before .before .before .before .if1 .left))
+    (λ c. search needs)
+    (λ c. search needs)
     returns-3)

@@ -29,10 +29,13 @@ plan-pairs-spec =
     (λ c. record { fits = omega (arith, numbers (c .before .before) .free, c .before .before .pre .few) })
     (λ c. record { fits = omega (arith, numbers (c .before .before) .free, c .before .before .pre .few) })
     (λ c κs. omega (arith, numbers (c .before .before) .free, c .before .before .pre .few))
-    (λ c. let s = c .before .before .before in (record {
-      wires-are = s .pre .wires-are;
-      others-are = numbers s .others;
-      start-is = ap (λ n. (nth (s .args .table .now) 1 - 1) * n) (s .pre .inputs-are);
-      free-is = numbers s .free;
-      divides = c .divide .ensures;
-    }, refl)))
+    (λ c. let s = c .before .before .before in (
+      record {
+        wires-are = s .pre .wires-are;
+        others-are = numbers s .others;
+        start-is = ap (λ n. (nth (s .args .table .now) 1 - 1) * n) (s .pre .inputs-are);
+        free-is = numbers s .free;
+        divides = c .divide .ensures;
+      },
+      refl,
+    )))

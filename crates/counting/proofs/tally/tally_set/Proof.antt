@@ -38,9 +38,12 @@ loop-again c =
     let l = c .before .before .before .before .before .before .before .before .before in
     let s = start l in
     let d = s .pre .1 .divides in
-    let h = c .before .before .before .before .before .evaluate-pairs .ensures in
-    (omega arith, h .sized ∙ l .loop .inv .1, h .none ∙ l .loop .inv .2,
-    tallied-next (l .loop .inv .3) (d .behind (l .loop .batch) (omega arith)) (d .few) h (omega (arith, wires s, s .pre .3 .few)) (made s) (c .before .before .gather .ensures) (c .add .ensures))
+    let h = c .before .before .before .before .before .evaluate-pairs .ensures in (
+      omega arith,
+      h .sized ∙ l .loop .inv .1,
+      h .none ∙ l .loop .inv .2,
+      tallied-next (l .loop .inv .3) (d .behind (l .loop .batch) (omega arith)) (d .few) h (omega (arith, wires s, s .pre .3 .few)) (made s) (c .before .before .gather .ensures) (c .add .ensures),
+    )
 
 pub tally-set-spec : {M : Type 1} → statement M
 tally-set-spec =
