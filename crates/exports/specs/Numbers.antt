@@ -3,6 +3,7 @@ use mathlib.Core.Path.{_≡_}
 use Prim.Native.Nat.{ℕ}
 use Rattle.circuit.specs.Answer.{Answer, accepted, refused}
 use Rattle.text.specs.Answer.{TextAnswer, accepted as taken, refused as untaken}
+use Rattle.counting.specs.Counting.{CountAnswer, accepted as counted, refused as uncounted}
 
 -- accepted: wires, random bits, latency; refused: frame, word, 0
 abbrev pub result : Answer → ℕ
@@ -44,3 +45,26 @@ pub record TextAnswerIs (answer : TextAnswer) (r a b : ℕ) : Type 0 where
   pub result-is : r ≡ textResult answer
   pub first-is : a ≡ textFirst answer
   pub second-is : b ≡ textSecond answer
+
+-- counts, accepted: wires read, combinations, pairs of one set; refused: frame, word, 0
+abbrev pub countResult : CountAnswer → ℕ
+countResult (counted read combinations pairs) = 0
+countResult (uncounted rule frame word) = rule
+
+abbrev pub countFirst : CountAnswer → ℕ
+countFirst (counted read combinations pairs) = read
+countFirst (uncounted rule frame word) = frame
+
+abbrev pub countSecond : CountAnswer → ℕ
+countSecond (counted read combinations pairs) = combinations
+countSecond (uncounted rule frame word) = word
+
+abbrev pub countThird : CountAnswer → ℕ
+countThird (counted read combinations pairs) = pairs
+countThird (uncounted rule frame word) = 0
+
+pub record CountAnswerIs (answer : CountAnswer) (r a b c : ℕ) : Type 0 where
+  pub result-is : r ≡ countResult answer
+  pub first-is : a ≡ countFirst answer
+  pub second-is : b ≡ countSecond answer
+  pub third-is : c ≡ countThird answer

@@ -1,6 +1,7 @@
 // The calls under C names, for programs in other languages. A slice passes as a pointer and a length. The result is 0 where
-// accepted, and the numbers are wires, random bits and latency (of a text: words read or bytes written, and 0); else it is the
-// number of the first rule broken, and the numbers are frame, word and 0 (of a text that is read: line and word).
+// accepted, and the numbers are wires, random bits and latency (of a text: words read or bytes written, and 0; of counts: wires
+// read, combinations and pairs); else it is the number of the first rule broken, and the numbers are frame, word and 0 (of a text
+// that is read: line and word).
 ghost use mathlib.Core.Path.{_≡_};
 ghost use mathlib.Core.List.{[], _∷_};
 ghost use lib.ListN.{length};
@@ -11,8 +12,10 @@ ghost use Rattle.text.specs.Reader.{readText};
 ghost use Rattle.text.specs.Answer.{textAnswer, textAnswerOf, tableAfter};
 ghost use Rattle.writer.specs.Writer.{writeAnswer, textAfter};
 ghost use Rattle.checker.specs.Answers.{answerOf};
-ghost use Rattle.exports.specs.Numbers.{AnswerIs, TextAnswerIs};
+ghost use Rattle.counting.specs.Counting.{countAnswerOf, countAnswer, countsAfter};
+ghost use Rattle.exports.specs.Numbers.{AnswerIs, TextAnswerIs, CountAnswerIs};
 use checker::Verdict;
+use counting::Counted;
 use text::TextVerdict;
 
 // Puts a verdict's numbers where the caller wants them, and answers its result.
@@ -53,6 +56,30 @@ fn put_text(verdict: TextVerdict, a: &mut u64, b: &mut u64) -> u64
         TextVerdict::Refused { rule, line, word } => {
             *a = line as u64;
             *b = word as u64;
+            rule as u64
+        }
+    }
+}
+
+// The same for counts.
+fn put_count(counted: Counted, a: &mut u64, b: &mut u64, c: &mut u64) -> u64
+    ensures answered { λ r. ⌜ CountAnswerIs (countAnswerOf counted) r (now (a .exit)) (now (b .exit)) (now (c .exit)) ⌝ }
+{
+    match counted {
+        Counted::Accepted {
+            read,
+            combinations,
+            pairs,
+        } => {
+            *a = read as u64;
+            *b = combinations as u64;
+            *c = pairs as u64;
+            0
+        }
+        Counted::Refused { rule, frame, word } => {
+            *a = frame as u64;
+            *b = word as u64;
+            *c = 0;
             rule as u64
         }
     }
@@ -148,4 +175,24 @@ pub extern "C" fn masked_read_probes(
 {
     let verdict = evaluation::read_probes(table, notes, shares, tape, values, probes, reading);
     put(verdict, a, b, c)
+}
+
+// counting::count
+#[no_mangle]
+pub extern "C" fn masked_count(
+    table: &[u16],
+    notes: &mut [u16],
+    secrets: &[u8],
+    probes: &[u16],
+    counts: &mut [u32],
+    a: &mut u64,
+    b: &mut u64,
+    c: &mut u64,
+) -> u64
+    ensures answered { λ r. ⌜ CountAnswerIs (countAnswer (now (table .entry)) (now (notes .entry)) (now (secrets .entry)) (now (probes .entry)) (now (counts .entry))) r (now (a .exit)) (now (b .exit)) (now (c .exit)) ⌝ }
+    ensures noted { λ _. ⌜ now (notes .exit) ≡ notesAfter (checked (now (table .entry)) (length (now (notes .entry))) .circuit) (now (notes .entry)) ⌝ }
+    ensures listed { λ _. ⌜ now (counts .exit) ≡ countsAfter (now (table .entry)) (now (notes .entry)) (now (secrets .entry)) (now (probes .entry)) (now (counts .entry)) ⌝ }
+{
+    let counted = counting::count(table, notes, secrets, probes, counts);
+    put_count(counted, a, b, c)
 }
