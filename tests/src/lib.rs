@@ -2,8 +2,12 @@
 pub mod builder;
 pub mod calls;
 pub mod generate;
+pub mod laws;
 pub mod mask;
 pub mod options;
+#[cfg(feature = "proved")]
+#[allow(clippy::too_many_arguments)]
+pub mod proved;
 pub mod reference;
 pub mod tuned;
 pub mod verdict;

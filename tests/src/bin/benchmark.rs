@@ -11,7 +11,7 @@ use std::time::Instant;
 
 #[cfg(feature = "proved")]
 fn subject() -> (Box<dyn Calls>, &'static str) {
-    (Box::new(masked_tests::calls::Proved), "the proved code")
+    (Box::new(masked_tests::proved::Proved), "the proved code")
 }
 
 #[cfg(not(feature = "proved"))]

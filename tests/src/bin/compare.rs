@@ -1,19 +1,21 @@
 //! Random cases through the reference and the proved code: answers and every byte of every buffer. Each text that is written
-//! is read back.
+//! is read back, and each count is added up.
 use masked_tests::calls::{Answer, Calls, NAMES};
 use masked_tests::generate::case::{case, Case};
+use masked_tests::generate::counting::Counting;
 use masked_tests::generate::random::Random;
-use masked_tests::generate::text::damage;
+use masked_tests::laws::{bytes_hex, hex, read_back, Counted};
 use masked_tests::options;
 use masked_tests::reference::write::frames;
 use masked_tests::reference::Reference;
 use std::process::exit;
 
 const CALLS: usize = NAMES.len();
-/// The number of write_text in NAMES.
+/// The numbers of write_text and count in NAMES.
 const WRITE_TEXT: usize = 4;
+const COUNT: usize = 5;
 /// The results that a call may have: accepted, and the rules' numbers.
-const RULES: usize = 24;
+const RULES: usize = 26;
 /// Bytes or words of junk before and after each lent buffer.
 const GUARD: usize = 16;
 
@@ -25,6 +27,7 @@ struct Buffers {
     reading: Vec<u8>,
     table: Vec<u16>,
     text: Vec<u8>,
+    counts: Vec<u32>,
 }
 
 impl Buffers {
@@ -35,6 +38,7 @@ impl Buffers {
             reading: random.bytes(case.reading + 2 * GUARD),
             table: random.words(case.text_table + 2 * GUARD),
             text: random.bytes(case.written + 2 * GUARD),
+            counts: random.numbers(case.counting.counts + 2 * GUARD),
         }
     }
 
@@ -52,6 +56,11 @@ impl Buffers {
             2 => calls.read_probes(&case.table, notes, shares, tape, values, probes, reading),
             3 => calls.read_text(&case.text, table),
             WRITE_TEXT => calls.write_text(&case.table, notes, text),
+            COUNT => {
+                let Counting { table, secrets, probes, counts } = &case.counting;
+                let counts = &mut self.counts[GUARD..GUARD + counts];
+                calls.count(table, notes, secrets, probes, counts)
+            }
             _ => unreachable!("{} has no arm", NAMES[call]),
         }
     }
@@ -68,6 +77,7 @@ impl Buffers {
             .or_else(|| at("reading", &self.reading, &other.reading))
             .or_else(|| at("table", &self.table, &other.table))
             .or_else(|| at("text", &self.text, &other.text))
+            .or_else(|| at("counts", &self.counts, &other.counts))
             .unwrap_or_default()
     }
 }
@@ -91,39 +101,6 @@ fn agree(
     Ok((wanted, ours))
 }
 
-/// Reads a written text, with exact room and with more: it is the very table, and a damaged one is not.
-fn read_back(
-    random: &mut Random,
-    other: &dyn Calls,
-    table: &[u16],
-    text: &[u8],
-) -> Result<(), String> {
-    let words = table.len();
-    let accepted = Answer::new(0, [words, 0, 0]);
-    for room in [words, words + random.within(1, 40)] {
-        let junk = random.words(room);
-        let mut read = junk.clone();
-        let answer = other.read_text(text, &mut read);
-        if answer != accepted || read != [table, &junk[words..]].concat() {
-            return Err(format!("read back, room for {room} words: {answer:?}, {}", hex(&read)));
-        }
-    }
-    let (mut damaged, mut read) = (text.to_vec(), vec![0; words]);
-    damage(random, &mut damaged);
-    if damaged != text && other.read_text(&damaged, &mut read) == accepted && read == table {
-        return Err(format!("another text is read as the table: {}", bytes_hex(&damaged)));
-    }
-    Ok(())
-}
-
-fn hex(words: &[u16]) -> String {
-    words.iter().map(|word| format!("{word:04X} ")).collect()
-}
-
-fn bytes_hex(bytes: &[u8]) -> String {
-    bytes.iter().map(|byte| format!("{byte:02X}")).collect()
-}
-
 fn print_failure(seed: u64, number: u64, case: &Case, what: &str) {
     println!("compare: seed {seed} case {number} failed: {what}");
     println!("  again: compare --seed {seed} --first {number} --count 1");
@@ -135,6 +112,9 @@ fn print_failure(seed: u64, number: u64, case: &Case, what: &str) {
         case.notes, case.values, case.reading, case.text_table, case.written
     );
     println!("  text bytes: {}", bytes_hex(&case.text));
+    let Counting { table, secrets, probes, counts } = &case.counting;
+    println!("  counted table: {}", hex(table));
+    println!("  secrets: {}  probes: {}  counts {counts}", bytes_hex(secrets), hex(probes));
 }
 
 /// The rules that each call must have met.
@@ -145,6 +125,7 @@ fn wanted_rules(call: usize) -> Vec<usize> {
         2 => (0..=19).chain([22]).collect(),
         3 => vec![0, 3, 4, 5, 6, 20, 21],
         WRITE_TEXT => (0..=14).chain([22, 23]).collect(),
+        COUNT => (0..=15).chain([17, 18, 19, 22, 24, 25]).collect(),
         _ => unreachable!("{} has no rules", NAMES[call]),
     }
 }
@@ -207,7 +188,7 @@ impl Shapes {
 fn other(name: Option<String>) -> (Box<dyn Calls>, &'static str) {
     match name.as_deref() {
         Some("tuned") => (Box::new(masked_tests::tuned::Tuned), "the tuned opponent"),
-        _ => (Box::new(masked_tests::calls::Proved), "the proved code"),
+        _ => (Box::new(masked_tests::proved::Proved), "the proved code"),
     }
 }
 
@@ -222,10 +203,11 @@ struct Tally {
     met: [[u64; RULES]; CALLS],
     shapes: Shapes,
     read_back: u64,
+    counted: Counted,
 }
 
 impl Tally {
-    /// Makes every call of a case on both sides, and reads back what was written.
+    /// Makes every call of a case on both sides, reads back what was written, and adds up what was counted.
     fn take(&mut self, other: &dyn Calls, case: &Case, random: &mut Random) -> Result<(), String> {
         let junk = Buffers::junk(random, case);
         let done = (0..CALLS)
@@ -235,6 +217,10 @@ impl Tally {
             let text = &buffers.text[GUARD..GUARD + *bytes as usize];
             read_back(random, other, &case.table, text)?;
             self.read_back += 1;
+        }
+        let (answer, buffers) = &done[COUNT];
+        if answer.result == 0 {
+            self.counted.take(&case.counting, answer, &buffers.counts[GUARD..])?;
         }
         self.shapes.note(&case.table, done[0].0);
         for (met, (answer, _)) in self.met.iter_mut().zip(&done) {
@@ -266,6 +252,7 @@ fn main() {
     tally.shapes.print();
     let missing = print_rules(&tally.met);
     println!("texts written and read back: {}", tally.read_back);
+    tally.counted.print();
     if missing > 0 && count > 1000 {
         println!("compare: {missing} rules were never met by a call that has them");
     }

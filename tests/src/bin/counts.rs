@@ -9,7 +9,7 @@ use masked_tests::reference::circuit::{Circuit, Source};
 use masked_tests::reference::count::{difference, free_bits, outcomes, Difference};
 use std::process::exit;
 
-/// Most free bits of a circuit that is counted.
+/// Most shares and random bits of a circuit that is counted.
 const MOST_BITS: usize = 16;
 
 #[derive(Default)]
@@ -35,7 +35,7 @@ impl Tally {
     fn equal(&mut self, random: &mut Random, name: &str, builder: &Builder, most_sets: usize) {
         let (circuit, refusal) = walk(&builder.table, Rules::All);
         assert!(refusal.is_none(), "{name} is accepted: {refusal:?}\n{}", builder.text());
-        assert!(free_bits(&circuit) <= MOST_BITS);
+        assert!(circuit.inputs + free_bits(&circuit) <= MOST_BITS);
         let outcomes = outcomes(&circuit);
         let sets = probe_sets(random, circuit.wires.len(), circuit.d, most_sets);
         self.sets += sets.len();

@@ -10,7 +10,7 @@ use std::process::exit;
 
 #[cfg(feature = "proved")]
 fn calls() -> (Box<dyn Calls>, &'static str) {
-    (Box::new(masked_tests::calls::Proved), "the proved code")
+    (Box::new(masked_tests::proved::Proved), "the proved code")
 }
 
 #[cfg(not(feature = "proved"))]

@@ -10,7 +10,7 @@ use std::process::exit;
 fn programs() -> Vec<(&'static str, Box<dyn Calls>)> {
     vec![
         ("the reference", Box::new(Reference)),
-        ("the proved code", Box::new(masked_tests::calls::Proved)),
+        ("the proved code", Box::new(masked_tests::proved::Proved)),
     ]
 }
 

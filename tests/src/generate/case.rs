@@ -1,10 +1,12 @@
 //! One case: everything the calls are given, lengths of buffers included.
 use super::circuit::{circuit, Shape};
+use super::counting::{counting, Counting};
 use super::damage::{damaged_lines, noise};
 use super::limits::limit;
 use super::near::near_frame;
 use super::random::Random;
 use super::text::random_text;
+use crate::builder::Builder;
 use crate::reference::check::{walk, Rules};
 use crate::reference::circuit::Circuit;
 
@@ -21,6 +23,7 @@ pub struct Case {
     pub text_table: usize,
     /// Length of the text lent to the text writer.
     pub written: usize,
+    pub counting: Counting,
 }
 
 /// The case that the random numbers give.
@@ -39,32 +42,38 @@ pub fn case(random: &mut Random) -> Case {
         reading: sheet(random, 8192),
         text_table: text_table(random, words),
         written: written(random, table.len()),
+        counting: counting(random),
         text,
         table,
     }
 }
 
 /// Frames: valid, damaged, with a last one nearly right, or at a limit.
-fn lines(random: &mut Random) -> Vec<Vec<u16>> {
+pub fn lines(random: &mut Random) -> Vec<Vec<u16>> {
     if random.once_in(32) {
         return limit(random).lines();
     }
     let most_frames = if random.once_in(16) { 400 } else { 40 };
     let shape = Shape::random(random, most_frames);
     let builder = circuit(random, shape);
+    spoiled(random, &builder)
+}
+
+/// A circuit's frames: as they are, damaged, or with a last one nearly right.
+pub fn spoiled(random: &mut Random, builder: &Builder) -> Vec<Vec<u16>> {
     match random.below(4) {
         0 | 1 => builder.lines(),
-        2 => damaged_lines(random, &builder),
+        2 => damaged_lines(random, builder),
         _ => {
             let mut lines = builder.lines();
-            lines.push(near_frame(random, &builder));
+            lines.push(near_frame(random, builder));
             lines
         }
     }
 }
 
 /// A buffer's length: mostly enough, now and then too short.
-fn sheet(random: &mut Random, enough: usize) -> usize {
+pub fn sheet(random: &mut Random, enough: usize) -> usize {
     match random.below(32) {
         0 => enough - 1,
         1 if random.once_in(4) => random.below(enough),
@@ -73,8 +82,8 @@ fn sheet(random: &mut Random, enough: usize) -> usize {
     }
 }
 
-/// Shares or a tape: mostly of the right length, now and then with a byte over 1.
-fn bits(random: &mut Random, right: usize) -> Vec<u8> {
+/// Shares, a tape or secrets: mostly of the right length, now and then with a byte over 1.
+pub fn bits(random: &mut Random, right: usize) -> Vec<u8> {
     let count = match random.below(40) {
         0 => right + 1,
         1 => right.saturating_sub(1),
@@ -92,7 +101,7 @@ fn bits(random: &mut Random, right: usize) -> Vec<u8> {
 }
 
 /// None to many probes, now and then one that no wire has.
-fn probes(random: &mut Random, made: &Circuit) -> Vec<u16> {
+pub fn probes(random: &mut Random, made: &Circuit) -> Vec<u16> {
     let wires = made.wires.len();
     let count = match random.below(16) {
         0 => 0,

@@ -61,4 +61,8 @@ impl Random {
         let bytes = self.bytes(2 * count);
         bytes.chunks(2).map(|pair| u16::from_le_bytes([pair[0], pair[1]])).collect()
     }
+
+    pub fn numbers(&mut self, count: usize) -> Vec<u32> {
+        (0..count).map(|_| self.number() as u32).collect()
+    }
 }

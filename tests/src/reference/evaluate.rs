@@ -33,7 +33,12 @@ pub fn inputs_fit(
     if smallest_sheet < MOST_WIRES {
         return Err(Refusal::nowhere(17));
     }
-    for (index, &byte) in shares.iter().chain(tape).enumerate() {
+    are_bits(shares.iter().chain(tape))
+}
+
+/// Rule 18.
+pub fn are_bits<'a>(bytes: impl Iterator<Item = &'a u8>) -> Result<(), Refusal> {
+    for (index, &byte) in bytes.enumerate() {
         if byte > 1 {
             return Err(Refusal::new(18, 0, index));
         }

@@ -1,4 +1,4 @@
-//! Document 01 in the plainest Rust. It shares no code with the proved checker.
+//! Document 01, and what has landed of 02, in the plainest Rust. It shares no code with the proved checker.
 pub mod check;
 pub mod circuit;
 pub mod count;
@@ -14,6 +14,8 @@ pub mod write;
 #[cfg(test)]
 mod cases;
 #[cfg(test)]
+mod counted;
+#[cfg(test)]
 mod ends;
 #[cfg(test)]
 mod slips;
@@ -28,6 +30,12 @@ pub const MOST_WORDS: usize = 8192;
 pub const MOST_WIRES: usize = 8192;
 /// Fewest words of a notes buffer: two for each possible wire.
 pub const NOTES_WORDS: usize = 2 * MOST_WIRES;
+/// Fewest numbers of a counts buffer: four for each of 256 combinations.
+pub const COUNTS_NUMBERS: usize = 1024;
+/// Most free bits of a sharing and a tape that are counted.
+pub const MOST_FREE_BITS: usize = 16;
+/// Most wires that may be read where readings are counted.
+pub const MOST_READ: usize = 8;
 /// Highest stage.
 pub const LAST_STAGE: usize = 255;
 
@@ -111,5 +119,16 @@ impl Calls for Reference {
 
     fn write_text(&self, table: &[u16], notes: &mut [u16], text: &mut [u8]) -> Answer {
         numbers(write::write(table, notes, text).map(|bytes| [bytes, 0, 0]))
+    }
+
+    fn count(
+        &self,
+        table: &[u16],
+        notes: &mut [u16],
+        secrets: &[u8],
+        probes: &[u16],
+        counts: &mut [u32],
+    ) -> Answer {
+        numbers(count::count(table, notes, secrets, probes, counts))
     }
 }

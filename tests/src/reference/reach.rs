@@ -17,11 +17,7 @@ pub fn read_probes(
 ) -> Verdict {
     let circuit = check(table, notes)?;
     inputs_fit(&circuit, shares, tape, sheet.len().min(reading.len()))?;
-    for (index, &probe) in probes.iter().enumerate() {
-        if usize::from(probe) >= circuit.wires.len() {
-            return Err(Refusal::new(19, 0, index));
-        }
-    }
+    are_wires(&circuit, probes)?;
     let values = values(&circuit, shares, tape);
     write_values(sheet, &values);
     reading[..MOST_WIRES].fill(2);
@@ -29,6 +25,16 @@ pub fn read_probes(
         reading[wire] = values[wire];
     }
     Ok(circuit.counts())
+}
+
+/// Rule 19.
+pub fn are_wires(circuit: &Circuit, probes: &[u16]) -> Result<(), Refusal> {
+    for (index, &probe) in probes.iter().enumerate() {
+        if usize::from(probe) >= circuit.wires.len() {
+            return Err(Refusal::new(19, 0, index));
+        }
+    }
+    Ok(())
 }
 
 /// Every stop that some probe reads.

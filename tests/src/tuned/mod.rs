@@ -1,9 +1,15 @@
-//! A tuned program for the same calls: single passes, no allocation. The benchmark's opponent.
+//! A tuned program for the same calls: single passes; only counts allocate. The benchmark's opponent.
 mod check;
+mod count;
 mod evaluate;
+mod lanes;
 mod reach;
 mod text;
+mod wide;
 mod write;
+
+#[cfg(test)]
+mod counted;
 
 use crate::calls::{Answer, Calls};
 
@@ -70,6 +76,28 @@ impl Calls for Tuned {
     fn write_text(&self, table: &[u16], notes: &mut [u16], text: &mut [u8]) -> Answer {
         numbers(write::write(table, notes, text).map(|bytes| [bytes, 0, 0]))
     }
+
+    fn count(
+        &self,
+        table: &[u16],
+        notes: &mut [u16],
+        secrets: &[u8],
+        probes: &[u16],
+        counts: &mut [u32],
+    ) -> Answer {
+        numbers(count::count(table, notes, secrets, probes, counts))
+    }
+}
+
+/// The count by another way, 64 pairs in a word; the benchmark shows it beside.
+pub fn count_wide(
+    table: &[u16],
+    notes: &mut [u16],
+    secrets: &[u8],
+    probes: &[u16],
+    counts: &mut [u32],
+) -> Answer {
+    numbers(wide::count(table, notes, secrets, probes, counts))
 }
 
 /// Words and wires of each kind of frame with d shares: 0 words where there is no such kind.

@@ -16,18 +16,29 @@ pub fn read_probes(
 ) -> Result<Found, Refused> {
     let found = check::check(table, notes)?;
     fits(&found, shares, tape, values.len().min(reading.len()))?;
-    if let Some(index) = probes.iter().position(|&probe| usize::from(probe) >= found.wires) {
-        return Err((19, 0, index));
-    }
+    wires(&found, probes)?;
     write(table, &found, shares, tape, values);
     reading[..8192].fill(2);
+    show(table, &found, values, probes, reading);
+    Ok(found)
+}
+
+/// Rule 19.
+pub fn wires(found: &Found, probes: &[u16]) -> Result<(), Refused> {
+    match probes.iter().position(|&probe| usize::from(probe) >= found.wires) {
+        Some(index) => Err((19, 0, index)),
+        None => Ok(()),
+    }
+}
+
+/// Puts the values of the wires that the probes read into a reading of all 2.
+pub fn show(table: &[u16], found: &Found, values: &[u8], probes: &[u16], reading: &mut [u8]) {
     for &probe in probes {
         reading[usize::from(probe)] = REACHED;
     }
     if let Some(&last) = probes.iter().max() {
-        back(table, &found, values, reading, usize::from(last));
+        back(table, found, values, reading, usize::from(last));
     }
-    Ok(found)
 }
 
 /// Goes back over the frames; a gate hands its mark on, a stop gets its value.

@@ -1,0 +1,219 @@
+//! Counts: the check's pass and the stops once, then a pass over the frames for many pairs of sharing and tape at a time, eight
+//! in the bits of each byte.
+use super::evaluate::{bits, write};
+use super::lanes::{Lanes, Planes};
+use super::{check, reach, Found, Refused};
+
+/// Bytes that a wire has in one pass over the frames, where there are pairs enough: 256 pairs.
+const MOST_PLANES: usize = 32;
+
+pub fn count(
+    table: &[u16],
+    notes: &mut [u16],
+    secrets: &[u8],
+    probes: &[u16],
+    counts: &mut [u32],
+) -> Result<[usize; 3], Refused> {
+    let task = Task::new(table, notes, secrets, probes, counts.len())?;
+    let mut tally = Tally::new(&task);
+    match task.bits {
+        0..=3 => all_pairs::<1>(table, &task, secrets, &mut tally),
+        4 | 5 => all_pairs::<4>(table, &task, secrets, &mut tally),
+        6 => all_pairs::<16>(table, &task, secrets, &mut tally),
+        _ => all_pairs::<MOST_PLANES>(table, &task, secrets, &mut tally),
+    }
+    Ok(task.answer(counts, |set, combination| tally.times(set, combination)))
+}
+
+/// An accepted table, the wires that are read, rising, and the number of free bits.
+pub struct Task {
+    pub found: Found,
+    read: [u16; 8],
+    wires: usize,
+    pub bits: usize,
+}
+
+impl Task {
+    /// All refusals.
+    pub fn new(
+        table: &[u16],
+        notes: &mut [u16],
+        secrets: &[u8],
+        probes: &[u16],
+        counts: usize,
+    ) -> Result<Task, Refused> {
+        let found = check::check(table, notes)?;
+        if secrets.len() != 2 * found.inputs {
+            return Err((15, 0, 0));
+        }
+        if counts < 1024 {
+            return Err((17, 0, 0));
+        }
+        bits(secrets, 0)?;
+        reach::wires(&found, probes)?;
+        let bits = (found.d - 1) * found.inputs + found.randoms;
+        if bits > 16 {
+            return Err((24, 0, 0));
+        }
+        let mut reading = [2; 8192];
+        reach::show(table, &found, &[1; 8192], probes, &mut reading);
+        let (mut read, mut wires) = ([0; 8], 0);
+        for wire in (0..found.wires).filter(|&wire| reading[wire] == 1) {
+            *read.get_mut(wires).ok_or((25, 0, 0))? = wire as u16;
+            wires += 1;
+        }
+        Ok(Task { found, read, wires, bits })
+    }
+
+    pub fn read(&self) -> &[u16] {
+        &self.read[..self.wires]
+    }
+
+    /// Writes the rows, from the times of each combination under each set; gives the numbers of an accepted call.
+    pub fn answer(&self, counts: &mut [u32], times: impl Fn(usize, usize) -> u32) -> [usize; 3] {
+        let combinations = 1 << self.wires;
+        let pairs = 1u32 << self.bits;
+        // at most 2000 · 2^16 + 2^16, which 32 bits hold
+        let part = |count: u32| (2000 * count + pairs) >> (self.bits + 1);
+        for (combination, row) in counts.chunks_exact_mut(4).take(combinations).enumerate() {
+            let [x, y] = [times(0, combination), times(1, combination)];
+            row.copy_from_slice(&[x, y, part(x), part(y)]);
+        }
+        [self.wires, combinations, pairs as usize]
+    }
+}
+
+/// How often each combination arose: a table for each set, and in it a place for each combination and bit of a byte, so that
+/// one addition does not wait for the last.
+pub struct Tally {
+    sets: [[u32; 8 * 256]; 2],
+    bits: usize,
+}
+
+impl Tally {
+    pub fn new(task: &Task) -> Tally {
+        Tally { sets: [[0; 8 * 256]; 2], bits: task.bits }
+    }
+
+    /// Adds the pairs of one byte; the columns are the read wires' bytes, the first in the highest place.
+    #[inline(always)]
+    fn add(&mut self, number: usize, columns: u64) {
+        let rows = transposed(columns).to_le_bytes();
+        if self.bits < 3 {
+            for lane in 0..2 << self.bits {
+                self.sets[lane >> self.bits][usize::from(rows[lane]) << 3] += 1;
+            }
+            return;
+        }
+        let set = &mut self.sets[number >> (self.bits - 3) & 1];
+        for (lane, &row) in rows.iter().enumerate() {
+            set[usize::from(row) << 3 | lane] += 1;
+        }
+    }
+
+    /// Adds the pairs of one word; up to four wires by counting bits, more of them byte by byte.
+    #[inline(always)]
+    pub fn add_word(&mut self, number: usize, columns: &[u64]) {
+        if columns.len() > 4 {
+            for byte in 0..8.min((2usize << self.bits).div_ceil(8)) {
+                let column = |lanes: u64| lanes >> (8 * byte) & 0xFF;
+                self.add(8 * number + byte, columns.iter().fold(0, |all, &x| all << 8 | column(x)));
+            }
+            return;
+        }
+        if self.bits < 6 {
+            let first = (1 << (1 << self.bits)) - 1;
+            self.add_lanes(0, first, columns);
+            self.add_lanes(1, first << (1 << self.bits), columns);
+        } else {
+            self.add_lanes(number >> (self.bits - 6) & 1, !0, columns);
+        }
+    }
+
+    /// Adds some pairs of one word to a set, up to four wires.
+    #[inline(always)]
+    fn add_lanes(&mut self, set: usize, lanes: u64, columns: &[u64]) {
+        let (mut parts, mut count) = ([lanes; 16], 1);
+        for &column in columns.iter().rev() {
+            for at in 0..count {
+                parts[(count + at) & 15] = parts[at] & column;
+                parts[at] &= !column;
+            }
+            count *= 2;
+        }
+        for (combination, part) in parts[..count].iter().enumerate() {
+            self.sets[set][8 * combination] += part.count_ones();
+        }
+    }
+
+    pub fn times(&self, set: usize, combination: usize) -> u32 {
+        self.sets[set][8 * combination..8 * combination + 8].iter().sum()
+    }
+}
+
+/// Bit i of byte j comes to bit j of byte i.
+#[inline(always)]
+fn transposed(mut x: u64) -> u64 {
+    for (shift, mask) in [(7, 0x00AA_00AA_00AA_00AA), (14, 0xCCCC_0000_CCCC), (28, 0xF0F0_F0F0)] {
+        let moved = (x ^ (x >> shift)) & mask;
+        x ^= moved ^ (moved << shift);
+    }
+    x
+}
+
+/// Numbers the pairs by their free bits, and the set by the bit behind them; goes through them all, 8 · P a pass.
+fn all_pairs<const P: usize>(table: &[u16], task: &Task, secrets: &[u8], tally: &mut Tally) {
+    let mut values = vec![Planes::<P>::ZEROS; task.found.wires];
+    let mut free = [Planes::<P>::ZEROS; 17];
+    let fixed = 3 + P.ilog2() as usize;
+    for (bit, lanes) in free.iter_mut().enumerate().take(fixed) {
+        *lanes = pattern(bit, 0);
+    }
+    let bytes = (1 << (task.bits + 1)) / 8;
+    for first in (0..bytes.max(1)).step_by(P) {
+        for bit in fixed..=task.bits {
+            free[bit] = pattern(bit, first);
+        }
+        let (shares, used) = shares(task, secrets, &free);
+        write(table, &task.found, &shares, &free[used..task.bits], &mut values);
+        for plane in 0..P {
+            let byte = |wire: u16| u64::from(values[usize::from(wire)].0[plane]);
+            let columns = task.read().iter().fold(0, |columns, &wire| columns << 8 | byte(wire));
+            tally.add(first + plane, columns);
+        }
+    }
+}
+
+/// A bit of the pairs' numbers, in the bytes from `first` on.
+#[inline(always)]
+fn pattern<const P: usize>(bit: usize, first: usize) -> Planes<P> {
+    match bit {
+        0 => Planes([0xAA; P]),
+        1 => Planes([0xCC; P]),
+        2 => Planes([0xF0; P]),
+        _ => Planes(std::array::from_fn(|at| ((first + at) >> (bit - 3) & 1) as u8 * 0xFF)),
+    }
+}
+
+/// The shares of both sets, and how many free bits they take; the last share of each IN completes its bit.
+#[inline(always)]
+pub fn shares<T: Lanes>(task: &Task, secrets: &[u8], free: &[T; 17]) -> ([T; 32], usize) {
+    let Found { d, inputs, .. } = task.found;
+    let (mut shares, mut used) = ([T::ZEROS; 32], 0);
+    let second = free[task.bits];
+    for (input, row) in shares.chunks_exact_mut(d).take(inputs).enumerate() {
+        let mut last = match (secrets[input], secrets[inputs + input]) {
+            (0, 0) => T::ZEROS,
+            (0, _) => second,
+            (_, 0) => T::ONES ^ second,
+            _ => T::ONES,
+        };
+        for share in &mut row[..d - 1] {
+            *share = free[used];
+            last = last ^ free[used];
+            used += 1;
+        }
+        row[d - 1] = last;
+    }
+    (shares, used)
+}
