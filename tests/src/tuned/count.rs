@@ -1,11 +1,20 @@
 //! Counts: the check's pass and the stops once, then a pass over the frames for many pairs of sharing and tape at a time, eight
 //! in the bits of each byte.
-use super::evaluate::{bits, write};
+use super::evaluate::bits;
 use super::lanes::{Lanes, Planes};
+use super::planes::write;
 use super::{check, reach, Found, Refused};
 
-/// Bytes that a wire has in one pass over the frames, where there are pairs enough: 256 pairs.
-const MOST_PLANES: usize = 32;
+/// Bytes that a wire has in one pass over the frames, where there are pairs enough: 512 pairs.
+const MOST_PLANES: usize = 64;
+
+const fn planes(wanted: usize) -> usize {
+    if wanted < MOST_PLANES {
+        wanted
+    } else {
+        MOST_PLANES
+    }
+}
 
 pub fn count(
     table: &[u16],
@@ -18,8 +27,8 @@ pub fn count(
     let mut tally = Tally::new(&task);
     match task.bits {
         0..=3 => all_pairs::<1>(table, &task, secrets, &mut tally),
-        4 | 5 => all_pairs::<4>(table, &task, secrets, &mut tally),
-        6 => all_pairs::<16>(table, &task, secrets, &mut tally),
+        4 | 5 => all_pairs::<{ planes(4) }>(table, &task, secrets, &mut tally),
+        6 | 7 => all_pairs::<{ planes(16) }>(table, &task, secrets, &mut tally),
         _ => all_pairs::<MOST_PLANES>(table, &task, secrets, &mut tally),
     }
     Ok(task.answer(counts, |set, combination| tally.times(set, combination)))
@@ -55,7 +64,7 @@ impl Task {
         if bits > 16 {
             return Err((24, 0, 0));
         }
-        let mut reading = [2; 8192];
+        let mut reading = vec![2; found.wires];
         reach::show(table, &found, &[1; 8192], probes, &mut reading);
         let (mut read, mut wires) = ([0; 8], 0);
         for wire in (0..found.wires).filter(|&wire| reading[wire] == 1) {
@@ -83,16 +92,17 @@ impl Task {
     }
 }
 
-/// How often each combination arose: a table for each set, and in it a place for each combination and bit of a byte, so that
-/// one addition does not wait for the last.
+/// How often each combination of the first set arose, then of the second: a place for each bit of a byte, so that one addition
+/// does not wait for the last.
 pub struct Tally {
-    sets: [[u32; 8 * 256]; 2],
+    times: Vec<[u32; 8]>,
+    wires: usize,
     bits: usize,
 }
 
 impl Tally {
     pub fn new(task: &Task) -> Tally {
-        Tally { sets: [[0; 8 * 256]; 2], bits: task.bits }
+        Tally { times: vec![[0; 8]; 2 << task.wires], wires: task.wires, bits: task.bits }
     }
 
     /// Adds the pairs of one byte; the columns are the read wires' bytes, the first in the highest place.
@@ -101,13 +111,15 @@ impl Tally {
         let rows = transposed(columns).to_le_bytes();
         if self.bits < 3 {
             for lane in 0..2 << self.bits {
-                self.sets[lane >> self.bits][usize::from(rows[lane]) << 3] += 1;
+                let set = lane >> self.bits;
+                self.times[set << self.wires | usize::from(rows[lane])][lane] += 1;
             }
             return;
         }
-        let set = &mut self.sets[number >> (self.bits - 3) & 1];
+        let set = (number >> (self.bits - 3) & 1) << self.wires;
+        let times = &mut self.times[set..];
         for (lane, &row) in rows.iter().enumerate() {
-            set[usize::from(row) << 3 | lane] += 1;
+            times[usize::from(row)][lane] += 1;
         }
     }
 
@@ -142,12 +154,12 @@ impl Tally {
             count *= 2;
         }
         for (combination, part) in parts[..count].iter().enumerate() {
-            self.sets[set][8 * combination] += part.count_ones();
+            self.times[set << self.wires | combination][0] += part.count_ones();
         }
     }
 
     pub fn times(&self, set: usize, combination: usize) -> u32 {
-        self.sets[set][8 * combination..8 * combination + 8].iter().sum()
+        self.times[set << self.wires | combination].iter().sum()
     }
 }
 

@@ -1,5 +1,4 @@
 //! Evaluation: the check's pass, then one pass that writes each wire's value in order.
-use super::lanes::Lanes;
 use super::{check, Found, Refused, Sizes};
 
 pub fn evaluate(
@@ -39,8 +38,8 @@ pub fn bits(bytes: &[u8], from: usize) -> Result<(), Refused> {
     Err((18, 0, from + bytes.iter().position(|&byte| byte > 1).unwrap_or(0)))
 }
 
-/// The values of an accepted table: of one pair of sharing and tape, or of many in the lanes.
-pub fn write<T: Lanes>(table: &[u16], found: &Found, shares: &[T], tape: &[T], values: &mut [T]) {
+/// The values of an accepted table.
+pub fn write(table: &[u16], found: &Found, shares: &[u8], tape: &[u8], values: &mut [u8]) {
     let d = found.d;
     let pairs = d * (d - 1) / 2;
     let sizes = Sizes::new(d);
@@ -58,9 +57,9 @@ pub fn write<T: Lanes>(table: &[u16], found: &Found, shares: &[T], tape: &[T], v
                 new[..d].copy_from_slice(row);
                 shares = later;
             }
-            2 => new[0] = if words[2] == 0 { T::ZEROS } else { T::ONES },
+            2 => new[0] = words[2] as u8,
             3 => new[0] = value(1) ^ value(2),
-            4 => new[0] = T::ONES ^ value(1),
+            4 => new[0] = 1 ^ value(1),
             5 => new[0] = value(1),
             6 | 7 => {
                 let (random, later) = tape.split_at(pairs);
@@ -80,8 +79,8 @@ pub fn write<T: Lanes>(table: &[u16], found: &Found, shares: &[T], tape: &[T], v
 
 /// r(i,j) for both orders of each pair.
 #[inline(always)]
-fn matrix<T: Lanes>(d: usize, random: &[T]) -> [[T; 8]; 8] {
-    let mut r = [[T::ZEROS; 8]; 8];
+fn matrix(d: usize, random: &[u8]) -> [[u8; 8]; 8] {
+    let mut r = [[0; 8]; 8];
     let mut bits = random.iter();
     for i in 0..d {
         for (j, &bit) in (i + 1..d).zip(&mut bits) {
@@ -93,8 +92,8 @@ fn matrix<T: Lanes>(d: usize, random: &[T]) -> [[T; 8]; 8] {
 }
 
 #[inline(always)]
-fn and<T: Lanes>(d: usize, words: &[u16], random: &[T], old: &[T], new: &mut [T]) {
-    let (mut a, mut b, mut c) = ([T::ZEROS; 8], [T::ZEROS; 8], [T::ZEROS; 8]);
+fn and(d: usize, words: &[u16], random: &[u8], old: &[u8], new: &mut [u8]) {
+    let (mut a, mut b, mut c) = ([0; 8], [0; 8], [0; 8]);
     for i in 0..d {
         a[i & 7] = old[usize::from(words[i])];
         b[i & 7] = old[usize::from(words[d + i])];
@@ -115,23 +114,23 @@ fn and<T: Lanes>(d: usize, words: &[u16], random: &[T], old: &[T], new: &mut [T]
         let i = i & 7;
         for (k, out) in row.chunks_exact_mut(6).enumerate() {
             let j = (k + usize::from(k >= i)) & 7;
-            let u = (T::ONES ^ a[i]) & r[i][j];
+            let u = (1 ^ a[i]) & r[i][j];
             let v = b[j] ^ r[i][j];
             let w = a[i] & v;
             out.copy_from_slice(&[u, u, v, v, w, w]);
-            c[i] = c[i] ^ u ^ w;
+            c[i] ^= u ^ w;
         }
     }
     outputs.copy_from_slice(&c[..d]);
 }
 
 #[inline(always)]
-fn refresh<T: Lanes>(d: usize, words: &[u16], random: &[T], old: &[T], new: &mut [T]) {
+fn refresh(d: usize, words: &[u16], random: &[u8], old: &[u8], new: &mut [u8]) {
     let r = matrix(d, random);
     let (bits, sums) = new.split_at_mut(random.len());
     bits.copy_from_slice(random);
     for i in 0..d {
-        let sum = r[i & 7].iter().fold(old[usize::from(words[i])], |sum, &bit| sum ^ bit);
+        let sum = r[i & 7].iter().fold(old[usize::from(words[i])], |sum, bit| sum ^ bit);
         sums[i] = sum;
         sums[d + i] = sum;
     }

@@ -1,16 +1,10 @@
-//! What a wire carries in one pass over the frames: one bit, or the bits of many pairs of sharing and tape.
+//! What a wire carries where many pairs of sharing and tape are gone through at a time: a bit of each.
 use std::array::from_fn;
 use std::ops::{BitAnd, BitXor};
 
 pub trait Lanes: Copy + BitAnd<Output = Self> + BitXor<Output = Self> {
     const ZEROS: Self;
     const ONES: Self;
-}
-
-/// One bit a byte.
-impl Lanes for u8 {
-    const ZEROS: u8 = 0;
-    const ONES: u8 = 1;
 }
 
 /// Eight pairs in the bits of each byte.

@@ -3,6 +3,7 @@ mod check;
 mod count;
 mod evaluate;
 mod lanes;
+mod planes;
 mod reach;
 mod text;
 mod wide;

@@ -21,8 +21,8 @@ pub fn count(
     let mut tally = Tally::new(&task);
     match task.bits {
         0..=5 => gates.all_pairs::<1>(&task, secrets, &mut tally),
-        6 => gates.all_pairs::<2>(&task, secrets, &mut tally),
-        _ => gates.all_pairs::<4>(&task, secrets, &mut tally),
+        6 | 7 => gates.all_pairs::<2>(&task, secrets, &mut tally),
+        _ => gates.all_pairs::<8>(&task, secrets, &mut tally),
     }
     Ok(task.answer(counts, |set, combination| tally.times(set, combination)))
 }

@@ -1,4 +1,6 @@
 //! Times the calls against the tuned opponent, in one process, turn by turn.
+mod counting;
+
 use masked_tests::builder::Builder;
 use masked_tests::calls::{Answer, Calls, NAMES};
 use masked_tests::generate::random::Random;
@@ -8,6 +10,9 @@ use masked_tests::options;
 use masked_tests::tuned::Tuned;
 use std::hint::black_box;
 use std::time::Instant;
+
+/// The calls that have a column for each circuit: all but count.
+const COLUMNS: usize = NAMES.len() - 1;
 
 #[cfg(feature = "proved")]
 fn subject() -> (Box<dyn Calls>, &'static str) {
@@ -61,7 +66,7 @@ impl Load {
             2 => calls.read_probes(table, notes, shares, tape, values, probes, reading),
             3 => calls.read_text(self.text.as_bytes(), &mut self.table),
             4 => calls.write_text(table, notes, &mut self.written),
-            _ => unreachable!("{} has no arm", NAMES[call]),
+            _ => unreachable!("{} is timed by itself", NAMES[call]),
         }
     }
 
@@ -154,7 +159,7 @@ fn print_lines(
     let mut loads: Vec<Load> =
         circuits.into_iter().map(|(_, builder)| Load::new(random, builder)).collect();
     let columns: Vec<_> =
-        (0..NAMES.len()).map(|call| medians(&mut loads, call, subject, rounds)).collect();
+        (0..COLUMNS).map(|call| medians(&mut loads, call, subject, rounds)).collect();
     for (i, (name, load)) in names.iter().zip(&loads).enumerate() {
         print!("{name:<22}{:>6}{:>6} ", load.builder.table.len(), load.builder.wires());
         for column in &columns {
@@ -177,7 +182,7 @@ fn main() {
         "",
         "words",
         "wires",
-        NAMES.map(|n| format!("{n:>23}")).concat()
+        NAMES[..COLUMNS].iter().map(|name| format!("{name:>23}")).collect::<String>()
     );
     let largest = vec![
         ("AES S-box, d 5".to_string(), mask(&aes().netlist, 5).builder),
@@ -196,4 +201,5 @@ fn main() {
     print_lines(rows.into(), random, subject.as_ref(), rounds);
     let rows = sizes.map(|size| (format!("AND chain, d 3, 1/{}", part(size)), products(3, size)));
     print_lines(rows.into(), random, subject.as_ref(), rounds);
+    counting::print(subject.as_ref(), rounds);
 }
