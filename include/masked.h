@@ -13,11 +13,12 @@
  *   masked_read_text, accepted       words written   0
  *   masked_read_text, refused        line            word
  *   masked_write_text, accepted      bytes written   0                             0
+ *   masked_count, accepted           wires read      combinations of their values  pairs of sharing and tape of one set
  *
- * A frame is a line of the text, counted from 0 (HEAD), and word 0 is its kind. Rules 1 to 3, 15 to 17 and 23 are told at frame 0,
- * word 0; rule 4 at frame 0, word 1; rules 18 and 19 at frame 0, the word being the index of the byte (the tape's count on from the
- * shares') or of the probe; rules 5, 6, 13, 14, 20 and 21 at word 0 of the frame or line; rules 7 to 12 and 22 at the word that
- * breaks it.
+ * A frame is a line of the text, counted from 0 (HEAD), and word 0 is its kind. Rules 1 to 3, 15 to 17 and 23 to 25 are told at
+ * frame 0, word 0; rule 4 at frame 0, word 1; rules 18 and 19 at frame 0, the word being the index of the byte (the tape's count on
+ * from the shares') or of the probe; rules 5, 6, 13, 14, 20 and 21 at word 0 of the frame or line; rules 7 to 12 and 22 at the word
+ * that breaks it.
  *
  * Every call ends on any input, keeps nothing, and leans on no earlier call. Calls with different buffers may run at one time. */
 #ifndef MASKED_H
@@ -31,13 +32,14 @@ extern "C" {
 #endif
 
 enum {
-    MASKED_MOST_WORDS = 8192,   /* words of a table */
-    MASKED_MOST_WIRES = 8192,   /* wires of a circuit, and least bytes of values and reading */
-    MASKED_NOTES_WORDS = 16384, /* least words of notes */
-    MASKED_TEXT_BYTES = 40960,  /* bytes of text that any table fits: five for each word */
-    MASKED_INNER = 0xFFFF,      /* both words of an inner wire's note */
-    MASKED_REGISTERED = 8,      /* what a registered wire's first word has beside its label; ask for MASKED_INNER before */
-    MASKED_UNREAD = 2           /* a reading's byte for a wire that no probe reads */
+    MASKED_MOST_WORDS = 8192,     /* words of a table */
+    MASKED_MOST_WIRES = 8192,     /* wires of a circuit, and least bytes of values and reading */
+    MASKED_NOTES_WORDS = 16384,   /* least words of notes */
+    MASKED_TEXT_BYTES = 40960,    /* bytes of text that any table fits: five for each word */
+    MASKED_COUNTS_NUMBERS = 1024, /* least numbers of counts: four for each of 256 combinations */
+    MASKED_INNER = 0xFFFF,        /* both words of an inner wire's note */
+    MASKED_REGISTERED = 8,        /* what a registered wire's first word has beside its label; ask for MASKED_INNER before */
+    MASKED_UNREAD = 2             /* a reading's byte for a wire that no probe reads */
 };
 
 /* The rules, by what each asks. A result names the first one that is broken. */
@@ -58,15 +60,19 @@ enum masked_rule {
     MASKED_WRONG_RANDOM = 12,     /* the first-random word is the number of random bits used so far, so that none is used twice */
     MASKED_STAGE_TOO_HIGH = 13,   /* no new wire stands at a stage over 255 */
     MASKED_TOO_MANY_WIRES = 14,   /* there are at most 8,192 wires */
-    MASKED_SHARES_LENGTH = 15,    /* the shares are d bytes for each IN */
+    MASKED_SHARES_LENGTH = 15,    /* the shares are d bytes for each IN; the secrets of a count are two bytes for each IN */
     MASKED_TAPE_LENGTH = 16,      /* the tape is one byte for each random bit */
-    MASKED_BUFFER_TOO_SHORT = 17, /* the buffers for values and for the reading have at least 8,192 bytes */
-    MASKED_BYTE_NOT_A_BIT = 18,   /* every byte of the shares and of the tape is 0 or 1 */
+    MASKED_BUFFER_TOO_SHORT = 17, /* the buffers for values and for the reading have at least 8,192 bytes, the one for counts at
+                                     least 1,024 numbers */
+    MASKED_BYTE_NOT_A_BIT = 18,   /* every byte of the shares, of the tape and of the secrets is 0 or 1 */
     MASKED_NO_SUCH_PROBE = 19,    /* every probe names a wire of the circuit */
     MASKED_LINE_FORM = 20,        /* a line is words of four digits 0-9A-F, one space between, and a line feed behind the last */
     MASKED_NO_ROOM = 21,          /* the words of all lines fit a table of 8,192 words */
     MASKED_NOT_REGISTERED = 22,   /* every wire that an OUT names is registered: made by an IN, a CON or a REG, or an output of a REF */
-    MASKED_TEXT_TOO_SHORT = 23    /* the buffer for the text has at least five bytes for each word of the table */
+    MASKED_TEXT_TOO_SHORT = 23,   /* the buffer for the text has at least five bytes for each word of the table */
+    MASKED_TOO_MANY_PAIRS = 24,   /* where a count is asked, the free bits are at most 16: d-1 shares of each IN, and the random
+                                     bits */
+    MASKED_TOO_MANY_WIRES_READ = 25 /* where a count is asked, the probes read at most 8 wires */
 };
 
 /* Checks a table: the words of all frames, one behind the other. Rules 1 to 14 and 22. (In a table, without lines, rule 6 is broken
@@ -106,6 +112,24 @@ uint64_t masked_read_probes(const uint16_t *table, size_t table_len, uint16_t *n
                             const uint8_t *shares, size_t shares_len, const uint8_t *tape, size_t tape_len,
                             uint8_t *values, size_t values_len, const uint16_t *probes, size_t probes_len,
                             uint8_t *reading, size_t reading_len, uint64_t *a, uint64_t *b, uint64_t *c);
+
+/* Checks, then counts: goes through all pairs of sharing and tape of two sets of secret bits, and tells how often each combination
+ * of the read wires' values arises. Rules 1 to 14 and 22 as masked_check, then 15, 17 (for counts), 18, 19, 24 and 25.
+ *
+ * notes   as masked_check leaves them; rules 15 to 25 leave them as accepted
+ * secrets two bytes 0 or 1 for each IN: the first set, a byte for each IN in the table's order, then the second
+ * probes  numbers of wires, as masked_read_probes takes them; there may be d and more, or none
+ * counts  at least MASKED_COUNTS_NUMBERS (1,024) numbers. The read wires are those that masked_read_probes shows, rising, at most 8.
+ *         The combinations of their values are numbered from 0, the lowest wire being the highest bit. A sharing of a set is any
+ *         list of shares that adds up to its bits, so that there are as many pairs of one set as of the other.
+ *         accepted:        numbers 4n to 4n+3 are those of combination n, below *b: how many of the *c pairs of the first set give
+ *                          it, how many of the second, then the two as parts per thousand of *c, halves up. The counts of one set
+ *                          add up to *c; with fewer than d different probes both sets have the same. Further numbers are as they
+ *                          were
+ *         any refusal:     as it was */
+uint64_t masked_count(const uint16_t *table, size_t table_len, uint16_t *notes, size_t notes_len,
+                      const uint8_t *secrets, size_t secrets_len, const uint16_t *probes, size_t probes_len,
+                      uint32_t *counts, size_t counts_len, uint64_t *a, uint64_t *b, uint64_t *c);
 
 /* Reads a text, lines of hexadecimal words, into a table; it judges no more than that. Rules 20, 3 to 6 and 21, line by line: 21
  * also where the words do not fit the lent table.

@@ -30,15 +30,17 @@ MEANINGS = {
     12: "the first-random word is the number of random bits used so far, so that none is used twice",
     13: "no new wire stands at a stage over 255",
     14: "there are at most 8,192 wires",
-    15: "the shares are d bytes for each IN",
+    15: "the shares are d bytes for each IN; the secrets of a count are two bytes for each IN",
     16: "the tape is one byte for each random bit",
-    17: "the buffers for values and for the reading have at least 8,192 bytes",
-    18: "every byte of the shares and of the tape is 0 or 1",
+    17: "the buffers for values and for the reading have at least 8,192 bytes, the one for counts at least 1,024 numbers",
+    18: "every byte of the shares, of the tape and of the secrets is 0 or 1",
     19: "every probe names a wire of the circuit",
     20: "a line is words of four digits 0-9A-F, one space between, and a line feed behind the last",
     21: "the words of all lines fit a table of 8,192 words",
     22: "every wire that an OUT names is registered: made by an IN, a CON or a REG, or an output of a REF",
     23: "the buffer for the text has at least five bytes for each word of the table",
+    24: "where a count is asked, the free bits are at most 16: d-1 shares of each IN, and the random bits",
+    25: "where a count is asked, the probes read at most 8 wires",
 }
 
 

@@ -71,5 +71,9 @@ def finding(rule: int, word: int, circuit: Circuit, options: argparse.Namespace,
         row = inputs.shares if word < shares else inputs.tape
         return Finding("digit {place} of the " + ("shares" if word < shares else "tape") + " is {found}",
                        {"place": place + 1, "found": row[place]})
+    return no_such_wire(options.probe[word], circuit)
+
+
+def no_such_wire(probe: int, circuit: Circuit) -> Finding:
     return Finding("there is no wire {wire}; the circuit has {wires:wire}, numbered from 0",
-                   {"wire": options.probe[word], "wires": len(circuit.wires)})
+                   {"wire": probe, "wires": len(circuit.wires)})

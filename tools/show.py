@@ -1,8 +1,8 @@
-"""Shows what stands in a masked circuit: its wires, their values, what probes read, and the text of a table. `./show --help` says
-more.
+"""Shows what stands in a masked circuit: its wires, their values, what probes read and how often, and the text of a table.
+`./show --help` says more.
 
-Verdicts, labels, stages, registers, values, readings and texts are the proved calls' (bindings/python/masked.py); the names of
-wires are circuit.py's.
+Verdicts, labels, stages, registers, values, readings, counts and texts are the proved calls' (bindings/python/masked.py); the names
+of wires are circuit.py's.
 """
 from __future__ import annotations
 
@@ -17,11 +17,13 @@ from pathlib import Path
 ROOT = Path(__file__).resolve().parents[1]
 sys.path.insert(0, str(ROOT / "bindings" / "python"))
 
+import counts
 import masked
 import tables
 from circuit import IN, JUDGED_BYTES, KINDS, OUT, Circuit, circuit_of, lines_of
-from explain import MEANINGS, explanation, shown
+from explain import MEANINGS, Finding, explanation, shown
 from inputs import Inputs, digits, finding, inputs_of, wire
+from rows import PLACE, place, probed
 
 TROUBLE = 2
 STDIN = "standard input"
@@ -30,6 +32,7 @@ EXAMPLES = """examples:
   ./show values examples/circuit-a.hex --shares 1011 --tape 1
   ./show values examples/circuit-a.hex --secrets 11
   ./show reading examples/circuit-a.hex --secrets 11 --probe 24 --probe 0x0E
+  ./show counts examples/circuit-a.hex --secrets 00 --secrets 11 --probe 24
   ./show text examples/circuit-a.words
 
 FILE is a circuit's text, as docs/FORMAT.md describes it; - is standard input.
@@ -41,6 +44,8 @@ WIRES_HELP = ("the number (decimal, hexadecimal), line, name, label and stage of
               "and whether a probe stops at it")
 VALUES_HELP = "the value of each wire, and the shares of each IN and OUT with their sum"
 READING_HELP = "the wires that the probes read together, with their values"
+COUNTS_HELP = ("under how many sharings and tapes of two sets of secret bits each combination of the wires that the probes read "
+               "arises")
 TEXT_HELP = "the text of a table that a tool has written, where it keeps the rules"
 
 
@@ -64,19 +69,25 @@ def options_of(words: list[str]) -> argparse.Namespace:
                     formatter_class=argparse.RawDescriptionHelpFormatter)
     commands = parser.add_subparsers(dest="command", metavar="COMMAND", required=True)
     by_name = {}
-    for name, text in (("wires", WIRES_HELP), ("values", VALUES_HELP), ("reading", READING_HELP), ("text", TEXT_HELP)):
+    for name, text in (("wires", WIRES_HELP), ("values", VALUES_HELP), ("reading", READING_HELP), ("counts", COUNTS_HELP),
+                       ("text", TEXT_HELP)):
         command = by_name[name] = commands.add_parser(name, help=text, description=f"Shows {text}.")
         kind = "a table, 16-bit words, little endian" if name == "text" else "a circuit's text"
         command.add_argument("file", metavar="FILE", help=f"{kind}; - is standard input")
     by_name["text"].add_argument("--big-endian", action="store_true", help="the high byte of each word comes first")
     for command in (by_name["values"], by_name["reading"]):
         add_inputs(command)
-    by_name["reading"].add_argument("--probe", type=wire, action="append", required=True, metavar="WIRE",
-                                    help="a wire's number, decimal or as 0x..; may be given again")
+    by_name["counts"].add_argument("--secrets", type=digits, action="append", required=True, metavar="BITS",
+                                   help="a digit 0 or 1 for each IN; given twice, a set each")
+    for command in (by_name["reading"], by_name["counts"]):
+        command.add_argument("--probe", type=wire, action="append", required=True, metavar="WIRE",
+                             help="a wire's number, decimal or as 0x..; may be given again")
     options = parser.parse_args(words)
     options.file = STDIN if options.file == "-" else options.file
     if options.command in ("values", "reading"):
         check_inputs(by_name[options.command], options)
+    if options.command == "counts" and len(options.secrets) != 2:
+        by_name["counts"].error("give --secrets twice, a set of secret bits each")
     return options
 
 
@@ -97,7 +108,7 @@ def check_inputs(parser: argparse.ArgumentParser, options: argparse.Namespace) -
         parser.error("--seed goes with --secrets")
     for place, secret in enumerate(options.secrets or []):
         if secret > 1:
-            raise Refusal(f"refused 18: {MEANINGS[18]}\n  here: digit {place + 1} of the secrets is {secret}")
+            raise refusal(18, Finding("digit {place} of the secrets is {found}", {"place": place + 1, "found": secret}))
 
 
 def read(name: str, most: int = JUDGED_BYTES + 1) -> bytes:
@@ -130,15 +141,6 @@ def checked(name: str, text: bytes, notes: array) -> tuple[array, masked.Accepte
         return table, masked.check(table, notes)
     except masked.Refused as refused:
         raise Refusal(f"{name}: {refused}\n{explanation(text, refused.rule, refused.frame, refused.word)}") from None
-
-
-def place(number: int, circuit: Circuit) -> str:
-    """A wire's number, hexadecimal number, line, kind and name."""
-    wire = circuit.wires[number]
-    return f"{number:5}  {number:04X}  {wire.frame + 1:5}  {KINDS[wire.kind]:4}  {wire.name:7}"
-
-
-PLACE = " wire   hex   line  kind  name   "
 
 
 def yes(holds: bool) -> str:
@@ -177,13 +179,8 @@ def show_values(circuit: Circuit, values: bytearray) -> list[str]:
 
 
 def show_reading(circuit: Circuit, probes: list[int], reading: bytearray) -> list[str]:
-    rows = []
-    for probe in probes:
-        wire = circuit.wires[probe]
-        rows.append(f"probe {probe} ({probe:04X}), {wire.name} on line {wire.frame + 1}")
-    rows.append(PLACE + "  value")
-    rows += [f"{place(number, circuit)}  {value:5}" for number, value in enumerate(reading) if value != 2]
-    return rows
+    rows = probed(probes, circuit) + [PLACE + "  value"]
+    return rows + [f"{place(number, circuit)}  {value:5}" for number, value in enumerate(reading) if value != 2]
 
 
 def evaluated(options: argparse.Namespace, circuit: Circuit, table: array, inputs: Inputs) -> list[str]:
@@ -193,13 +190,33 @@ def evaluated(options: argparse.Namespace, circuit: Circuit, table: array, input
         if options.command == "values":
             masked.evaluate(table, inputs.shares, inputs.tape, values)
             return show_values(circuit, values)
-        # no wire has the largest word, so a number past it is refused in its place
-        probes = [min(probe, 0xFFFF) for probe in options.probe]
-        masked.read_probes(table, inputs.shares, inputs.tape, probes, reading, values)
+        masked.read_probes(table, inputs.shares, inputs.tape, probes_of(options), reading, values)
         return show_reading(circuit, options.probe, reading)
     except masked.Refused as refused:
-        found = finding(refused.rule, refused.word, circuit, options, inputs)
-        raise Refusal(f"refused {int(refused.rule)}: {MEANINGS[refused.rule]}\n  here: {found}") from None
+        raise refusal(refused.rule, finding(refused.rule, refused.word, circuit, options, inputs)) from None
+
+
+def probes_of(options: argparse.Namespace) -> list[int]:
+    """The probes as words. No wire has the largest word, so a number past it is refused in its place."""
+    return [min(probe, 0xFFFF) for probe in options.probe]
+
+
+def refusal(rule: int, found: Finding) -> Refusal:
+    return Refusal(f"refused {int(rule)}: {MEANINGS[rule]}\n  here: {found}")
+
+
+def counted(options: argparse.Namespace, circuit: Circuit, table: array) -> list[str]:
+    """The counts of two sets, by the proved call; its refusal in plain words. Sets of different lengths are refused before: the call
+    sees one list."""
+    first, second = sets = options.secrets
+    read = counts.read_wires(circuit, table, probes_of(options))
+    try:
+        if len(first) != len(second):
+            raise masked.Refused(masked.Rule.SHARES_LENGTH, 0, 0)
+        answer = masked.count(table, first + second, probes_of(options))
+        return counts.listing(circuit, sets, options.probe, read, answer)
+    except masked.Refused as refused:
+        raise refusal(refused.rule, counts.finding(refused.rule, refused.word, circuit, sets, options.probe, read)) from None
 
 
 def show_text(name: str, order: str) -> list[str]:
@@ -226,6 +243,8 @@ def run(options: argparse.Namespace) -> list[str]:
     circuit = circuit_of(lines)
     if options.command == "wires":
         return show_wires(circuit, lines, notes, answer)
+    if options.command == "counts":
+        return counted(options, circuit, table)
     inputs = inputs_of(options, circuit)
     rows = evaluated(options, circuit, table, inputs)
     return [inputs.drawn] + rows if inputs.drawn else rows

@@ -8,9 +8,10 @@
     reading = bytearray(masked.MOST_WIRES)
     masked.read_probes(table, [1, 0, 1, 1], [1], [24], reading)   # reading[8], [13], [17] are 1, 0, 0; the rest is 2
     text = masked.write_text(table)                            # the bytes of examples/circuit-a.hex
+    counted = masked.count(table, [0, 0, 1, 1], [26, 27])      # counted.rows[0] is (4, 0, 500, 0)
 
 A refusal is raised as Refused, with the rule's number and its spot. Buffers that a call fills are lent by the caller (a bytearray,
-or an array of type code H for words); left out, one of the right size is made and thrown away. After a refusal they hold what
+an array of type code H for words, of I for counts); left out, one of the right size is made and thrown away. After a refusal they hold what
 include/masked.h says. The library is target/shared/libmasked.so of this repository, made by `tools/build library`, or what the
 environment variable MASKED_LIBRARY names.
 """
@@ -28,6 +29,7 @@ MOST_WORDS = 8192
 MOST_WIRES = 8192
 NOTES_WORDS = 16384
 TEXT_BYTES = 40960
+COUNTS_NUMBERS = 1024
 INNER = 0xFFFF
 REGISTERED = 8
 LIBRARY = Path(__file__).resolve().parents[2] / "target" / "shared" / "libmasked.so"
@@ -59,6 +61,8 @@ class Rule(enum.IntEnum):
     NO_ROOM = 21
     NOT_REGISTERED = 22
     TEXT_TOO_SHORT = 23
+    TOO_MANY_PAIRS = 24
+    TOO_MANY_WIRES_READ = 25
 
 
 class Accepted(NamedTuple):
@@ -67,6 +71,16 @@ class Accepted(NamedTuple):
     wires: int
     randoms: int
     latency: int
+
+
+class Counted(NamedTuple):
+    """A count: the wires read, the combinations of their values, the pairs of sharing and tape of one set, and a row for each
+    combination: the pairs that give it under the first set and under the second, then both as parts per thousand."""
+
+    wires: int
+    combinations: int
+    pairs: int
+    rows: list[tuple[int, ...]]
 
 
 class Refused(Exception):
@@ -108,6 +122,15 @@ def read_probes(table: Iterable[int], shares: Iterable[int], tape: Iterable[int]
     it is read, 2 elsewhere."""
     return _answer(_call("masked_read_probes", 3, words(table), _words_for(notes), bytes(shares), bytes(tape), _bytes_for(values),
                          words(probes), _bytes_for(reading)))
+
+
+def count(table: Iterable[int], secrets: Iterable[int], probes: Iterable[int], counts: array.array | None = None,
+          notes: array.array | None = None) -> Counted:
+    """masked_count: checks, then goes through all sharings and tapes of two sets of secret bits, the first set first in `secrets`.
+    `counts`: 1,024 numbers, of which the rows fill the first."""
+    counts = array.array("I", bytes(4 * COUNTS_NUMBERS)) if counts is None else _writable(counts, 4)
+    numbers = _accepted(_call("masked_count", 3, words(table), _words_for(notes), bytes(secrets), words(probes), counts))
+    return Counted(*numbers, [tuple(counts[at:at + 4]) for at in range(0, 4 * numbers[1], 4)])
 
 
 def read_text(text: bytes, table: array.array | None = None) -> array.array:

@@ -8,6 +8,7 @@
 
 static uint16_t table[MASKED_MOST_WORDS], notes[MASKED_NOTES_WORDS + 2];
 static uint8_t values[MASKED_MOST_WIRES + 2], reading[MASKED_MOST_WIRES + 2], text[MASKED_TEXT_BYTES + 2];
+static uint32_t counts[MASKED_COUNTS_NUMBERS + 2];
 static uint64_t a, b, c;
 static int passed, failed;
 
@@ -31,6 +32,7 @@ static void junk(void)
     memset(values, JUNK, sizeof values);
     memset(reading, JUNK, sizeof reading);
     memset(text, JUNK, sizeof text);
+    memset(counts, JUNK, sizeof counts);
     a = b = c = UINT64_MAX;
 }
 
@@ -80,6 +82,12 @@ static void empty_slices(void)
            MASKED_NO_HEAD, 0, 0, 0);
     answer("write_text, no text", masked_write_text(table, words, notes, MASKED_NOTES_WORDS, NULL, 0, &a, &b, &c),
            MASKED_TEXT_TOO_SHORT, 0, 0, 0);
+    answer("count, all null", masked_count(NULL, 0, NULL, 0, NULL, 0, NULL, 0, NULL, 0, &a, &b, &c), MASKED_NOTES_TOO_SHORT, 0, 0, 0);
+    answer("count, no counts", masked_count(table, words, notes, MASKED_NOTES_WORDS, NULL, 0, NULL, 0, NULL, 0, &a, &b, &c),
+           MASKED_BUFFER_TOO_SHORT, 0, 0, 0);
+    answer("count, no secrets and probes",
+           masked_count(table, words, notes, MASKED_NOTES_WORDS, NULL, 0, NULL, 0, counts, MASKED_COUNTS_NUMBERS, &a, &b, &c),
+           MASKED_ACCEPTED, 0, 1, 1);
 }
 
 static void buffers(void)
@@ -155,11 +163,56 @@ static void texts(void)
            MASKED_WRONG_LABEL, 6, 2, 0);
 }
 
+/* Counts circuit A. */
+static uint64_t count(size_t words, const uint8_t *secrets, size_t length, const uint16_t *probes, size_t number, size_t room)
+{
+    junk();
+    return masked_count(table, words, notes, MASKED_NOTES_WORDS, secrets, length, probes, number, counts, room, &a, &b, &c);
+}
+
+/* The rows of both sets, in exact and in more room, and each rule of the call with what it leaves. */
+static void counted(void)
+{
+    const uint8_t sets[] = {0, 0, 1, 1}, wrong[] = {0, 0, 1, 2};
+    const uint16_t outputs[] = {27, 26, 27}, one[] = {24}, none[] = {24, 28}, many[] = {0, 1, 2, 3, 4, 5, 6, 8, 9};
+    const uint32_t both[] = {4, 0, 500, 0, 0, 4, 0, 500, 0, 4, 0, 500, 4, 0, 500, 0};
+    const uint32_t firsts[] = {3, 1, 2, 0, 1, 1, 0, 0};
+    const size_t rooms[] = {MASKED_COUNTS_NUMBERS, MASKED_COUNTS_NUMBERS + 2};
+    size_t words = read_text(circuit_a);
+    for (size_t i = 0; i < sizeof rooms / sizeof *rooms; i++) {
+        answer("two probes", count(words, sets, 4, outputs, 3, rooms[i]), MASKED_ACCEPTED, 2, 4, 8);
+        is("their rows, and the numbers behind", memcmp(counts, both, sizeof both) == 0 && kept(counts, sizeof both, sizeof counts));
+        is("the notes of a count", noted());
+    }
+    answer("one probe", count(words, sets, 4, one, 1, MASKED_COUNTS_NUMBERS), MASKED_ACCEPTED, 3, 8, 8);
+    for (size_t n = 0; n < 8; n++)
+        is("its row", counts[4 * n] == firsts[n] && counts[4 * n + 1] == firsts[n] && counts[4 * n + 2] == 125 * firsts[n]
+                          && counts[4 * n + 3] == 125 * firsts[n]);
+    is("the numbers behind", kept(counts, sizeof *counts * 4 * 8, sizeof counts));
+    answer("no probes", count(words, sets, 4, NULL, 0, MASKED_COUNTS_NUMBERS), MASKED_ACCEPTED, 0, 1, 8);
+    is("its row", counts[0] == 8 && counts[1] == 8 && counts[2] == 1000 && counts[3] == 1000 && counts[4] == counts[5]);
+    answer("eight wires", count(words, sets, 4, many, 8, MASKED_COUNTS_NUMBERS), MASKED_ACCEPTED, 8, 256, 8);
+    is("256 rows", kept(counts, sizeof *counts * MASKED_COUNTS_NUMBERS, sizeof counts) && counts[MASKED_COUNTS_NUMBERS - 1] == 0);
+    answer("count, rule 15", count(words, wrong, 3, none, 2, 1023), MASKED_SHARES_LENGTH, 0, 0, 0);
+    answer("count, rule 17", count(words, wrong, 4, none, 2, 1023), MASKED_BUFFER_TOO_SHORT, 0, 0, 0);
+    answer("count, rule 18", count(words, wrong, 4, none, 2, 1024), MASKED_BYTE_NOT_A_BIT, 0, 3, 0);
+    answer("count, rule 19", count(words, sets, 4, none, 2, 1024), MASKED_NO_SUCH_PROBE, 0, 1, 0);
+    answer("count, rule 25", count(words, sets, 4, many, 9, 1024), MASKED_TOO_MANY_WIRES_READ, 0, 0, 0);
+    is("25 leaves the counts, and the notes as accepted", kept(counts, 0, sizeof counts) && noted());
+    table[words - 1] = 24;
+    answer("rule 10, counted", count(words, wrong, 3, none, 2, 1023), MASKED_WRONG_LABEL, 6, 2, 0);
+    is("10 leaves the counts", kept(counts, 0, sizeof counts));
+    words = read_text("0000 0008\n0001 0000\n0001 0000\n0001 0000\n");
+    answer("rule 24 before 25", count(words, (const uint8_t[6]){0}, 6, many, 9, 1024), MASKED_TOO_MANY_PAIRS, 0, 0, 0);
+    is("24 leaves the counts", kept(counts, 0, sizeof counts));
+}
+
 int main(void)
 {
     empty_slices();
     buffers();
     texts();
+    counted();
     printf("calls.c: %d passed, %d failed\n", passed, failed);
     return failed != 0;
 }

@@ -22,6 +22,10 @@ def words(count: int) -> array:
     return masked.words([0xA5A5] * count)
 
 
+def numbers(count: int) -> array:
+    return array("I", [0xA5A5A5A5] * count)
+
+
 class Functions(unittest.TestCase):
     def refused(self, rule: int, frame: int, word: int, function, *arguments, **named) -> None:
         with self.assertRaises(masked.Refused) as caught:
@@ -77,6 +81,28 @@ class Functions(unittest.TestCase):
         self.refused(1, 0, 0, masked.write_text, [0] * 8193)
         self.refused(2, 0, 0, masked.write_text, TABLE, None, words(16383))
 
+    def test_count(self) -> None:
+        rows = [(4, 0, 500, 0), (0, 4, 0, 500), (0, 4, 0, 500), (4, 0, 500, 0)]
+        self.assertEqual((2, 4, 8, rows), masked.count(TABLE, [0, 0, 1, 1], [26, 27]))
+        counts, notes = numbers(masked.COUNTS_NUMBERS + 1), words(masked.NOTES_WORDS)
+        self.assertEqual((2, 4, 8, rows), masked.count(TABLE, bytes([0, 0, 1, 1]), [27, 26, 27], counts, notes))
+        self.assertEqual([number for row in rows for number in row] + [0xA5A5A5A5], list(counts[:17]))
+        self.assertEqual((1, 3, True), masked.place(notes, 27))
+        one = masked.count(TABLE, [0, 1, 1, 1], [24])
+        self.assertEqual([3, 1, 2, 0, 1, 1, 0, 0], [first for first, *_ in one.rows])
+        self.assertTrue(all(row[0] == row[1] and row[2] == row[3] for row in one.rows))
+        self.assertEqual((0, 1, 8, [(8, 8, 1000, 1000)]), masked.count(TABLE, [0, 0, 1, 1], []))
+        counts = numbers(masked.COUNTS_NUMBERS)
+        self.refused(15, 0, 0, masked.count, TABLE, [0, 0, 1], [28], counts)
+        self.refused(17, 0, 0, masked.count, TABLE, [0, 0, 1, 2], [28], counts[1:])
+        self.refused(18, 0, 3, masked.count, TABLE, [0, 0, 1, 2], [28], counts)
+        self.refused(19, 0, 1, masked.count, TABLE, [0, 0, 1, 1], [0, 28], counts)
+        self.refused(masked.Rule.TOO_MANY_PAIRS, 0, 0, masked.count, [0, 2] + [1, 0] * 17, [0] * 34, range(9), counts)
+        self.refused(masked.Rule.TOO_MANY_WIRES_READ, 0, 0, masked.count, [0, 2] + [1, 0] * 16, [0] * 32, range(9), counts)
+        self.refused(22, 6, 1, masked.count, list(TABLE[:-2]) + [24, 25], [], [], counts)
+        self.assertEqual({0xA5A5A5A5}, set(counts))
+        self.assertEqual((8, 256, 65536), masked.count([0, 2] + [1, 0] * 16, [0] * 32, range(8))[:3])
+
     def test_buffers_of_another_kind(self) -> None:
         for wrong in (bytearray(16384), bytes(32768), array("I", bytes(65536))):
             with self.assertRaises(TypeError):
@@ -85,13 +111,16 @@ class Functions(unittest.TestCase):
             masked.evaluate(TABLE, [1, 0, 1, 1], [1], bytes(8192))
         with self.assertRaises(TypeError):
             masked.write_text(TABLE, words(100))
+        for wrong in (bytearray(1024), words(2048), array("Q", bytes(8192))):
+            with self.assertRaises(TypeError):
+                masked.count(TABLE, [0, 0, 1, 1], [24], wrong)
 
     def test_its_own_example(self) -> None:
         """The example of the module's first lines runs."""
         example = "".join(line[4:] + "\n" for line in masked.__doc__.splitlines() if line.startswith("    "))
-        script = f"import sys; sys.path.insert(0, 'bindings/python')\n{example}print(values[24], [reading[w] for w in (8, 13, 17)], len(text))"
+        script = f"import sys; sys.path.insert(0, 'bindings/python')\n{example}print(values[24], [reading[w] for w in (8, 13, 17)], len(text), counted.rows[0])"
         done = subprocess.run([sys.executable, "-c", script], cwd=ROOT, capture_output=True, text=True, check=True)
-        self.assertEqual("1 [1, 0, 0] 95\n", done.stdout)
+        self.assertEqual("1 [1, 0, 0] 95 (4, 0, 500, 0)\n", done.stdout)
 
 
 class Null(unittest.TestCase):
@@ -121,6 +150,10 @@ class Null(unittest.TestCase):
         self.assertEqual([21, 0, 0], self.call("masked_read_text", bytearray(b"0000 0002\n"), None, numbers=2))
         self.assertEqual([3, 0, 0, 0], self.call("masked_write_text", None, notes, None))
         self.assertEqual([23, 0, 0, 0], self.call("masked_write_text", head, notes, None))
+        self.assertEqual([17, 0, 0, 0], self.call("masked_count", head, notes, None, None, None))
+        counts = numbers(masked.COUNTS_NUMBERS)
+        self.assertEqual([0, 0, 1, 1], self.call("masked_count", head, notes, None, None, counts))
+        self.assertEqual([1, 1, 1000, 1000, 0xA5A5A5A5], list(counts[:5]))
 
 
 if __name__ == "__main__":

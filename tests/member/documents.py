@@ -16,7 +16,7 @@ from explain import MEANINGS
 
 FORMAT = (ROOT / "docs" / "FORMAT.md").read_text()
 HEADER = " ".join((ROOT / "include" / "masked.h").read_text().split())
-CONSTANTS = ("MOST_WORDS", "MOST_WIRES", "NOTES_WORDS", "TEXT_BYTES", "INNER", "REGISTERED")
+CONSTANTS = ("MOST_WORDS", "MOST_WIRES", "NOTES_WORDS", "TEXT_BYTES", "COUNTS_NUMBERS", "INNER", "REGISTERED")
 
 
 def differences() -> list[str]:
