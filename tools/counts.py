@@ -5,7 +5,7 @@ from array import array
 
 import masked
 from circuit import Circuit
-from explain import Finding
+from explain import Finding, Number
 from inputs import no_such_wire, row_of
 from rows import PLACE, place, probed
 
@@ -31,7 +31,7 @@ def listing(circuit: Circuit, sets: list[list[int]], probes: list[int], read: li
     """The probes, the wires they read, and a row for each combination of their values."""
     rows = probed(probes, circuit) + [PLACE + "  digit"]
     rows += [f"{place(number, circuit)}  {at + 1:5}" for at, number in enumerate(read)]
-    rows.append(f"each set has {counted.pairs:,} pairs of sharing and tape")
+    rows.append(f"each set has {Number(counted.pairs):pair} of sharing and tape")
     names = [row_of(bits) for bits in sets]
     width = max(len(f"under {name}") for name in names)
     bars = max(len(bar(row[0], counted.pairs)) for row in counted.rows)
@@ -52,7 +52,7 @@ def compared(circuit: Circuit, names: list[str], probes: list[int], counted: mas
     for number, (first, second, *_) in enumerate(counted.rows):
         if first != second:
             return (f"the columns differ, first at {bits_of(number, counted)}: "
-                    f"{first} pairs under {names[0]}, {second} under {names[1]}")
+                    f"{Number(first):pair} under {names[0]}, {second:,} under {names[1]}")
     always = f", as for any two sets with fewer than {circuit.d} different probes" if len(set(probes)) < circuit.d else ""
     return f"the columns are equal{always}"
 
@@ -60,7 +60,7 @@ def compared(circuit: Circuit, names: list[str], probes: list[int], counted: mas
 def finding(rule: int, word: int, circuit: Circuit, sets: list[list[int]], probes: list[int], read: list[int]) -> Finding:
     """What was found and wanted where a count broke a rule: 15, 18, 19, 24 or 25."""
     if rule == 15:
-        return Finding("{wanted:secret bit} wanted in each set, one for each IN; {first} and {second} given",
+        return Finding("{wanted:secret bit} wanted in each set, one for each IN; {first} in the first and {second} in the second given",
                        {"wanted": circuit.inputs, "first": len(sets[0]), "second": len(sets[1])})
     if rule == 18:
         at = int(word >= len(sets[0]))
@@ -71,8 +71,6 @@ def finding(rule: int, word: int, circuit: Circuit, sets: list[list[int]], probe
         return no_such_wire(probes[word], circuit)
     if rule == 24:
         shares = (circuit.d - 1) * circuit.inputs
-        return Finding("{inputs:IN} with {d:share} each leave {shares} of them free, and there are {randoms:random bit}: "
-                       "{total:free bit}",
-                       {"inputs": circuit.inputs, "d": circuit.d, "shares": shares, "randoms": circuit.randoms,
-                        "total": shares + circuit.randoms})
+        return Finding("{shares:free share} of {inputs:IN} and {randoms:random bit} are {total:free bit}",
+                       {"shares": shares, "inputs": circuit.inputs, "randoms": circuit.randoms, "total": shares + circuit.randoms})
     return Finding("the probes read {found:wire}", {"found": len(read)})
