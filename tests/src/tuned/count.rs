@@ -78,6 +78,28 @@ impl Task {
         &self.read[..self.wires]
     }
 
+    /// The shares of both sets from the free bits; the last share of each IN completes its bit. Gives how many free bits they take.
+    #[inline(always)]
+    pub fn share<T: Lanes>(&self, secrets: &[u8], free: &[T; 17], shares: &mut [T; 32]) -> usize {
+        let Found { d, inputs, .. } = self.found;
+        let (second, mut used) = (free[self.bits], 0);
+        for (input, row) in shares.chunks_exact_mut(d).take(inputs).enumerate() {
+            let mut last = match (secrets[input], secrets[inputs + input]) {
+                (0, 0) => T::ZEROS,
+                (0, _) => second,
+                (_, 0) => T::ONES ^ second,
+                _ => T::ONES,
+            };
+            for share in &mut row[..d - 1] {
+                *share = free[used];
+                last = last ^ free[used];
+                used += 1;
+            }
+            row[d - 1] = last;
+        }
+        used
+    }
+
     /// Writes the rows, from the times of each combination under each set; gives the numbers of an accepted call.
     pub fn answer(&self, counts: &mut [u32], times: impl Fn(usize, usize) -> u32) -> [usize; 3] {
         let combinations = 1 << self.wires;
@@ -176,17 +198,18 @@ fn transposed(mut x: u64) -> u64 {
 /// Numbers the pairs by their free bits, and the set by the bit behind them; goes through them all, 8 · P a pass.
 fn all_pairs<const P: usize>(table: &[u16], task: &Task, secrets: &[u8], tally: &mut Tally) {
     let mut values = vec![Planes::<P>::ZEROS; task.found.wires];
+    let mut shares = [Planes::<P>::ZEROS; 32];
     let mut free = [Planes::<P>::ZEROS; 17];
     let fixed = 3 + P.ilog2() as usize;
     for (bit, lanes) in free.iter_mut().enumerate().take(fixed) {
-        *lanes = pattern(bit, 0);
+        *lanes = pattern(bit);
     }
     let bytes = (1 << (task.bits + 1)) / 8;
     for first in (0..bytes.max(1)).step_by(P) {
         for bit in fixed..=task.bits {
-            free[bit] = pattern(bit, first);
+            free[bit] = if first >> (bit - 3) & 1 == 0 { Planes::ZEROS } else { Planes::ONES };
         }
-        let (shares, used) = shares(task, secrets, &free);
+        let used = task.share(secrets, &free, &mut shares);
         write(table, &task.found, &shares, &free[used..task.bits], &mut values);
         for plane in 0..P {
             let byte = |wire: u16| u64::from(values[usize::from(wire)].0[plane]);
@@ -196,36 +219,12 @@ fn all_pairs<const P: usize>(table: &[u16], task: &Task, secrets: &[u8], tally: 
     }
 }
 
-/// A bit of the pairs' numbers, in the bytes from `first` on.
-#[inline(always)]
-fn pattern<const P: usize>(bit: usize, first: usize) -> Planes<P> {
+/// A bit of the pairs' numbers that changes within a pass.
+fn pattern<const P: usize>(bit: usize) -> Planes<P> {
     match bit {
         0 => Planes([0xAA; P]),
         1 => Planes([0xCC; P]),
         2 => Planes([0xF0; P]),
-        _ => Planes(std::array::from_fn(|at| ((first + at) >> (bit - 3) & 1) as u8 * 0xFF)),
+        _ => Planes(std::array::from_fn(|at| (at >> (bit - 3) & 1) as u8 * 0xFF)),
     }
-}
-
-/// The shares of both sets, and how many free bits they take; the last share of each IN completes its bit.
-#[inline(always)]
-pub fn shares<T: Lanes>(task: &Task, secrets: &[u8], free: &[T; 17]) -> ([T; 32], usize) {
-    let Found { d, inputs, .. } = task.found;
-    let (mut shares, mut used) = ([T::ZEROS; 32], 0);
-    let second = free[task.bits];
-    for (input, row) in shares.chunks_exact_mut(d).take(inputs).enumerate() {
-        let mut last = match (secrets[input], secrets[inputs + input]) {
-            (0, 0) => T::ZEROS,
-            (0, _) => second,
-            (_, 0) => T::ONES ^ second,
-            _ => T::ONES,
-        };
-        for share in &mut row[..d - 1] {
-            *share = free[used];
-            last = last ^ free[used];
-            used += 1;
-        }
-        row[d - 1] = last;
-    }
-    (shares, used)
 }

@@ -1,6 +1,6 @@
 //! Counts as fast as plain Rust has them here: 64 pairs in the bits of a word. The gates are written out once, those alone that
 //! the read wires need, and a register is no gate.
-use super::count::{shares, Tally, Task};
+use super::count::{Tally, Task};
 use super::lanes::{Lanes, Words};
 use super::{Refused, Sizes};
 
@@ -143,13 +143,13 @@ impl Gates {
     fn all_pairs<const W: usize>(&self, task: &Task, secrets: &[u8], tally: &mut Tally) {
         let mut values = vec![Words::<W>::ZEROS; self.inputs + self.gates.len()];
         values[usize::from(ONES)] = Words::ONES;
-        let mut free = [Words::<W>::ZEROS; 17];
+        let (mut free, mut shares) = ([Words::<W>::ZEROS; 17], [Words::<W>::ZEROS; 32]);
         let words = (2usize << task.bits).div_ceil(64);
         for first in (0..words).step_by(W) {
             for bit in 0..=task.bits {
                 free[bit] = pattern(bit, first);
             }
-            let (shares, used) = shares(task, secrets, &free);
+            let used = task.share(secrets, &free, &mut shares);
             let tape = FIRST + task.found.d * task.found.inputs;
             values[FIRST..tape].copy_from_slice(&shares[..tape - FIRST]);
             values[tape..self.inputs].copy_from_slice(&free[used..task.bits]);

@@ -148,6 +148,14 @@ fn sbox() -> Load {
     Load::new("PRESENT S-box, d 2", builder, vec![last - 1, last])
 }
 
+/// INs alone, 28 wires of two shares; eight of them are probed.
+fn inputs() -> Load {
+    let mut builder = Builder::new(2);
+    let rows: Vec<Vec<u16>> = (0..14).map(|_| builder.input(0)).collect();
+    let probes = rows.iter().take(8).map(|row| row[1]).collect();
+    Load::new("14 INs, d 2", builder, probes)
+}
+
 /// INs and ANDs of two shares with so many free bits, sums of all products, then XOR, NOT and REG on them up to a number of
 /// wires; the last six are registers, and probed.
 fn filled(name: &str, bits: usize, wires: usize) -> Load {
@@ -190,7 +198,7 @@ pub fn print(subject: &dyn Calls, rounds: usize) {
         "{:<22}{:>6}{:>6}{:>6} {:>12}{:>12}{:>7}{:>14}{:>8}{:>14}",
         "", "wires", "free", "read", "count", "opponent", "ratio", "loop", "times", "64 in a word"
     );
-    let mut fixed = [product(2), product(3), product(4), sbox()];
+    let mut fixed = [product(2), product(3), product(4), sbox(), inputs()];
     fixed.iter_mut().for_each(|load| load.print(subject, rounds));
     println!("growth with the free bits");
     for bits in [4, 6, 8, 10, 12, 14, 15, 16] {
