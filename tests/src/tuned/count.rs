@@ -132,9 +132,9 @@ impl Tally {
     fn add(&mut self, number: usize, columns: u64) {
         let rows = transposed(columns).to_le_bytes();
         if self.bits < 3 {
-            for lane in 0..2 << self.bits {
+            for (lane, &row) in rows.iter().enumerate().take(2 << self.bits) {
                 let set = lane >> self.bits;
-                self.times[set << self.wires | usize::from(rows[lane])][lane] += 1;
+                self.times[set << self.wires | usize::from(row)][lane] += 1;
             }
             return;
         }
@@ -206,8 +206,8 @@ fn all_pairs<const P: usize>(table: &[u16], task: &Task, secrets: &[u8], tally: 
     }
     let bytes = (1 << (task.bits + 1)) / 8;
     for first in (0..bytes.max(1)).step_by(P) {
-        for bit in fixed..=task.bits {
-            free[bit] = if first >> (bit - 3) & 1 == 0 { Planes::ZEROS } else { Planes::ONES };
+        for (bit, lanes) in free.iter_mut().enumerate().take(task.bits + 1).skip(fixed) {
+            *lanes = if first >> (bit - 3) & 1 == 0 { Planes::ZEROS } else { Planes::ONES };
         }
         let used = task.share(secrets, &free, &mut shares);
         write(table, &task.found, &shares, &free[used..task.bits], &mut values);

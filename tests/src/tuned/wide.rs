@@ -146,8 +146,8 @@ impl Gates {
         let (mut free, mut shares) = ([Words::<W>::ZEROS; 17], [Words::<W>::ZEROS; 32]);
         let words = (2usize << task.bits).div_ceil(64);
         for first in (0..words).step_by(W) {
-            for bit in 0..=task.bits {
-                free[bit] = pattern(bit, first);
+            for (bit, lanes) in free.iter_mut().enumerate().take(task.bits + 1) {
+                *lanes = pattern(bit, first);
             }
             let used = task.share(secrets, &free, &mut shares);
             let tape = FIRST + task.found.d * task.found.inputs;

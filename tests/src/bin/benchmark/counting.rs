@@ -176,7 +176,7 @@ fn filled(name: &str, bits: usize, wires: usize) -> Load {
         let sums: Vec<u16> = row.iter().zip(&before).map(|(&x, &y)| builder.xor(x, y)).collect();
         before = row.iter().map(|&wire| builder.not(wire)).collect();
         row = sums;
-        if builder.place(row[0]).stage < 200 && builder.wires() % 7 == 0 {
+        if builder.place(row[0]).stage < 200 && builder.wires().is_multiple_of(7) {
             before = builder.registers(&before);
             row = builder.registers(&row);
         }
