@@ -60,7 +60,8 @@ def compared(circuit: Circuit, names: list[str], probes: list[int], counted: mas
 def finding(rule: int, word: int, circuit: Circuit, sets: list[list[int]], probes: list[int], read: list[int]) -> Finding:
     """What was found and wanted where a count broke a rule: 15, 18, 19, 24 or 25."""
     if rule == 15:
-        return Finding("{wanted:secret bit} wanted in each set, one for each IN; {first} in the first and {second} in the second given",
+        return Finding("{wanted:secret bit} wanted in each set, one for each IN; "
+                       "{first} in the first and {second} in the second given",
                        {"wanted": circuit.inputs, "first": len(sets[0]), "second": len(sets[1])})
     if rule == 18:
         at = int(word >= len(sets[0]))

@@ -11,9 +11,9 @@
     counted = masked.count(table, [0, 0, 1, 1], [26, 27])      # counted.rows[0] is (4, 0, 500, 0)
 
 A refusal is raised as Refused, with the rule's number and its spot. Buffers that a call fills are lent by the caller (a bytearray,
-an array of type code H for words, of I for counts); left out, one of the right size is made and thrown away. After a refusal they hold what
-include/masked.h says. The library is target/shared/libmasked.so of this repository, made by `tools/build library`, or what the
-environment variable MASKED_LIBRARY names.
+an array of type code H for words, of I for counts); left out, one of the right size is made and thrown away. After a refusal they
+hold what include/masked.h says. The library is target/shared/libmasked.so of this repository, made by `tools/build library`, or what
+the environment variable MASKED_LIBRARY names.
 """
 from __future__ import annotations
 

@@ -1,5 +1,5 @@
-/* Counts all sharings and tapes of circuit A under the secrets 0,0 and 1,1, for a probe on each share of its output, and prints a line
- * for each combination of the read wires' values.
+/* Counts all sharings and tapes of circuit A under the secrets 0,0 and 1,1, for a probe on each share of its output, and prints a
+ * line for each combination of the read wires' values.
  * From the repository's top, this builds and runs it (the first part proves the library, which takes some minutes once):
  *
  *   rt staticlib exports && cc -Iinclude -o target/count examples/c/count.c target/staticlib/libexports.a && target/count
