@@ -14,22 +14,19 @@ use Rattle.circuit.specs.Circuit.{Circuit, size}
 use Rattle.circuit.specs.Composition.{wordsOf}
 use Rattle.semantics.specs.Values.{valuesOf}
 use Rattle.semantics.proofs.Values.{values-length}
-use Rattle.frames.specs.declared.walk.Frame.{Frame as FrameCode}
-use Rattle.frames.specs.declared.walk.Walk.{Walk}
 use Rattle.frames.specs.declared.walk.Step.{Step}
-use Rattle.frames.specs.declared.walk.Step.the-variants.{Next, End}
-use Rattle.frames.specs.declared.kinds.Shape.{Shape as ShapeCode}
-use Rattle.frames.specs.Walk.{operandsAt, stepAt}
+use Rattle.frames.specs.declared.walk.Step.the-variants.{Next, Refused, End}
+use Rattle.frames.specs.Walk.{stepAt}
 use Rattle.gadgets.specs.Internal.Gates.{gateAt}
-use Rattle.gadgets.specs.Internal.Frames.{frameWires}
 use Rattle.gadgets.specs.Internal.Accepting.{AcceptedTable, circuitIn}
 use Rattle.gadgets.proofs.Walking.{whole, whole-few, whole-ordered, second-word, wires-grow, Answers, step-answers}
-use Rattle.simulation.specs.Internal.Filling.{Known, Fills, FrameValues}
+use Rattle.simulation.specs.Internal.Filling.{Known, Fills}
 use Rattle.simulation.specs.Internal.Evaluating.{packed, Packs, Evaluable, Evaluates}
 use Rattle.simulation.proofs.Packing.{packed-none}
 use Rattle.simulation.proofs.Filled.{known-all}
-use Rattle.simulation.proofs.Equations.{valuesAt, gate-value}
-use Rattle.simulation.proofs.Evaluating.{FilledTo, frame-filled}
+use Rattle.simulation.specs.Internal.Walked.{valuesAt, FilledTo, FillsFrames}
+use Rattle.simulation.proofs.Equations.{gate-value}
+use Rattle.simulation.specs.declared.values.Place.{Place}
 use Rattle.expansion.specs.Internal.Expanding.{EarlyRun, SumRun, AffineRun, Listed, stepWires, endOf, Expanded}
 
 -- there is no wire wireLimit, and its value is 0
@@ -175,16 +172,21 @@ module _ {table left right constants listed : List ℕ} {wires count : ℕ} {sha
         sized = v .sized;
       }
 
-      pub frame-evaluated : {fr : FrameCode} {sh : ShapeCode} {wk : Walk} → stepAt table d place ≡ Next fr sh wk → {new : List ℕ}
-          → Fills (FrameValues fr 255 d first from used (operandsAt table d place) shares tape) first (first + frameWires fr d) mid new
-          → EvaluatingTo table left right constants listed wires count shares tape old new (first + sh .wires) (i + 1)
-      frame-evaluated {sh = sh} h {new} k = let v = frame-filled filled (second-word a) (here h) new k in record {
-        expanded = e;
-        evaluable = t .evaluable;
-        all = t .all;
-        room = t .room;
-        zero = t .zero;
-        most = omega arith;
-        end-is = sym (ap (endOf table listed) (add-one i) ∙ ap (λ s. first + stepWires s) h);
-        evaluated = subst (λ (k : Circuit). EvaluatedTo (k .wires) shares tape old new (first + sh .wires)) (sym (v .evaluable .accepted .circuit-is) ∙ a .circuit-is) (record { known = v .known; above = v .above; sized = v .sized });
-      }
+      -- it is there, and its values are filled in
+      pub frame-evaluated : {new : List ℕ} {r : ℕ} → FillsFrames table (record { at = place; first = first; from = from; used = used }) 1 255 shares tape mid new r
+          → EvaluatingTo table left right constants listed wires count shares tape old new r (i + 1)
+      frame-evaluated {new} {r} k = go (stepAt table d place) refl
+        where
+          go : (s : Step) → stepAt table d place ≡ s → EvaluatingTo table left right constants listed wires count shares tape old new r (i + 1)
+          go (Refused rule) h = absurd (here h)
+          go End h = absurd (no-end h)
+          go (Next fr sh wk) h = let (v, r-is) = k .one old filled refl h in record {
+            expanded = e;
+            evaluable = t .evaluable;
+            all = t .all;
+            room = t .room;
+            zero = t .zero;
+            most = omega arith;
+            end-is = r-is ∙ sym (ap (endOf table listed) (add-one i) ∙ ap (λ s. first + stepWires s) h);
+            evaluated = rw r-is (subst (λ (k : Circuit). EvaluatedTo (k .wires) shares tape old new (first + sh .wires)) (sym (v .evaluable .accepted .circuit-is) ∙ a .circuit-is) (record { known = v .known; above = v .above; sized = v .sized }));
+          }

@@ -9,9 +9,8 @@ ghost use Rattle.gadgets.specs.Internal.Accepting.{circuitIn};
 ghost use Rattle.simulation.specs.Internal.Filling.{Fills};
 ghost use Rattle.simulation.specs.Internal.Evaluating.{Evaluable, Evaluates};
 ghost use Rattle.expansion.specs.Internal.Expanding.{EarlyRun, SumRun, Expanded};
-use frames::walk::Step;
-use frames::walk::Walk;
-use simulation::values::write_frame;
+use simulation::values::Place;
+use simulation::values::fill_frames;
 
 // The wires from one to another, each of them a sum.
 fn run(left: &[u16], right: &[u16], constants: &[u8], from: usize, to: usize, values: &mut [u8])
@@ -43,39 +42,20 @@ pub fn evaluate(
     requires { ⌜ Expanded (now table) (now left) (now right) (now constants) (now listed) (size (circuitIn (now table))) count × Evaluable (now table) (now shares) (now tape) (length (now values)) × (wires ≡ size (circuitIn (now table))) × (wireLimit < length (now values)) × (nth (now values) wireLimit ≡ 0) ⌝ }
     ensures { λ _. ⌜ Evaluates (now (table .entry)) 255 (now (shares .entry)) (now (tape .entry)) (now (values .entry)) (now (values .exit)) ⌝ }
 {
-    let d = table[1];
-    let n = d as usize;
     let mut w = 0;
     let mut i = 0;
     while i < count {
         let entry = 4 * i;
         let first = listed[entry + 1] as usize;
-        let from = listed[entry + 2] as usize;
-        let used = listed[entry + 3] as usize;
-        run(left, right, constants, w, first, values);
-        let walk = Walk {
-            d,
+        let place = Place {
             at: listed[entry] as usize,
+            first,
+            from: listed[entry + 2] as usize,
+            used: listed[entry + 3] as usize,
         };
-        let step = walk.step(table);
-        match step {
-            Step::End => {
-                return;
-            }
-            Step::Refused { rule: _ } => {
-                return;
-            }
-            Step::Next {
-                frame,
-                shape,
-                walk: _,
-            } => {
-                let ops = walk.operands(table);
-                write_frame(values, frame, 255, n, first, from, used, ops, shares, tape);
-                w = first + shape.wires;
-                i += 1;
-            }
-        }
+        run(left, right, constants, w, first, values);
+        w = fill_frames(table, place, 1, 255, shares, tape, values);
+        i += 1;
     }
     run(left, right, constants, w, wires, values);
 }

@@ -27,14 +27,11 @@ use Rattle.gadgets.specs.Internal.Frames.{frameWires}
 use Rattle.gadgets.proofs.Sites.{pair-lt}
 use Rattle.gadgets.proofs.Slots.{product-early, cross-room}
 use Rattle.simulation.specs.Internal.Filling.{Values, wordSum, Copied, Drawn, ShareProducts, RowCrossed, crossingAt, Multiplied, AndValues, Masked, Held, RefValues, FrameValues}
+use Rattle.simulation.specs.Internal.Walked.{valuesAt}
 use Rattle.simulation.specs.Internal.Evaluating.{packed, Packs}
 use Rattle.simulation.proofs.Adding.{wordSum-ext, wordSum-append, wordSum-map, wordSum-xor}
 use Rattle.simulation.proofs.Packing.{wordValue, packed-value}
 use Rattle.simulation.proofs.Solving.{solved, rank-next}
-
--- the values of wires, for n sharings and tapes at once
-abbrev pub valuesAt : (ws : List Wire) (n : ℕ) (sharings tapes : ℕ → List Bool) → Values
-valuesAt ws n sharings tapes x = packed n (λ l. at (valuesOf ws (sharings l) (tapes l)) x)
 
 -- different shares, where the one is among the others of the other
 apart : (d i j : ℕ) → i < d → In j (others d i) → (j < d) × (j ≡ i → ⊥)

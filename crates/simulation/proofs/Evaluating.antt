@@ -2,7 +2,7 @@
 use mathlib.Core.Path.{_≡_, refl, sym, ap, ap₂, subst, _∙_}
 use mathlib.Core.Bool.{Bool, true}
 use mathlib.Core.List.{List, []}
-use Prim.Native.Nat.{ℕ, _+_, _*_, _≤_}
+use Prim.Native.Nat.{ℕ, _+_, _*_, _≤_, _<_}
 use native.Mathlib.Nat.{mul-le-mul-right}
 use native.Mathlib.Omega.{arith}
 use lib.ListN.{length, take}
@@ -16,26 +16,18 @@ use Rattle.semantics.proofs.Randoms.{randomsIn, build-randoms}
 use Rattle.frames.specs.declared.walk.Frame.{Frame as FrameCode}
 use Rattle.frames.specs.declared.walk.Walk.{Walk}
 use Rattle.frames.specs.declared.kinds.Shape.{Shape as ShapeCode}
-use Rattle.frames.specs.Walk.{operandsAt}
+use Rattle.frames.specs.declared.walk.Step.{Step}
+use Rattle.frames.specs.declared.walk.Step.the-variants.{Next, End}
+use Rattle.frames.specs.Walk.{operandsAt, stepAt}
 use Rattle.gadgets.specs.Internal.Frames.{frameWires}
 use Rattle.gadgets.specs.Internal.Accepting.{AcceptedTable, circuitIn, Between}
-use Rattle.gadgets.proofs.Walking.{whole, whole-ordered, so-far, between-start, all-built, wires-in, wires-grow, inputs-grow, randoms-grow, Met}
+use Rattle.gadgets.proofs.Walking.{whole, whole-ordered, so-far, between-start, all-built, wires-in, wires-grow, inputs-grow, randoms-grow, Met, Answers, second-word, step-answers}
+use Rattle.simulation.specs.declared.values.Place.{Place}
 use Rattle.simulation.specs.Internal.Filling.{Known, Fills, FrameValues}
 use Rattle.simulation.specs.Internal.Evaluating.{packed, Packs, Evaluable, Evaluates}
 use Rattle.simulation.proofs.Filled.{known-all}
-use Rattle.simulation.proofs.Equations.{valuesAt, frame-values}
-
--- the values of the frames before the walk's place are filled in
-pub record FilledTo (table : List ℕ) (ones : ℕ) (shares tape old values : List ℕ) (place w from used : ℕ) : Type 0 where
-  pub evaluable : Evaluable table shares tape (length old)
-  pub between : Between table (evaluable .accepted .fs) place
-  pub wires-are : w ≡ size (so-far (evaluable .accepted) between)
-  pub from-are : from ≡ so-far (evaluable .accepted) between .inputs * evaluable .accepted .d
-  pub used-are : used ≡ so-far (evaluable .accepted) between .randoms
-  pub known : (n : ℕ) (sharings tapes : ℕ → List Bool) → ones ≡ packed n (λ l. true) → Packs n sharings shares → Packs n tapes tape
-      → Known (valuesAt (whole (evaluable .accepted) .wires) n sharings tapes) 0 w values
-  pub above : (x : ℕ) → w ≤ x → nth values x ≡ nth old x
-  pub sized : length values ≡ length old
+use Rattle.simulation.specs.Internal.Walked.{valuesAt, FilledTo, FillsFrames}
+use Rattle.simulation.proofs.Equations.{frame-values}
 
 pub filled-start : {table shares tape old : List ℕ} (ones : ℕ) → Evaluable table shares tape (length old) → FilledTo table ones shares tape old old 2 0 0 0
 filled-start ones e = record {
@@ -108,3 +100,67 @@ module _ {table : List ℕ} {ones : ℕ} {shares tape old values : List ℕ} {pl
         above = λ x l. f .above x (omega (arith, count));
         sized = f .sized;
       }
+
+-- the frames of a loop from a place on: so many are filled in, and the walk stands behind them
+pub record FillingTo (table : List ℕ) (ones : ℕ) (shares tape before : List ℕ) (p w₀ f₀ u₀ : ℕ) (values : List ℕ) (i : ℕ) (walk : Walk) (first from used : ℕ) : Type 0 where
+  pub d-is : walk .d ≡ nth table 1
+  pub filled : (old : List ℕ) → FilledTo table ones shares tape old before p w₀ f₀ u₀ → FilledTo table ones shares tape old values (walk .at) first from used
+  pub none : i ≡ 0 → (walk .at ≡ p) × (first ≡ w₀) × (from ≡ f₀) × (used ≡ u₀)
+  pub one : i ≡ 1 → {fr : FrameCode} {sh : ShapeCode} {wk : Walk} → stepAt table (nth table 1) p ≡ Next fr sh wk
+      → (walk .at ≡ wk .at) × (first ≡ w₀ + sh .wires) × (from ≡ f₀ + nth table 1 * sh .inputs) × (used ≡ u₀ + sh .randoms)
+  pub far : 2 * i ≤ walk .at
+  pub size-is : length values ≡ length before
+
+pub filling-start : (table : List ℕ) (ones : ℕ) (shares tape before : List ℕ) (walk : Walk) (w f u : ℕ) → walk .d ≡ nth table 1 → FillingTo table ones shares tape before (walk .at) w f u before 0 walk w f u
+filling-start table ones shares tape before walk w f u e = record {
+  d-is = e;
+  filled = λ old g. g;
+  none = λ z. (refl, refl, refl, refl);
+  one = λ z. absurd (omega arith);
+  far = omega arith;
+  size-is = refl;
+}
+
+same-step : {fr fr′ : FrameCode} {sh sh′ : ShapeCode} {wk wk′ : Walk} → Next fr sh wk ≡ Next fr′ sh′ wk′ → (sh ≡ sh′) × (wk ≡ wk′)
+same-step e = (cc, cc)
+
+no-step : {fr : FrameCode} {sh : ShapeCode} {wk : Walk} → End ≡ Next fr sh wk → ⊥
+no-step e = let z : _≡_ {A = ℕ} 0 1 = cc in omega arith
+
+module _ {table : List ℕ} {ones : ℕ} {shares tape before : List ℕ} {p w₀ f₀ u₀ : ℕ} {values : List ℕ} {i : ℕ} {walk : Walk} {first from used : ℕ}
+    (t : FillingTo table ones shares tape before p w₀ f₀ u₀ values i walk first from used) where
+  -- what the step says at the walk's place
+  pub filling-answers : (old : List ℕ) (g : FilledTo table ones shares tape old before p w₀ f₀ u₀) {s : Step} → stepAt table (walk .d) (walk .at) ≡ s
+      → let f = t .filled old g in Answers (f .evaluable .accepted) (f .between) (nth table 1) first from s
+  filling-answers old g e = let f = t .filled old g in
+      step-answers (f .evaluable .accepted) (f .between) (second-word (f .evaluable .accepted)) (f .wires-are) (f .from-are) (ap (λ n. stepAt table n (walk .at)) (sym (t .d-is)) ∙ e)
+
+  -- one frame more
+  pub filling-next : {fr : FrameCode} {sh : ShapeCode} {wk : Walk} → stepAt table (walk .d) (walk .at) ≡ Next fr sh wk → wk .d ≡ nth table 1 → walk .at + 2 ≤ wk .at → {new : List ℕ}
+      → Fills (FrameValues fr ones (nth table 1) first from used (operandsAt table (nth table 1) (walk .at)) shares tape) first (first + frameWires fr (nth table 1)) values new
+      → FillingTo table ones shares tape before p w₀ f₀ u₀ new (i + 1) wk (first + sh .wires) (from + nth table 1 * sh .inputs) (used + sh .randoms)
+  filling-next {fr} {sh} {wk} e same later {new} g = record {
+    d-is = same;
+    filled = λ old h. let f = t .filled old h in frame-filled f (second-word (f .evaluable .accepted)) (filling-answers old h e) new g;
+    none = λ z. absurd (omega arith);
+    one = λ z e′. let (a, b, c, d) = t .none (omega arith) in
+        let (x, y) = same-step (sym e ∙ ap₂ (stepAt table) (t .d-is) a ∙ e′) in
+        (ap (λ k. k .at) y, ap₂ (λ m k. m + k .wires) b x, ap₂ (λ m k. m + nth table 1 * k .inputs) c x, ap₂ (λ m k. m + k .randoms) d x);
+    far = omega (arith, t .far);
+    size-is = g .size ∙ t .size-is;
+  }
+
+  -- the loop ends where no frame is left, or with as many as were asked for
+  pub filling-end : {most r : ℕ} → r ≡ first → (most ≤ i) × (i ≤ most) → 2 ≤ length table → FillsFrames table (record { at = p; first = w₀; from = f₀; used = u₀ }) most ones shares tape before values r
+  filling-end {most} r-is l two = record {
+    one = λ old g m e. let (a, b, c, d) = t .one (omega arith) e in (rw (← a, ← b, ← c, ← d) (t .filled old g), r-is ∙ b);
+    all = λ old g m. absurd (omega (arith, t .far, t .filled old g .between .most));
+    sized = t .size-is;
+  }
+
+  pub filling-done : {most r : ℕ} → r ≡ first → i < most → stepAt table (walk .d) (walk .at) ≡ End → FillsFrames table (record { at = p; first = w₀; from = f₀; used = u₀ }) most ones shares tape before values r
+  filling-done {most} r-is l e = record {
+    one = λ old g m e′. absurd (no-step (sym e ∙ ap₂ (stepAt table) (t .d-is) (t .none (omega arith) .0) ∙ e′));
+    all = λ old g m. all-filled (t .filled old g) (filling-answers old g e);
+    sized = t .size-is;
+  }

@@ -1,13 +1,15 @@
 // The value of each wire, frame by frame: a bit for each evaluation, of one or of eight at once. In ones, the bit of each is set.
 ghost use mathlib.Core.Path.{_≡_};
 ghost use mathlib.Core.Bool.{cond};
-ghost use Prim.Native.Nat.{_+_, _≤_, _<_};
+ghost use mathlib.Core.List.{List};
+ghost use Prim.Native.Nat.{ℕ, _+_, _≤_, _<_};
 ghost use lib.Bits.{bitXor};
 ghost use lib.ListN.{length};
 ghost use Rattle.circuit.specs.Circuit.{isSet};
 ghost use Rattle.gadgets.specs.Internal.Frames.{frameWires, Small, FrameEarly, FrameSupplied};
 ghost use Rattle.simulation.specs.Internal.Filling.{Fills, FrameValues};
 ghost use Rattle.simulation.specs.Internal.Evaluating.{Evaluable, Evaluates};
+ghost use Rattle.simulation.specs.Internal.Walked.{FilledTo, FillsFrames};
 use super::gadget;
 use frames::walk::Frame;
 use frames::walk::Gate;
@@ -58,7 +60,7 @@ fn register(values: &mut [u8], first: usize, wire: u16)
 }
 
 // A frame's wires, behind so many wires, shares and random bits.
-pub fn write_frame(
+fn write_frame(
     values: &mut [u8],
     frame: Frame,
     ones: u8,
@@ -94,18 +96,36 @@ pub fn write_frame(
     }
 }
 
-// The values of an accepted table's wires.
-pub fn fill(table: &[u16], ones: u8, shares: &[u8], tape: &[u8], values: &mut [u8])
-    requires { ⌜ Evaluable (now table) (now shares) (now tape) (length (now values)) ⌝ }
-    ensures { λ _. ⌜ Evaluates (now (table .entry)) ones (now (shares .entry)) (now (tape .entry)) (now (values .entry)) (now (values .exit)) ⌝ }
+// A place between frames: where in the table it is, and how many wires, shares and random bits come before it.
+pub struct Place {
+    pub at: usize,
+    pub first: usize,
+    pub from: usize,
+    pub used: usize,
+}
+
+// The values of at most so many frames from a place on, behind those of the frames before it. The answer is how many wires there are
+// up to their end.
+pub fn fill_frames(
+    table: &[u16],
+    place: Place,
+    most: usize,
+    ones: u8,
+    shares: &[u8],
+    tape: &[u8],
+    values: &mut [u8],
+) -> usize
+    requires { ⌜ ((old : List ℕ) × FilledTo (now table) ones (now shares) (now tape) old (now values) (place .at) (place .first) (place .from) (place .used)) ⌝ }
+    ensures { λ r. ⌜ FillsFrames (now (table .entry)) place most ones (now (shares .entry)) (now (tape .entry)) (now (values .entry)) (now (values .exit)) r ⌝ }
 {
     let d = table[1];
     let n = d as usize;
-    let mut walk = Walk { d, at: 2 };
-    let mut first = 0;
-    let mut from = 0;
-    let mut used = 0;
-    loop {
+    let mut walk = Walk { d, at: place.at };
+    let mut first = place.first;
+    let mut from = place.from;
+    let mut used = place.used;
+    let mut i = 0;
+    while i < most {
         let step = walk.step(table);
         match step {
             Step::Next {
@@ -119,13 +139,29 @@ pub fn fill(table: &[u16], ones: u8, shares: &[u8], tape: &[u8], values: &mut [u
                 from += n * shape.inputs;
                 used += shape.randoms;
                 walk = next;
+                i += 1;
             }
             Step::End => {
-                return;
+                return first;
             }
             Step::Refused { rule: _ } => {
-                return;
+                return first;
             }
         }
     }
+    first
+}
+
+// The values of an accepted table's wires.
+pub fn fill(table: &[u16], ones: u8, shares: &[u8], tape: &[u8], values: &mut [u8])
+    requires { ⌜ Evaluable (now table) (now shares) (now tape) (length (now values)) ⌝ }
+    ensures { λ _. ⌜ Evaluates (now (table .entry)) ones (now (shares .entry)) (now (tape .entry)) (now (values .entry)) (now (values .exit)) ⌝ }
+{
+    let head = Place {
+        at: 2,
+        first: 0,
+        from: 0,
+        used: 0,
+    };
+    fill_frames(table, head, table.len(), ones, shares, tape, values);
 }

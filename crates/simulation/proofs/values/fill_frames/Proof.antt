@@ -1,0 +1,92 @@
+-- The loop's invariant: the values of the frames before the walk's place are filled in.
+use mathlib.Core.Path.{_≡_, refl, sym, ap, _∙_}
+use Prim.Native.Nat.{_+_, _*_, _-_, _≤_}
+use native.Mathlib.Omega.{arith}
+use lib.ListN.{length}
+use borrow.Author.Needs.{needs}
+use Rattle.circuit.specs.Limits.{wireLimit}
+use Rattle.circuit.specs.Lists.{nth}
+use Rattle.frames.specs.Walk.{operandsAt}
+use Rattle.simulation.proofs.values.fill_frames.Statement.{statement}
+use Rattle.simulation.proofs.values.fill_frames.Tie as tie
+use Rattle.gadgets.proofs.Walking.{headed, second-word, Met}
+use Rattle.simulation.specs.Internal.Walked.{FilledTo}
+use Rattle.simulation.proofs.Evaluating.{room-in, inputs-in, draws-in, FillingTo, filling-start, filling-answers, filling-next, filling-end, filling-done}
+
+abbrev Inv-loop : tie.InvT-loop
+Inv-loop table most ones shares tape values₀ d n walk₀ first₀ from₀ used₀ i₀ values walk first from used i =
+    (i ≤ most) × FillingTo table ones shares tape values₀ (walk₀ .at) first₀ from₀ used₀ values i walk first from used
+
+abbrev μ-loop : tie.MeasureT-loop
+μ-loop table most ones shares tape values₀ d n walk₀ first₀ from₀ used₀ i₀ values walk first from used i = most - i
+
+abbrev start : tie.At-loop Inv-loop μ-loop → tie.Start Inv-loop μ-loop
+start c = c .before .before .before .before .before .before
+
+-- what is filled in at the loop's head
+abbrev so-far : (c : tie.At-loop Inv-loop μ-loop) → let s = start c in FilledTo (s .args .table .now) (s .args .ones) (s .args .shares .now) (s .args .tape .now) (s .pre .0) (c .loop .values) (c .loop .walk .at) (c .loop .first) (c .loop .from) (c .loop .used)
+so-far c = c .loop .inv .1 .filled (start c .pre .0) (start c .pre .1)
+
+-- the frame that a turn meets, and its words
+abbrev head : tie.After-step2 Inv-loop μ-loop → tie.At-loop Inv-loop μ-loop
+head c = c .before .before .before .before
+
+met : (c : tie.After-step2 Inv-loop μ-loop) → let h = head c in let f = so-far h in let g = c .step2 .given .0 in
+    Met (f .evaluable .accepted) (f .between) (nth (start h .args .table .now) 1) (h .loop .first) (h .loop .from) (g .0) (g .1 .0) (g .1 .1 .0)
+met c = let h = head c in filling-answers (h .loop .inv .1) (start h .pre .0) (start h .pre .1) (sym (c .before .before .step .ensures) ∙ c .step2 .given .1)
+
+words : (c : tie.After-operands Inv-loop μ-loop) → let h = head (c .before .before) in let table = start h .args .table .now in
+    c .operands .result .now ≡ operandsAt table (nth table 1) (h .loop .walk .at)
+words c = let h = head (c .before .before) in c .operands .ensures ∙ ap (λ n. operandsAt (start h .args .table .now) n (h .loop .walk .at)) (h .loop .inv .1 .d-is)
+
+-- the counts behind it
+record Counts (c : tie.After-step2 Inv-loop μ-loop) : Type 0 where
+  wires : head c .loop .first + c .step2 .given .0 .1 .0 .wires ≤ wireLimit
+  shares : head c .loop .from + nth (start (head c) .args .table .now) 1 * c .step2 .given .0 .1 .0 .inputs ≤ length (start (head c) .args .shares .now)
+  randoms : head c .loop .used + c .step2 .given .0 .1 .0 .randoms ≤ length (start (head c) .args .tape .now)
+
+counts : (c : tie.After-step2 Inv-loop μ-loop) → Counts c
+counts c = let f = so-far (head c) in record { wires = met c .few; shares = inputs-in f (second-word (f .evaluable .accepted)) (met c); randoms = draws-in f (second-word (f .evaluable .accepted)) (met c) }
+
+write-frame-requires : tie.Need-write-frame-requires Inv-loop μ-loop
+write-frame-requires c κs =
+    let t = c .before .before .before in
+    let f = so-far (head t) in
+    let m = met t in
+    (m .small, room-in f (second-word (f .evaluable .accepted)) m, rw (words (c .before)) (m .early), m .supplied _ _ _ (counts t .shares) (counts t .randoms))
+
+abbrev turn : tie.After-struct-known3 Inv-loop μ-loop → tie.After-step2 Inv-loop μ-loop
+turn c = c .before .before .before .before .before .before .before .before .before
+
+loop-again : tie.Need-loop-again Inv-loop μ-loop
+loop-again c =
+    let t = turn c in
+    let w = c .before .before .before .before .before in
+    (omega arith, filling-next (head t .loop .inv .1) (sym (t .before .before .step .ensures) ∙ t .step2 .given .1) (met t .same) (met t .later) (rw (words (w .before .before)) at (w .write-frame .ensures)))
+
+pub fill-frames-spec : {M : Type 1} → statement M
+fill-frames-spec =
+    tie.close
+    (tie.spec
+    Inv-loop
+    μ-loop
+    (λ c. omega (arith, headed (c .before .before .before .before .before .pre .1 .evaluable .accepted)))
+    (λ c. record { fits = omega (arith, second-word (c .before .before .before .before .before .pre .1 .evaluable .accepted)) })
+    (λ c. (omega arith, filling-start _ _ _ _ _ _ _ _ _ refl))
+    (λ c κs. search needs) (λ c. search needs) (λ c κs. search needs)
+    write-frame-requires
+    (λ c. record { fits = omega (arith, counts (c .before .before .before .before .before .before .before) .wires) })
+    (λ c. let t = c .before .before .before .before .before .before .before .before in record { fits = omega (arith, counts t .shares, start (head t) .good .1 .1 .1 .1 .0 .0) })
+    (λ c. let t = c .before .before .before .before .before .before .before .before in record { fits = omega (arith, counts t .shares, start (head t) .good .1 .1 .1 .1 .0 .0) })
+    (λ c. record { fits = omega (arith, counts (turn c) .randoms, start (head (turn c)) .good .1 .1 .1 .1 .1 .0 .0) })
+    (λ c. let t = turn c in record { fits = omega (arith, t .before .before .before .loop-test .taken, start (head t) .fits) })
+    (λ c. omega arith)
+    loop-again
+    (λ c. search needs)
+    (λ c. c .before .before .before .before .loop .inv .1 .size-is)
+    (λ c. let h = c .before .before .before .before in filling-done (h .loop .inv .1) refl (c .before .before .before .loop-test .taken) (sym (c .before .before .step .ensures) ∙ c .enum-told .given .1))
+    (λ c. search needs)
+    (λ c. c .before .before .before .before .loop .inv .1 .size-is)
+    (λ c. let h = c .before .before .before .before in absurd (filling-answers (h .loop .inv .1) (start h .pre .0) (start h .pre .1) (sym (c .before .before .step .ensures) ∙ c .enum-told2 .given .1)))
+    (λ c. c .before .loop .inv .1 .size-is)
+    (λ c. let h = c .before in filling-end (h .loop .inv .1) refl (c .loop-test .left, h .loop .inv .0) (headed (start h .pre .1 .evaluable .accepted))))
