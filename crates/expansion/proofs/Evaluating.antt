@@ -152,10 +152,13 @@ module _ {table left right constants listed : List ℕ} {wires count : ℕ} {sha
     pub frame-asks : EarlyRun left right constants w first × (wireLimit < length values) × (nth values wireLimit ≡ 0)
     frame-asks = asks gap first-made
 
-    pub here : {s : Step} → stepAt table d place ≡ s → Answers a (f .between) d first from s
+    pub there : place < length table
+    there = f .inside
+
+    here : {s : Step} → stepAt table d place ≡ s → Answers a (f .between) d first from s
     here = step-answers a (f .between) (second-word a) (f .first-is) (f .from-is)
 
-    pub no-end : stepAt table d place ≡ End → ⊥
+    no-end : stepAt table d place ≡ End → ⊥
     no-end h = omega (arith, f .inside, length-drop place table, ap length (f .between .rest ∙ ap wordsOf (here h)))
 
     -- behind the run before it

@@ -4,3 +4,5 @@ pub mod Summing
 pub mod Expanding
 -- The values of its wires
 pub mod Evaluating
+-- INs without a walk
+pub mod Inputs

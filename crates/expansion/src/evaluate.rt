@@ -1,6 +1,7 @@
 // The values of all wires for eight sharings and tapes at once, from an expanded table.
 ghost use mathlib.Core.Path.{_≡_};
-ghost use Prim.Native.Nat.{_<_};
+ghost use mathlib.Core.List.{List};
+ghost use Prim.Native.Nat.{ℕ, _<_};
 ghost use lib.ListN.{length};
 ghost use Rattle.circuit.specs.Limits.{wireLimit};
 ghost use Rattle.circuit.specs.Lists.{nth};
@@ -8,7 +9,9 @@ ghost use Rattle.circuit.specs.Circuit.{size};
 ghost use Rattle.gadgets.specs.Internal.Accepting.{circuitIn};
 ghost use Rattle.simulation.specs.Internal.Filling.{Fills};
 ghost use Rattle.simulation.specs.Internal.Evaluating.{Evaluable, Evaluates};
+ghost use Rattle.simulation.specs.Internal.Walked.{FilledTo, FillsFrames};
 ghost use Rattle.expansion.specs.Internal.Expanding.{EarlyRun, SumRun, Expanded};
+use simulation::gadget::copy;
 use simulation::values::Place;
 use simulation::values::fill_frames;
 
@@ -24,6 +27,20 @@ fn run(left: &[u16], right: &[u16], constants: &[u8], from: usize, to: usize, va
         values[x] = values[y] ^ values[z] ^ constants[x];
         x += 1;
     }
+}
+
+// The wires of a listed frame. An IN's are its shares, which need no walk.
+fn write_listed(table: &[u16], place: Place, shares: &[u8], tape: &[u8], values: &mut [u8]) -> usize
+    requires { ⌜ ((old : List ℕ) × FilledTo (now table) 255 (now shares) (now tape) old (now values) (place .at) (place .first) (place .from) (place .used)) × (place .at < length (now table)) ⌝ }
+    ensures { λ r. ⌜ FillsFrames (now (table .entry)) place 1 255 (now (shares .entry)) (now (tape .entry)) (now (values .entry)) (now (values .exit)) r ⌝ }
+{
+    let at = place.at;
+    if table[at] != 1 {
+        return fill_frames(table, place, 1, 255, shares, tape, values);
+    }
+    let d = table[1] as usize;
+    copy(values, place.first, shares, place.from, d);
+    place.first + d
 }
 
 // The values of an accepted table's wires, once it is expanded.
@@ -54,7 +71,7 @@ pub fn evaluate(
             used: listed[entry + 3] as usize,
         };
         run(left, right, constants, w, first, values);
-        w = fill_frames(table, place, 1, 255, shares, tape, values);
+        w = write_listed(table, place, shares, tape, values);
         i += 1;
     }
     run(left, right, constants, w, wires, values);

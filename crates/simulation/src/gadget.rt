@@ -10,7 +10,7 @@ ghost use Rattle.simulation.specs.Internal.Gadgets.{Crosses, CrossesRow,
 use gadgets::places;
 
 // So many bytes, from a place of another buffer on.
-pub(crate) fn copy(values: &mut [u8], at: usize, source: &[u8], from: usize, count: usize)
+pub fn copy(values: &mut [u8], at: usize, source: &[u8], from: usize, count: usize)
     requires { ⌜ (at + count ≤ length (now values)) × (from + count ≤ length (now source)) ⌝ }
     ensures { λ _. ⌜ Fills (Copied (now (source .entry)) from at count) at (at + count) (now (values .entry)) (now (values .exit)) ⌝ }
 {

@@ -5,7 +5,7 @@ use lib.ListN.{length}
 use borrow.Author.Needs.{needs}
 use Rattle.expansion.proofs.evaluate.evaluate.Statement.{statement}
 use Rattle.expansion.proofs.evaluate.evaluate.Tie as tie
-use Rattle.expansion.proofs.Evaluating.{EvaluatingTo, evaluating-start, last-asks, all-evaluated, frame-asks, filled, frame-evaluated}
+use Rattle.expansion.proofs.Evaluating.{EvaluatingTo, evaluating-start, last-asks, all-evaluated, frame-asks, there, filled, frame-evaluated}
 
 abbrev Inv-loop : tie.InvT-loop
 Inv-loop table left right constants listed count shares tape wires values₀ w₀ i₀ values w i = EvaluatingTo table left right constants listed wires count shares tape values₀ values w i
@@ -51,10 +51,10 @@ evaluate-spec =
     (λ c. omega (arith, inside (c .before .before .before .before)))
     (λ c. record { fits = omega (arith, c .shared-slice-known11 .given (4 * c .before .before .before .before .before .loop .i + 3)) })
     (λ c κs. let t = c .before .before .before .before .before in frame-asks (t .before .loop .inv) (t .loop-test .taken))
-    (λ c κs. let r = c .before .before .before in let t = turn r in (_, filled (t .before .loop .inv) (t .loop-test .taken) (r .run .ensures)))
+    (λ c κs. let r = c .before .before .before in let t = turn r in ((_, filled (t .before .loop .inv) (t .loop-test .taken) (r .run .ensures)), there (t .before .loop .inv) (t .loop-test .taken)))
     (λ c. record { fits = omega (arith, few (turn (c .before .before .before .before .before .before))) })
     (λ c. let t = turn (c .before .before .before .before .before .before) in omega (arith, t .loop-test .taken))
-    (λ c. let r = c .before .before .before .before .before .before in let t = turn r in frame-evaluated (t .before .loop .inv) (t .loop-test .taken) (r .run .ensures) (c .before .before .fill-frames .ensures))
+    (λ c. let r = c .before .before .before .before .before .before in let t = turn r in frame-evaluated (t .before .loop .inv) (t .loop-test .taken) (r .run .ensures) (c .before .before .write-listed .ensures))
     (λ c κs. last-asks (c .before .before .loop .inv) (c .before .loop-test .left))
     (λ c. let t = c .before .before .before .before in all-evaluated (t .before .loop .inv) (t .loop-test .left) (c .before .before .run2 .ensures) .sized)
     (λ c. let t = c .before .before .before .before in all-evaluated (t .before .loop .inv) (t .loop-test .left) (c .before .before .run2 .ensures)))
