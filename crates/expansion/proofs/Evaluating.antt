@@ -176,14 +176,14 @@ module _ {table left right constants listed : List ℕ} {wires count : ℕ} {sha
       }
 
       -- it is there, and its values are filled in
-      pub frame-evaluated : {new : List ℕ} {r : ℕ} → FillsFrames table (record { at = place; first = first; from = from; used = used }) 1 255 shares tape mid new r
+      pub frame-evaluated : {new : List ℕ} {r : ℕ} → FillsFrames table (record { at = place; first = first; from = from; used = used }) place 255 shares tape mid new r
           → EvaluatingTo table left right constants listed wires count shares tape old new r (i + 1)
       frame-evaluated {new} {r} k = go (stepAt table d place) refl
         where
           go : (s : Step) → stepAt table d place ≡ s → EvaluatingTo table left right constants listed wires count shares tape old new r (i + 1)
           go (Refused rule) h = absurd (here h)
           go End h = absurd (no-end h)
-          go (Next fr sh wk) h = let (v, r-is) = k .one old filled refl h in record {
+          go (Next fr sh wk) h = let (v, r-is) = k .one old filled (omega arith) h in record {
             expanded = e;
             evaluable = t .evaluable;
             all = t .all;

@@ -32,11 +32,11 @@ fn run(left: &[u16], right: &[u16], constants: &[u8], from: usize, to: usize, va
 // The wires of a listed frame. An IN's are its shares, which need no walk.
 fn write_listed(table: &[u16], place: Place, shares: &[u8], tape: &[u8], values: &mut [u8]) -> usize
     requires { ⌜ ((old : List ℕ) × FilledTo (now table) 255 (now shares) (now tape) old (now values) (place .at) (place .first) (place .from) (place .used)) × (place .at < length (now table)) ⌝ }
-    ensures { λ r. ⌜ FillsFrames (now (table .entry)) place 1 255 (now (shares .entry)) (now (tape .entry)) (now (values .entry)) (now (values .exit)) r ⌝ }
+    ensures { λ r. ⌜ FillsFrames (now (table .entry)) place (place .at) 255 (now (shares .entry)) (now (tape .entry)) (now (values .entry)) (now (values .exit)) r ⌝ }
 {
     let at = place.at;
     if table[at] != 1 {
-        return fill_frames(table, place, 1, 255, shares, tape, values);
+        return fill_frames(table, place, at, 255, shares, tape, values);
     }
     let d = table[1] as usize;
     copy(values, place.first, shares, place.from, d);

@@ -1,16 +1,16 @@
 -- The values of an accepted table's wires, frame by frame: those of the frames before the walk's place are filled in.
 use mathlib.Core.Path.{_≡_, refl, sym, ap, ap₂, subst, _∙_}
 use mathlib.Core.Bool.{Bool, true}
-use mathlib.Core.List.{List, []}
+use mathlib.Core.List.{List, [], _∷_}
 use Prim.Native.Nat.{ℕ, _+_, _*_, _≤_, _<_}
 use native.Mathlib.Nat.{mul-le-mul-right}
 use native.Mathlib.Omega.{arith}
-use lib.ListN.{length, take}
+use lib.ListN.{length, take, length-drop}
 use lib.Seq.{take-at}
 use Rattle.circuit.specs.Lists.{nth}
 use Rattle.circuit.specs.Wires.{Wire}
 use Rattle.circuit.specs.Circuit.{Circuit, size, empty}
-use Rattle.circuit.specs.Composition.{build}
+use Rattle.circuit.specs.Composition.{Frame, build, wordsOf}
 use Rattle.circuit.proofs.Building.{build-shares}
 use Rattle.semantics.proofs.Randoms.{randomsIn, build-randoms}
 use Rattle.frames.specs.declared.walk.Frame.{Frame as FrameCode}
@@ -101,25 +101,15 @@ module _ {table : List ℕ} {ones : ℕ} {shares tape old values : List ℕ} {pl
         sized = f .sized;
       }
 
--- the frames of a loop from a place on: so many are filled in, and the walk stands behind them
-pub record FillingTo (table : List ℕ) (ones : ℕ) (shares tape before : List ℕ) (p w₀ f₀ u₀ : ℕ) (values : List ℕ) (i : ℕ) (walk : Walk) (first from used : ℕ) : Type 0 where
+-- the frames of a loop from a place on are filled in, up to the walk's place; where the end is not behind the first, none is yet
+pub record FillingTo (table : List ℕ) (ones : ℕ) (shares tape before : List ℕ) (p w₀ f₀ u₀ end : ℕ) (values : List ℕ) (walk : Walk) (first from used : ℕ) : Type 0 where
   pub d-is : walk .d ≡ nth table 1
   pub filled : (old : List ℕ) → FilledTo table ones shares tape old before p w₀ f₀ u₀ → FilledTo table ones shares tape old values (walk .at) first from used
-  pub none : i ≡ 0 → (walk .at ≡ p) × (first ≡ w₀) × (from ≡ f₀) × (used ≡ u₀)
-  pub one : i ≡ 1 → {fr : FrameCode} {sh : ShapeCode} {wk : Walk} → stepAt table (nth table 1) p ≡ Next fr sh wk
-      → (walk .at ≡ wk .at) × (first ≡ w₀ + sh .wires) × (from ≡ f₀ + nth table 1 * sh .inputs) × (used ≡ u₀ + sh .randoms)
-  pub far : 2 * i ≤ walk .at
+  pub none : end ≤ p + 1 → (walk .at ≡ p) × (first ≡ w₀) × (from ≡ f₀) × (used ≡ u₀)
   pub size-is : length values ≡ length before
 
-pub filling-start : (table : List ℕ) (ones : ℕ) (shares tape before : List ℕ) (walk : Walk) (w f u : ℕ) → walk .d ≡ nth table 1 → FillingTo table ones shares tape before (walk .at) w f u before 0 walk w f u
-filling-start table ones shares tape before walk w f u e = record {
-  d-is = e;
-  filled = λ old g. g;
-  none = λ z. (refl, refl, refl, refl);
-  one = λ z. absurd (omega arith);
-  far = omega arith;
-  size-is = refl;
-}
+pub filling-start : (table : List ℕ) (ones : ℕ) (shares tape before : List ℕ) (walk : Walk) (w f u end : ℕ) → walk .d ≡ nth table 1 → FillingTo table ones shares tape before (walk .at) w f u end before walk w f u
+filling-start table ones shares tape before walk w f u end e = record { d-is = e; filled = λ old g. g; none = λ z. (refl, refl, refl, refl); size-is = refl }
 
 same-step : {fr fr′ : FrameCode} {sh sh′ : ShapeCode} {wk wk′ : Walk} → Next fr sh wk ≡ Next fr′ sh′ wk′ → (sh ≡ sh′) × (wk ≡ wk′)
 same-step e = (cc, cc)
@@ -127,8 +117,16 @@ same-step e = (cc, cc)
 no-step : {fr : FrameCode} {sh : ShapeCode} {wk : Walk} → End ≡ Next fr sh wk → ⊥
 no-step e = let z : _≡_ {A = ℕ} 0 1 = cc in omega arith
 
-module _ {table : List ℕ} {ones : ℕ} {shares tape before : List ℕ} {p w₀ f₀ u₀ : ℕ} {values : List ℕ} {i : ℕ} {walk : Walk} {first from used : ℕ}
-    (t : FillingTo table ones shares tape before p w₀ f₀ u₀ values i walk first from used) where
+-- no frame begins at the table's end
+none-left : {table : List ℕ} {fs : List Frame} {at : ℕ} (b : Between table fs at) → length table ≤ at → b .after ≡ []
+none-left {table} {at = at} b l = go (b .after) refl
+  where
+    go : (after : List Frame) → b .after ≡ after → b .after ≡ []
+    go [] e = e
+    go (f ∷ later) e = absurd (omega (arith, length-drop at table, ap length (b .rest ∙ ap wordsOf e)))
+
+module _ {table : List ℕ} {ones : ℕ} {shares tape before : List ℕ} {p w₀ f₀ u₀ end : ℕ} {values : List ℕ} {walk : Walk} {first from used : ℕ}
+    (t : FillingTo table ones shares tape before p w₀ f₀ u₀ end values walk first from used) where
   -- what the step says at the walk's place
   pub filling-answers : (old : List ℕ) (g : FilledTo table ones shares tape old before p w₀ f₀ u₀) {s : Step} → stepAt table (walk .d) (walk .at) ≡ s
       → let f = t .filled old g in Answers (f .evaluable .accepted) (f .between) (nth table 1) first from s
@@ -136,31 +134,28 @@ module _ {table : List ℕ} {ones : ℕ} {shares tape before : List ℕ} {p w₀
       step-answers (f .evaluable .accepted) (f .between) (second-word (f .evaluable .accepted)) (f .wires-are) (f .from-are) (ap (λ n. stepAt table n (walk .at)) (sym (t .d-is)) ∙ e)
 
   -- one frame more
-  pub filling-next : {fr : FrameCode} {sh : ShapeCode} {wk : Walk} → stepAt table (walk .d) (walk .at) ≡ Next fr sh wk → wk .d ≡ nth table 1 → walk .at + 2 ≤ wk .at → {new : List ℕ}
-      → Fills (FrameValues fr ones (nth table 1) first from used (operandsAt table (nth table 1) (walk .at)) shares tape) first (first + frameWires fr (nth table 1)) values new
-      → FillingTo table ones shares tape before p w₀ f₀ u₀ new (i + 1) wk (first + sh .wires) (from + nth table 1 * sh .inputs) (used + sh .randoms)
-  filling-next {fr} {sh} {wk} e same later {new} g = record {
-    d-is = same;
-    filled = λ old h. let f = t .filled old h in frame-filled f (second-word (f .evaluable .accepted)) (filling-answers old h e) new g;
-    none = λ z. absurd (omega arith);
-    one = λ z e′. let (a, b, c, d) = t .none (omega arith) in
-        let (x, y) = same-step (sym e ∙ ap₂ (stepAt table) (t .d-is) a ∙ e′) in
-        (ap (λ k. k .at) y, ap₂ (λ m k. m + k .wires) b x, ap₂ (λ m k. m + nth table 1 * k .inputs) c x, ap₂ (λ m k. m + k .randoms) d x);
-    far = omega (arith, t .far);
-    size-is = g .size ∙ t .size-is;
-  }
+  module _ {fr : FrameCode} {sh : ShapeCode} {wk : Walk} (e : stepAt table (walk .d) (walk .at) ≡ Next fr sh wk) {new : List ℕ}
+      (g : Fills (FrameValues fr ones (nth table 1) first from used (operandsAt table (nth table 1) (walk .at)) shares tape) first (first + frameWires fr (nth table 1)) values new) where
+    next-filled : (old : List ℕ) → FilledTo table ones shares tape old before p w₀ f₀ u₀ → FilledTo table ones shares tape old new (wk .at) (first + sh .wires) (from + nth table 1 * sh .inputs) (used + sh .randoms)
+    next-filled old h = let f = t .filled old h in frame-filled f (second-word (f .evaluable .accepted)) (filling-answers old h e) new g
 
-  -- the loop ends where no frame is left, or with as many as were asked for
-  pub filling-end : {most r : ℕ} → r ≡ first → (most ≤ i) × (i ≤ most) → 2 ≤ length table → FillsFrames table (record { at = p; first = w₀; from = f₀; used = u₀ }) most ones shares tape before values r
-  filling-end {most} r-is l two = record {
-    one = λ old g m e. let (a, b, c, d) = t .one (omega arith) e in (rw (← a, ← b, ← c, ← d) (t .filled old g), r-is ∙ b);
-    all = λ old g m. absurd (omega (arith, t .far, t .filled old g .between .most));
-    sized = t .size-is;
-  }
+    pub filling-next : wk .d ≡ nth table 1 → walk .at + 2 ≤ wk .at → wk .at < end → FillingTo table ones shares tape before p w₀ f₀ u₀ end new wk (first + sh .wires) (from + nth table 1 * sh .inputs) (used + sh .randoms)
+    filling-next same later l = record { d-is = same; filled = next-filled; none = λ z. absurd (omega (arith, t .none z .0)); size-is = g .size ∙ t .size-is }
 
-  pub filling-done : {most r : ℕ} → r ≡ first → i < most → stepAt table (walk .d) (walk .at) ≡ End → FillsFrames table (record { at = p; first = w₀; from = f₀; used = u₀ }) most ones shares tape before values r
-  filling-done {most} r-is l e = record {
-    one = λ old g m e′. absurd (no-step (sym e ∙ ap₂ (stepAt table) (t .d-is) (t .none (omega arith) .0) ∙ e′));
-    all = λ old g m. all-filled (t .filled old g) (filling-answers old g e);
+    -- the end is reached
+    pub filling-end : end ≤ wk .at → {r : ℕ} → r ≡ first + sh .wires → FillsFrames table (record { at = p; first = w₀; from = f₀; used = u₀ }) end ones shares tape before new r
+    filling-end l r-is = record {
+      one = λ old h z e′. let (a, b, c, d) = t .none z in
+          let (x, y) = same-step (sym e ∙ ap₂ (stepAt table) (t .d-is) a ∙ e′) in
+          (rw (← ap (λ (k : Walk). k .at) y, ← ap₂ (λ (m : ℕ) (k : ShapeCode). m + k .wires) b x, ← ap₂ (λ (m : ℕ) (k : ShapeCode). m + nth table 1 * k .inputs) c x, ← ap₂ (λ (m : ℕ) (k : ShapeCode). m + k .randoms) d x) (next-filled old h), r-is ∙ ap₂ (λ (m : ℕ) (k : ShapeCode). m + k .wires) b x);
+      all = λ old h z. let f = next-filled old h in all-filled f (none-left (f .between) (omega arith));
+      sized = g .size ∙ t .size-is;
+    }
+
+  -- no frame is left
+  pub filling-done : {r : ℕ} → stepAt table (walk .d) (walk .at) ≡ End → FillsFrames table (record { at = p; first = w₀; from = f₀; used = u₀ }) end ones shares tape before values r
+  filling-done e = record {
+    one = λ old g z e′. absurd (no-step (sym e ∙ ap₂ (stepAt table) (t .d-is) (t .none z .0) ∙ e′));
+    all = λ old g z. all-filled (t .filled old g) (filling-answers old g e);
     sized = t .size-is;
   }

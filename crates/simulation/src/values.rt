@@ -104,19 +104,19 @@ pub struct Place {
     pub used: usize,
 }
 
-// The values of at most so many frames from a place on, behind those of the frames before it. The answer is how many wires there are
-// up to their end.
+// The values of the frame at a place and of those behind it that begin before an end, behind those of the frames before it. The
+// answer is how many wires there are up to their end.
 pub fn fill_frames(
     table: &[u16],
     place: Place,
-    most: usize,
+    end: usize,
     ones: u8,
     shares: &[u8],
     tape: &[u8],
     values: &mut [u8],
 ) -> usize
     requires { ⌜ ((old : List ℕ) × FilledTo (now table) ones (now shares) (now tape) old (now values) (place .at) (place .first) (place .from) (place .used)) ⌝ }
-    ensures { λ r. ⌜ FillsFrames (now (table .entry)) place most ones (now (shares .entry)) (now (tape .entry)) (now (values .entry)) (now (values .exit)) r ⌝ }
+    ensures { λ r. ⌜ FillsFrames (now (table .entry)) place end ones (now (shares .entry)) (now (tape .entry)) (now (values .entry)) (now (values .exit)) r ⌝ }
 {
     let d = table[1];
     let n = d as usize;
@@ -124,8 +124,7 @@ pub fn fill_frames(
     let mut first = place.first;
     let mut from = place.from;
     let mut used = place.used;
-    let mut i = 0;
-    while i < most {
+    loop {
         let step = walk.step(table);
         match step {
             Step::Next {
@@ -139,7 +138,9 @@ pub fn fill_frames(
                 from += n * shape.inputs;
                 used += shape.randoms;
                 walk = next;
-                i += 1;
+                if end <= walk.at {
+                    return first;
+                }
             }
             Step::End => {
                 return first;
@@ -149,7 +150,6 @@ pub fn fill_frames(
             }
         }
     }
-    first
 }
 
 // The values of an accepted table's wires.

@@ -35,10 +35,10 @@ pub record FilledTo (table : List ℕ) (ones : ℕ) (shares tape old values : Li
   pub above : (x : ℕ) → w ≤ x → nth values x ≡ nth old x
   pub sized : length values ≡ length old
 
--- frames filled in from a place on: one, where one is asked for and is there; all, where enough are asked for
-pub record FillsFrames (table : List ℕ) (place : Place) (most ones : ℕ) (shares tape values new : List ℕ) (r : ℕ) : Type 0 where
-  pub one : (old : List ℕ) → FilledTo table ones shares tape old values (place .at) (place .first) (place .from) (place .used) → most ≡ 1
+-- frames filled in from a place on: the first alone, where the end is not behind it; all, where the end is the table's
+pub record FillsFrames (table : List ℕ) (place : Place) (end ones : ℕ) (shares tape values new : List ℕ) (r : ℕ) : Type 0 where
+  pub one : (old : List ℕ) → FilledTo table ones shares tape old values (place .at) (place .first) (place .from) (place .used) → end ≤ place .at + 1
       → {fr : Frame} {sh : Shape} {wk : Walk} → stepAt table (nth table 1) (place .at) ≡ Next fr sh wk
       → FilledTo table ones shares tape old new (wk .at) (place .first + sh .wires) (place .from + nth table 1 * sh .inputs) (place .used + sh .randoms) × (r ≡ place .first + sh .wires)
-  pub all : (old : List ℕ) → FilledTo table ones shares tape old values (place .at) (place .first) (place .from) (place .used) → length table ≤ most → Evaluates table ones shares tape old new
+  pub all : (old : List ℕ) → FilledTo table ones shares tape old values (place .at) (place .first) (place .from) (place .used) → length table ≤ end → Evaluates table ones shares tape old new
   pub sized : length new ≡ length values

@@ -19,7 +19,7 @@ returns-2 c =
     let g = w .copy .ensures in
     record {
       one = λ old f m h. input-filled f (k .before .if1 .left) g h;
-      all = λ old f m. absurd (omega (arith, headed (f .evaluable .accepted)));
+      all = λ old f m. absurd (omega (arith, s .pre .1, m));
       sized = g .size;
     }
 

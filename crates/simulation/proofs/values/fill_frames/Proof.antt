@@ -6,7 +6,8 @@ use lib.ListN.{length}
 use borrow.Author.Needs.{needs}
 use Rattle.circuit.specs.Limits.{wireLimit}
 use Rattle.circuit.specs.Lists.{nth}
-use Rattle.frames.specs.Walk.{operandsAt}
+use Rattle.frames.specs.declared.walk.Step.the-variants.{Next}
+use Rattle.frames.specs.Walk.{operandsAt, stepAt}
 use Rattle.simulation.proofs.values.fill_frames.Statement.{statement}
 use Rattle.simulation.proofs.values.fill_frames.Tie as tie
 use Rattle.gadgets.proofs.Walking.{headed, second-word, Met}
@@ -14,30 +15,29 @@ use Rattle.simulation.specs.Internal.Walked.{FilledTo}
 use Rattle.simulation.proofs.Evaluating.{room-in, inputs-in, draws-in, FillingTo, filling-start, filling-answers, filling-next, filling-end, filling-done}
 
 abbrev Inv-loop : tie.InvT-loop
-Inv-loop table most ones shares tape values₀ d n walk₀ first₀ from₀ used₀ i₀ values walk first from used i =
-    (i ≤ most) × FillingTo table ones shares tape values₀ (walk₀ .at) first₀ from₀ used₀ values i walk first from used
+Inv-loop table end ones shares tape values₀ d n walk₀ first₀ from₀ used₀ values walk first from used = FillingTo table ones shares tape values₀ (walk₀ .at) first₀ from₀ used₀ end values walk first from used
 
 abbrev μ-loop : tie.MeasureT-loop
-μ-loop table most ones shares tape values₀ d n walk₀ first₀ from₀ used₀ i₀ values walk first from used i = most - i
+μ-loop table end ones shares tape values₀ d n walk₀ first₀ from₀ used₀ values walk first from used = length table - walk .at
 
 abbrev start : tie.At-loop Inv-loop μ-loop → tie.Start Inv-loop μ-loop
 start c = c .before .before .before .before .before .before
 
 -- what is filled in at the loop's head
 abbrev so-far : (c : tie.At-loop Inv-loop μ-loop) → let s = start c in FilledTo (s .args .table .now) (s .args .ones) (s .args .shares .now) (s .args .tape .now) (s .pre .0) (c .loop .values) (c .loop .walk .at) (c .loop .first) (c .loop .from) (c .loop .used)
-so-far c = c .loop .inv .1 .filled (start c .pre .0) (start c .pre .1)
+so-far c = c .loop .inv .filled (start c .pre .0) (start c .pre .1)
 
 -- the frame that a turn meets, and its words
 abbrev head : tie.After-step2 Inv-loop μ-loop → tie.At-loop Inv-loop μ-loop
-head c = c .before .before .before .before
+head c = c .before .before .before
 
 met : (c : tie.After-step2 Inv-loop μ-loop) → let h = head c in let f = so-far h in let g = c .step2 .given .0 in
     Met (f .evaluable .accepted) (f .between) (nth (start h .args .table .now) 1) (h .loop .first) (h .loop .from) (g .0) (g .1 .0) (g .1 .1 .0)
-met c = let h = head c in filling-answers (h .loop .inv .1) (start h .pre .0) (start h .pre .1) (sym (c .before .before .step .ensures) ∙ c .step2 .given .1)
+met c = let h = head c in filling-answers (h .loop .inv) (start h .pre .0) (start h .pre .1) (sym (c .before .before .step .ensures) ∙ c .step2 .given .1)
 
 words : (c : tie.After-operands Inv-loop μ-loop) → let h = head (c .before .before) in let table = start h .args .table .now in
     c .operands .result .now ≡ operandsAt table (nth table 1) (h .loop .walk .at)
-words c = let h = head (c .before .before) in c .operands .ensures ∙ ap (λ n. operandsAt (start h .args .table .now) n (h .loop .walk .at)) (h .loop .inv .1 .d-is)
+words c = let h = head (c .before .before) in c .operands .ensures ∙ ap (λ n. operandsAt (start h .args .table .now) n (h .loop .walk .at)) (h .loop .inv .d-is)
 
 -- the counts behind it
 record Counts (c : tie.After-step2 Inv-loop μ-loop) : Type 0 where
@@ -58,11 +58,23 @@ write-frame-requires c κs =
 abbrev turn : tie.After-struct-known3 Inv-loop μ-loop → tie.After-step2 Inv-loop μ-loop
 turn c = c .before .before .before .before .before .before .before .before .before
 
+-- the step's answer, and the values of the frame
+told : (c : tie.After-struct-known3 Inv-loop μ-loop) → let t = turn c in let h = head t in let g = t .step2 .given .0 in stepAt (start h .args .table .now) (h .loop .walk .d) (h .loop .walk .at) ≡ Next (g .0) (g .1 .0) (g .1 .1 .0)
+told c = sym (turn c .before .before .step .ensures) ∙ turn c .step2 .given .1
+
 loop-again : tie.Need-loop-again Inv-loop μ-loop
 loop-again c =
-    let t = turn c in
-    let w = c .before .before .before .before .before in
-    (omega arith, filling-next (head t .loop .inv .1) (sym (t .before .before .step .ensures) ∙ t .step2 .given .1) (met t .same) (met t .later) (rw (words (w .before .before)) at (w .write-frame .ensures)))
+    let k = c .before .before in
+    let t = turn k in
+    let w = k .before .before .before .before .before in
+    filling-next (head t .loop .inv) (told k) (rw (words (w .before .before)) at (w .write-frame .ensures)) (met t .same) (met t .later) (c .if1 .left)
+
+returns : tie.Need-returns Inv-loop μ-loop
+returns c =
+    let k = c .before .before in
+    let t = turn k in
+    let w = k .before .before .before .before .before in
+    filling-end (head t .loop .inv) (told k) (rw (words (w .before .before)) at (w .write-frame .ensures)) (c .if1 .taken) refl
 
 pub fill-frames-spec : {M : Type 1} → statement M
 fill-frames-spec =
@@ -72,21 +84,20 @@ fill-frames-spec =
     μ-loop
     (λ c. omega (arith, headed (c .before .before .before .before .before .pre .1 .evaluable .accepted)))
     (λ c. record { fits = omega (arith, second-word (c .before .before .before .before .before .pre .1 .evaluable .accepted)) })
-    (λ c. (omega arith, filling-start _ _ _ _ _ _ _ _ _ refl))
+    (λ c. filling-start _ _ _ _ _ _ _ _ _ _ refl)
     (λ c κs. search needs) (λ c. search needs) (λ c κs. search needs)
     write-frame-requires
     (λ c. record { fits = omega (arith, counts (c .before .before .before .before .before .before .before) .wires) })
     (λ c. let t = c .before .before .before .before .before .before .before .before in record { fits = omega (arith, counts t .shares, start (head t) .good .1 .1 .1 .1 .0 .0) })
     (λ c. let t = c .before .before .before .before .before .before .before .before in record { fits = omega (arith, counts t .shares, start (head t) .good .1 .1 .1 .1 .0 .0) })
     (λ c. record { fits = omega (arith, counts (turn c) .randoms, start (head (turn c)) .good .1 .1 .1 .1 .1 .0 .0) })
-    (λ c. let t = turn c in record { fits = omega (arith, t .before .before .before .loop-test .taken, start (head t) .fits) })
-    (λ c. omega arith)
+    (λ c. returns c .sized)
+    returns
+    (λ c. let t = turn (c .before .before) in omega (arith, met t .later, met t .onward .most))
     loop-again
     (λ c. search needs)
-    (λ c. c .before .before .before .before .loop .inv .1 .size-is)
-    (λ c. let h = c .before .before .before .before in filling-done (h .loop .inv .1) refl (c .before .before .before .loop-test .taken) (sym (c .before .before .step .ensures) ∙ c .enum-told .given .1))
+    (λ c. c .before .before .before .loop .inv .size-is)
+    (λ c. filling-done (c .before .before .before .loop .inv) (sym (c .before .before .step .ensures) ∙ c .enum-told .given .1))
     (λ c. search needs)
-    (λ c. c .before .before .before .before .loop .inv .1 .size-is)
-    (λ c. let h = c .before .before .before .before in absurd (filling-answers (h .loop .inv .1) (start h .pre .0) (start h .pre .1) (sym (c .before .before .step .ensures) ∙ c .enum-told2 .given .1)))
-    (λ c. c .before .loop .inv .1 .size-is)
-    (λ c. let h = c .before in filling-end (h .loop .inv .1) refl (c .loop-test .left, h .loop .inv .0) (headed (start h .pre .1 .evaluable .accepted))))
+    (λ c. c .before .before .before .loop .inv .size-is)
+    (λ c. let h = c .before .before .before in absurd (filling-answers (h .loop .inv) (start h .pre .0) (start h .pre .1) (sym (c .before .before .step .ensures) ∙ c .enum-told2 .given .1))))
