@@ -8,15 +8,14 @@ use native.Mathlib.Omega.{arith}
 use lib.ListN.{length, take, drop, replicate}
 use lib.Seq.{sets, sets-eq, length-sets, slice, length-slice, length-take-le, take-add, take-at, drop-at}
 use Rattle.semantics.specs.Counts.{freeBits}
-use Rattle.circuit.specs.Limits.{wireLimit}
 use Rattle.circuit.specs.Lists.{nth}
 use Rattle.circuit.specs.Circuit.{Circuit, size, empty}
 use Rattle.circuit.proofs.Building.{build-shares}
-use Rattle.circuit.proofs.Exact.{accepted-size}
 use Rattle.semantics.specs.Values.{bits, at, valuesOf}
 use Rattle.gadgets.specs.Internal.Accepting.{AcceptedTable, circuitIn}
 use Rattle.gadgets.proofs.Walking.{second-word}
 use Rattle.simulation.specs.Internal.Evaluating.{packed, Packs, Evaluable, Evaluates}
+use Rattle.expansion.specs.Internal.Expanding.{Expanded}
 use Rattle.counting.specs.Counting.{pairCount}
 use Rattle.counting.specs.Internal.Pairs.{completed, freeOf}
 use Rattle.counting.specs.Internal.Words.{FreeWords, allShares}
@@ -120,7 +119,7 @@ module _ {table secrets : List ℕ} (k : Countable table secrets) {plan : Plan} 
         part-is 0 ((others + 1) * length secrets) shares (omega arith) (omega (arith, buffer, sizes .shares)) ∙ ap (take ((others + 1) * length secrets)) (shares-are ∙ sets-eq L (replicate 32 0) 0 (omega (arith, all, sizes .shares)))
         ∙ take-at L (drop (0 + length L) (replicate 32 0)) ((others + 1) * length secrets) all
 
-    pub evaluable : {room : ℕ} → wireLimit < room → Evaluable table sharing tape room
+    pub evaluable : {room : ℕ} → plan .wires < room → Evaluable table sharing tape room
     evaluable l =
         let s = sizes in
         let n : others + 1 ≡ circuitIn table .d = omega (arith, s .some, p .others-are) in
@@ -128,11 +127,11 @@ module _ {table secrets : List ℕ} (k : Countable table secrets) {plan : Plan} 
           accepted = k .accepted;
           shared = ap length sharing-is ∙ all ∙ ap₂ _*_ n (k .sized) ∙ mul-comm (circuitIn table .d) (circuitIn table .inputs);
           drawn = ap length tape-is ∙ length-slice (plan .start) (plan .free) words (omega (arith, s .few, f .sized)) ∙ omega (arith, p .free-is, p .start-is ∙ ap (λ m. m * circuitIn table .inputs) (p .others-are));
-          roomy = omega (arith, accepted-size (k .accepted));
+          roomy = omega (arith, p .wires-are);
         }
 
     pub held : {old new : List ℕ} → Evaluates table 255 sharing tape old new → HoldsPairs table secrets batch old new
-    held {old} {new} e = record { are = are; none = e .above wireLimit (accepted-size (k .accepted)); sized = e .sized }
+    held {old} {new} e = record { are = are; none = e .above (size (circuitIn table)) (omega arith); sized = e .sized }
       where
         valued : (o s n x : ℕ) → ℕ
         valued o s n x = packed 8 (λ i. let bs = freeOf n (8 * batch + i) in at (valuesOf (circuitIn table .wires) (completed o (bits secrets) bs) (drop s bs)) x)
@@ -147,6 +146,11 @@ module _ {table secrets : List ℕ} (k : Countable table secrets) {plan : Plan} 
         are x l = e .known 8 (λ i. completed others (bits secrets) (freeOf (plan .free) (8 * batch + i))) drawn refl
             (rw sharing-is (shares-packed f (sizes .few) others secrets taken (k .bit))) (subst (Packs 8 drawn) (sym tape-is) (rw (← sizes .starts) (tape-packed f (sizes .few) others secrets taken))) x l
             ∙ ap₂ (λ o m. valued o (o * m) (plan .free) x) (p .others-are) (k .sized) ∙ ap (λ n. valued (circuitIn table .d - 1) ((circuitIn table .d - 1) * circuitIn table .inputs) n x) (p .free-is)
+
+-- the expansion, by the plan's own numbers
+pub plan-expanded : {table left right constants listed : List ℕ} {wires frames : ℕ} (plan : Plan) → plan .wires ≡ wires → plan .listed ≡ frames → Expanded table wires left right constants listed wires frames
+    → Expanded table (plan .wires) left right constants listed (plan .wires) (plan .listed)
+plan-expanded plan e f x = rw (e, f) x
 
 -- the number of pairs, as the code multiplies it
 pub pairs-are : {table : List ℕ} {plan : Plan} → Planned table plan → plan .batches * plan .lanes ≡ pairCount (circuitIn table)

@@ -2,19 +2,22 @@
 ghost use mathlib.Core.Path.{_≡_};
 ghost use Prim.Native.Nat.{ℕ, _+_, _≤_, _<_};
 ghost use lib.ListN.{length, take};
-ghost use Rattle.circuit.specs.Limits.{wireLimit};
 ghost use Rattle.circuit.specs.Lists.{nth};
-ghost use Rattle.circuit.specs.Circuit.{size};
 ghost use Rattle.gadgets.specs.Internal.Accepting.{circuitIn};
 ghost use Rattle.expansion.specs.Internal.Expanding.{Expanded};
 ghost use Rattle.counting.specs.Counting.{pairCount};
-ghost use Rattle.counting.specs.Internal.Tallying.{Countable, Numbered, Divides, Planned, HoldsPairs, ReadIn, Tallied, ListsCounts};
+ghost use Rattle.counting.specs.Internal.Tallying.{Countable, Numbered, Listable, Divides, Planned, HoldsPairs, ReadIn, Tallied, ListsCounts};
 use super::lanes;
 use super::listing;
 use super::numbers;
 use super::pairs;
 use expansion::evaluate::evaluate;
 use expansion::expand;
+
+// Wires of a circuit for which small sheets do: a sheet is set to 0 at each call, and a large one takes longer than such a circuit.
+const FEW: usize = 255;
+// Places of a small sheet.
+const FEW_ROOM: usize = FEW + 1;
 
 // How the pairs of a set of secret bits are gone through.
 pub struct Plan {
@@ -85,7 +88,7 @@ fn evaluate_pairs(
     batch: usize,
     values: &mut [u8],
 )
-    requires { ⌜ Countable (now table) (now secrets) × Planned (now table) plan × Expanded (now table) (now left) (now right) (now constants) (now listed) (size (circuitIn (now table))) (plan .listed) × (wireLimit < length (now values)) × (nth (now values) wireLimit ≡ 0) ⌝ }
+    requires { ⌜ Countable (now table) (now secrets) × Planned (now table) plan × Expanded (now table) (plan .wires) (now left) (now right) (now constants) (now listed) (plan .wires) (plan .listed) × (plan .wires < length (now values)) × (nth (now values) (plan .wires) ≡ 0) ⌝ }
     ensures { λ _. ⌜ HoldsPairs (now (table .entry)) (now (secrets .entry)) batch (now (values .entry)) (now (values .exit)) ⌝ }
 {
     let start = plan.start;
@@ -121,13 +124,13 @@ fn tally_set(
     secrets: &[u8],
     read: &[u16; 8],
     found: usize,
+    values: &mut [u8],
     tally: &mut [u32; 256],
 )
-    requires { ⌜ Countable (now table) (now secrets) × Planned (now table) plan × Expanded (now table) (now left) (now right) (now constants) (now listed) (size (circuitIn (now table))) (plan .listed)
+    requires { ⌜ Countable (now table) (now secrets) × Planned (now table) plan × Expanded (now table) (plan .wires) (now left) (now right) (now constants) (now listed) (plan .wires) (plan .listed) × (plan .wires < length (now values)) × (nth (now values) (plan .wires) ≡ 0)
         × ReadIn (now table) (now read) found × (length (now tally) ≡ 256) × ((n : ℕ) → nth (now tally) n ≡ 0) ⌝ }
-    ensures { λ _. ⌜ Tallied (now (table .entry)) (now (secrets .entry)) (take found (now (read .entry))) (now (tally .exit)) ⌝ }
+    ensures { λ _. ⌜ Tallied (now (table .entry)) (now (secrets .entry)) (take found (now (read .entry))) (now (tally .exit)) × (nth (now (values .exit)) (plan .wires) ≡ 0) ⌝ }
 {
-    let mut values = [0u8; expand::ROOM];
     let mut batch = 0;
     while batch < plan.batches {
         evaluate_pairs(
@@ -139,15 +142,72 @@ fn tally_set(
             plan,
             secrets,
             batch,
-            &mut values,
+            values,
         );
-        let numbers = lanes::gather(&values, read, found);
+        let numbers = lanes::gather(values, read, found);
         lanes::add(tally, numbers, plan.lanes);
         batch += 1;
     }
 }
 
-// Lists the counts under both sets of secret bits, and answers how many pairs a set has.
+// Lists the counts under both sets of secret bits, on given sheets, and answers how many pairs a set has.
+fn list_on(
+    table: &[u16],
+    secrets: &[u8],
+    inputs: usize,
+    randoms: usize,
+    wires: usize,
+    read: &[u16; 8],
+    found: usize,
+    left: &mut [u16],
+    right: &mut [u16],
+    constants: &mut [u8],
+    values: &mut [u8],
+    counts: &mut [u32],
+) -> usize
+    requires { ⌜ Listable (now table) (now secrets) inputs randoms wires (now read) found (now counts) × (wires < length (now left)) × (wires < length (now right)) × (wires < length (now constants)) × (wires < length (now values)) × (nth (now values) wires ≡ 0) ⌝ }
+    ensures { λ r. ⌜ (r ≡ pairCount (circuitIn (now (table .entry)))) × ListsCounts (now (table .entry)) (now (secrets .entry)) inputs (take found (now (read .entry))) (now (counts .entry)) (now (counts .exit)) ⌝ }
+{
+    let mut listed = [0u16; expand::LIST_WORDS];
+    let frames = expand::expand(table, wires, left, right, constants, &mut listed);
+    let plan = plan_pairs(table, inputs, randoms, wires, frames);
+    let pairs = plan.batches * plan.lanes;
+    let one = &secrets[0..inputs];
+    let end = secrets.len();
+    let other = &secrets[inputs..end];
+    let mut first = [0u32; 256];
+    let mut second = [0u32; 256];
+    tally_set(
+        table,
+        left,
+        right,
+        constants,
+        &listed,
+        plan,
+        one,
+        read,
+        found,
+        values,
+        &mut first,
+    );
+    tally_set(
+        table,
+        left,
+        right,
+        constants,
+        &listed,
+        plan,
+        other,
+        read,
+        found,
+        values,
+        &mut second,
+    );
+    listing::write_list(&first, &second, numbers::power(found), pairs as u32, counts);
+    pairs
+}
+
+// The same on sheets of its own.
 pub(crate) fn list_counts(
     table: &[u16],
     secrets: &[u8],
@@ -158,45 +218,45 @@ pub(crate) fn list_counts(
     found: usize,
     counts: &mut [u32],
 ) -> usize
-    requires { ⌜ Numbered (now table) inputs randoms wires × (length (now secrets) ≡ inputs + inputs) × ((x : ℕ) → nth (now secrets) x ≤ 1) × ReadIn (now table) (now read) found × (1024 ≤ length (now counts)) ⌝ }
+    requires { ⌜ Listable (now table) (now secrets) inputs randoms wires (now read) found (now counts) ⌝ }
     ensures { λ r. ⌜ (r ≡ pairCount (circuitIn (now (table .entry)))) × ListsCounts (now (table .entry)) (now (secrets .entry)) inputs (take found (now (read .entry))) (now (counts .entry)) (now (counts .exit)) ⌝ }
 {
-    let mut left = [0u16; expand::ROOM];
-    let mut right = [0u16; expand::ROOM];
-    let mut constants = [0u8; expand::ROOM];
-    let mut listed = [0u16; expand::LIST_WORDS];
-    let frames = expand::expand(table, &mut left, &mut right, &mut constants, &mut listed);
-    let plan = plan_pairs(table, inputs, randoms, wires, frames);
-    let pairs = plan.batches * plan.lanes;
-    let one = &secrets[0..inputs];
-    let end = secrets.len();
-    let other = &secrets[inputs..end];
-    let mut first = [0u32; 256];
-    let mut second = [0u32; 256];
-    tally_set(
+    if FEW < wires {
+        let mut left = [0u16; expand::ROOM];
+        let mut right = [0u16; expand::ROOM];
+        let mut constants = [0u8; expand::ROOM];
+        let mut values = [0u8; expand::ROOM];
+        return list_on(
+            table,
+            secrets,
+            inputs,
+            randoms,
+            wires,
+            read,
+            found,
+            &mut left,
+            &mut right,
+            &mut constants,
+            &mut values,
+            counts,
+        );
+    }
+    let mut left = [0u16; FEW_ROOM];
+    let mut right = [0u16; FEW_ROOM];
+    let mut constants = [0u8; FEW_ROOM];
+    let mut values = [0u8; FEW_ROOM];
+    list_on(
         table,
-        &left,
-        &right,
-        &constants,
-        &listed,
-        plan,
-        one,
+        secrets,
+        inputs,
+        randoms,
+        wires,
         read,
         found,
-        &mut first,
-    );
-    tally_set(
-        table,
-        &left,
-        &right,
-        &constants,
-        &listed,
-        plan,
-        other,
-        read,
-        found,
-        &mut second,
-    );
-    listing::write_list(&first, &second, numbers::power(found), pairs as u32, counts);
-    pairs
+        &mut left,
+        &mut right,
+        &mut constants,
+        &mut values,
+        counts,
+    )
 }

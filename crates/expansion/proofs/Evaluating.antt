@@ -7,7 +7,6 @@ use native.Mathlib.Numerals.{add-one}
 use native.Mathlib.Omega.{arith}
 use lib.Bits.{bitXor}
 use lib.ListN.{length, length-drop, List·getD-eq-default}
-use Rattle.circuit.specs.Limits.{wireLimit}
 use Rattle.circuit.specs.Lists.{nth}
 use Rattle.circuit.specs.Wires.{Wire}
 use Rattle.circuit.specs.Circuit.{Circuit, size}
@@ -19,7 +18,7 @@ use Rattle.frames.specs.declared.walk.Step.the-variants.{Next, Refused, End}
 use Rattle.frames.specs.Walk.{stepAt}
 use Rattle.gadgets.specs.Internal.Gates.{gateAt}
 use Rattle.gadgets.specs.Internal.Accepting.{AcceptedTable, circuitIn}
-use Rattle.gadgets.proofs.Walking.{whole, whole-few, whole-ordered, second-word, wires-grow, Answers, step-answers}
+use Rattle.gadgets.proofs.Walking.{whole, whole-ordered, second-word, wires-grow, Answers, step-answers}
 use Rattle.simulation.specs.Internal.Filling.{Known, Fills}
 use Rattle.simulation.specs.Internal.Evaluating.{packed, Packs, Evaluable, Evaluates}
 use Rattle.simulation.proofs.Packing.{packed-none}
@@ -27,11 +26,11 @@ use Rattle.simulation.proofs.Filled.{known-all}
 use Rattle.simulation.specs.Internal.Walked.{valuesAt, FilledTo, FillsFrames}
 use Rattle.simulation.proofs.Equations.{gate-value}
 use Rattle.simulation.specs.declared.values.Place.{Place}
-use Rattle.expansion.specs.Internal.Expanding.{EarlyRun, SumRun, AffineRun, Listed, stepWires, endOf, Expanded}
+use Rattle.expansion.specs.Internal.Expanding.{EarlyRun, SumRun, Runnable, AffineRun, Listed, Runs, stepWires, endOf, Expanded}
 
--- there is no wire wireLimit, and its value is 0
-no-value : (ws : List Wire) → length ws ≤ wireLimit → (n : ℕ) (sharings tapes : ℕ → List Bool) → valuesAt ws n sharings tapes wireLimit ≡ 0
-no-value ws few n sharings tapes = ap (packed n) (fun-ext (λ l. List·getD-eq-default (valuesOf ws (sharings l) (tapes l)) false (omega (arith, values-length (sharings l) (tapes l) [] ws)))) ∙ packed-none n
+-- behind all wires the value is 0
+no-value : (ws : List Wire) (behind : ℕ) → length ws ≤ behind → (n : ℕ) (sharings tapes : ℕ → List Bool) → valuesAt ws n sharings tapes behind ≡ 0
+no-value ws behind few n sharings tapes = ap (packed n) (fun-ext (λ l. List·getD-eq-default (valuesOf ws (sharings l) (tapes l)) false (omega (arith, values-length (sharings l) (tapes l) [] ws)))) ∙ packed-none n
 
 -- the values of the wires below w are filled in
 pub record EvaluatedTo (ws : List Wire) (shares tape old values : List ℕ) (w : ℕ) : Type 0 where
@@ -41,11 +40,14 @@ pub record EvaluatedTo (ws : List Wire) (shares tape old values : List ℕ) (w :
   pub sized : length values ≡ length old
 
 -- a run of sums: what its code rests on, and its values
-module _ {table left right constants : List ℕ} (a : AcceptedTable table) {from to : ℕ} (r : AffineRun left right constants (whole a .wires) from to) (made : to ≤ size (whole a)) where
-  run-early : (wireLimit < length left) × (wireLimit < length right) × (wireLimit < length constants) → EarlyRun left right constants from to
+module _ {table : List ℕ} {behind : ℕ} {left right constants : List ℕ} (a : AcceptedTable table) (all : behind ≡ size (circuitIn table)) {from to : ℕ} (r : AffineRun behind left right constants (whole a .wires) from to) (made : to ≤ size (whole a)) where
+  within : size (whole a) ≤ behind
+  within = omega (arith, all, ap size (a .circuit-is))
+
+  run-early : (behind < length left) × (behind < length right) × (behind < length constants) → EarlyRun behind left right constants from to
   run-early rooms = record {
     rising = r .rising;
-    most = omega (arith, whole-few a);
+    most = omega (arith, within);
     left-room = rooms .0;
     right-room = rooms .1;
     room = rooms .2;
@@ -53,12 +55,12 @@ module _ {table left right constants : List ℕ} (a : AcceptedTable table) {from
     right-early = λ x l u. r .gates x l u .right-early;
   }
 
-  pub run-evaluated : {shares tape old values new : List ℕ} → Fills (SumRun left right constants from to) from to values new → EvaluatedTo (whole a .wires) shares tape old values from → EvaluatedTo (whole a .wires) shares tape old new to
+  pub run-evaluated : {shares tape old values new : List ℕ} → Fills (SumRun behind left right constants from to) from to values new → EvaluatedTo (whole a .wires) shares tape old values from → EvaluatedTo (whole a .wires) shares tape old new to
   run-evaluated {shares} {tape} g f = record {
     known = λ n sharings tapes full shared drawn.
         let ws = whole a .wires in
         let v = valuesAt ws n sharings tapes in
-        let none = no-value ws (whole-few a) n sharings tapes in
+        let none = no-value ws behind within n sharings tapes in
         let sums : (x : ℕ) → from ≤ x → x < to → v x ≡ bitXor (bitXor (v (nth left x)) (v (nth right x))) (nth constants x) = λ x l u. gate-value ws (whole-ordered a) 255 shares tape n sharings tapes full shared drawn x (gateAt ws x) (omega arith) refl ∙ r .gates x l u .is shares tape v _ none in
         known-all g v (record { none = none; sums = sums }) (f .known n sharings tapes full shared drawn);
     above = λ x l. g .above x l ∙ f .above x (omega (arith, r .rising));
@@ -67,20 +69,20 @@ module _ {table left right constants : List ℕ} (a : AcceptedTable table) {from
 
 -- the wires up to the end of the first i listed frames are filled in
 pub record EvaluatingTo (table left right constants listed : List ℕ) (wires count : ℕ) (shares tape old values : List ℕ) (w i : ℕ) : Type 0 where
-  pub expanded : Expanded table left right constants listed wires count
+  pub expanded : Expanded table wires left right constants listed wires count
   pub evaluable : Evaluable table shares tape (length old)
   pub all : wires ≡ size (circuitIn table)
-  pub room : wireLimit < length old
-  pub zero : nth old wireLimit ≡ 0
+  pub room : wires < length old
+  pub zero : nth old wires ≡ 0
   pub most : i ≤ count
   pub end-is : w ≡ endOf table listed i
   pub evaluated : EvaluatedTo (whole (expanded .accepted) .wires) shares tape old values w
 
-pub evaluating-start : {table left right constants listed shares tape old : List ℕ} {wires count : ℕ} → Expanded table left right constants listed (size (circuitIn table)) count
-    → Evaluable table shares tape (length old) → wires ≡ size (circuitIn table) → wireLimit < length old → nth old wireLimit ≡ 0
+pub evaluating-start : {table left right constants listed shares tape old : List ℕ} {wires count : ℕ} → Expanded table wires left right constants listed wires count
+    → Evaluable table shares tape (length old) → wires ≡ size (circuitIn table) → wires < length old → nth old wires ≡ 0
     → EvaluatingTo table left right constants listed wires count shares tape old old 0 0
-evaluating-start {table} {left} {right} {constants} {listed} {count = count} x evaluable all room zero = record {
-  expanded = subst (λ (n : ℕ). Expanded table left right constants listed n count) (sym all) x;
+evaluating-start x evaluable all room zero = record {
+  expanded = x;
   evaluable = evaluable;
   all = all;
   room = room;
@@ -92,7 +94,7 @@ evaluating-start {table} {left} {right} {constants} {listed} {count = count} x e
 
 module _ {table left right constants listed : List ℕ} {wires count : ℕ} {shares tape old values : List ℕ} {w i : ℕ}
     (t : EvaluatingTo table left right constants listed wires count shares tape old values w i) where
-  abbrev e : Expanded table left right constants listed wires count
+  abbrev e : Expanded table wires left right constants listed wires count
   e = t .expanded
 
   abbrev a : AcceptedTable table
@@ -102,22 +104,26 @@ module _ {table left right constants listed : List ℕ} {wires count : ℕ} {sha
   ws = whole a .wires
 
   -- a run from here on
-  asks : {to : ℕ} → AffineRun left right constants ws w to → to ≤ length ws → EarlyRun left right constants w to × (wireLimit < length values) × (nth values wireLimit ≡ 0)
-  asks r made = (run-early a r made (e .left-room, e .right-room, e .room), omega (arith, t .room, t .evaluated .sized), t .evaluated .above wireLimit (omega (arith, r .rising, whole-few a)) ∙ t .zero)
+  asks : {to : ℕ} → AffineRun wires left right constants ws w to → to ≤ length ws → Runnable wires left right constants w to values
+  asks r made = record {
+    early = run-early a (t .all) r made (e .left-room, e .right-room, e .room);
+    room = omega (arith, t .room, t .evaluated .sized);
+    none = t .evaluated .above wires (omega (arith, r .rising, t .all, ap size (a .circuit-is))) ∙ t .zero;
+  }
 
   -- behind the last listed frame
   module _ (done : count ≤ i) where
-    last : AffineRun left right constants ws w wires
-    last = let same : count ≡ i = omega (arith, t .most) in subst (λ (n : ℕ). AffineRun left right constants ws n wires) (ap (endOf table listed) same ∙ sym (t .end-is)) (e .last)
+    last : AffineRun wires left right constants ws w wires
+    last = let same : count ≡ i = omega (arith, t .most) in subst (λ (n : ℕ). AffineRun wires left right constants ws n wires) (ap (endOf table listed) same ∙ sym (t .end-is)) (e .last)
 
     all-made : wires ≡ length ws
     all-made = t .all ∙ ap size (a .circuit-is)
 
-    pub last-asks : EarlyRun left right constants w wires × (wireLimit < length values) × (nth values wireLimit ≡ 0)
+    pub last-asks : Runnable wires left right constants w wires values
     last-asks = asks last (omega (arith, all-made))
 
-    pub all-evaluated : {new : List ℕ} → Fills (SumRun left right constants w wires) w wires values new → Evaluates table 255 shares tape old new
-    all-evaluated g = let f = run-evaluated a last (omega (arith, all-made)) g (t .evaluated) in record {
+    pub all-evaluated : {new : List ℕ} → Runs left right constants w wires values new → Evaluates table 255 shares tape old new
+    all-evaluated g = let f = run-evaluated a (t .all) last (omega (arith, all-made)) (g .fills last-asks) (t .evaluated) in record {
       known = λ n sharings tapes full shared drawn x l. rw (a .circuit-is) (f .known n sharings tapes full shared drawn x (omega arith) (omega (arith, t .all)));
       above = λ x l. f .above x (omega (arith, t .all));
       sized = f .sized;
@@ -140,16 +146,16 @@ module _ {table left right constants listed : List ℕ} {wires count : ℕ} {sha
     abbrev d : ℕ
     d = nth table 1
 
-    abbrev f : Listed left right constants a (endOf table listed i) place first from used wires
+    abbrev f : Listed wires left right constants a (endOf table listed i) place first from used wires
     f = e .frames i l
 
-    pub gap : AffineRun left right constants ws w first
-    gap = subst (λ (n : ℕ). AffineRun left right constants ws n first) (sym (t .end-is)) (f .gap)
+    pub gap : AffineRun wires left right constants ws w first
+    gap = subst (λ (n : ℕ). AffineRun wires left right constants ws n first) (sym (t .end-is)) (f .gap)
 
     pub first-made : first ≤ length ws
     first-made = omega (arith, f .first-is, wires-grow a (f .between))
 
-    pub frame-asks : EarlyRun left right constants w first × (wireLimit < length values) × (nth values wireLimit ≡ 0)
+    pub frame-asks : Runnable wires left right constants w first values
     frame-asks = asks gap first-made
 
     pub there : place < length table
@@ -162,9 +168,9 @@ module _ {table left right constants listed : List ℕ} {wires count : ℕ} {sha
     no-end h = omega (arith, f .inside, length-drop place table, ap length (f .between .rest ∙ ap wordsOf (here h)))
 
     -- behind the run before it
-    module _ {mid : List ℕ} (g : Fills (SumRun left right constants w first) w first values mid) where
+    module _ {mid : List ℕ} (g : Runs left right constants w first values mid) where
       abbrev pub filled : FilledTo table 255 shares tape old mid place first from used
-      filled = let v = run-evaluated a gap first-made g (t .evaluated) in record {
+      filled = let v = run-evaluated a (t .all) gap first-made (g .fills frame-asks) (t .evaluated) in record {
         evaluable = record { accepted = a; shared = t .evaluable .shared; drawn = t .evaluable .drawn; roomy = t .evaluable .roomy };
         between = f .between;
         wires-are = f .first-is;

@@ -10,7 +10,6 @@ use lib.ListN.{length, set, length-set}
 use lib.Seq.{getD-set-same, getD-set-other}
 use borrow.Author.Tests.{ltb-true, ltb-false}
 use Rattle.semantics.specs.Counts.{freeBits}
-use Rattle.circuit.specs.Limits.{wireLimit}
 use Rattle.circuit.specs.Lists.{nth}
 use Rattle.circuit.specs.Circuit.{Circuit, size, empty}
 use Rattle.circuit.specs.Composition.{build}
@@ -22,7 +21,7 @@ use Rattle.frames.specs.declared.walk.Step.the-variants.{Next}
 use Rattle.frames.specs.declared.kinds.Shape.{Shape as ShapeCode}
 use Rattle.frames.specs.Walk.{stepAt}
 use Rattle.gadgets.specs.Internal.Accepting.{AcceptedTable, circuitIn, Between}
-use Rattle.gadgets.proofs.Walking.{whole, so-far, between-start, all-built, inputs-grow, randoms-grow, Met}
+use Rattle.gadgets.proofs.Walking.{whole, so-far, between-start, all-built, wires-grow, inputs-grow, randoms-grow, Met}
 use Rattle.expansion.specs.declared.expand.Affine.{Affine}
 use Rattle.expansion.specs.Internal.Expanding.{affineOf, AffineRun, Listed, stepWires, endOf, Expanded, Entry, Enters}
 use Rattle.expansion.proofs.Summing.{frame-sum, run-kept, run-more}
@@ -47,8 +46,9 @@ entry {count} {place} {first} {from} {used} old room =
     }
 
 -- the frames before the walk's place are expanded; the listed ones are at most as many as the bits that those frames are free to choose
-pub record ExpandedTo (table left right constants listed : List ℕ) (place w from used count : ℕ) : Type 0 where
-  pub expanded : Expanded table left right constants listed w count
+pub record ExpandedTo (table : List ℕ) (behind : ℕ) (left right constants listed : List ℕ) (place w from used count : ℕ) : Type 0 where
+  pub expanded : Expanded table behind left right constants listed w count
+  pub all : behind ≡ size (circuitIn table)
   pub between : Between table (expanded .accepted .fs) place
   pub wires-are : w ≡ size (so-far (expanded .accepted) between)
   pub from-are : from ≡ so-far (expanded .accepted) between .inputs * expanded .accepted .d
@@ -56,9 +56,9 @@ pub record ExpandedTo (table left right constants listed : List ℕ) (place w fr
   pub counted : count ≤ (expanded .accepted .d - 1) * so-far (expanded .accepted) between .inputs + so-far (expanded .accepted) between .randoms
   pub free : (expanded .accepted .d - 1) * whole (expanded .accepted) .inputs + whole (expanded .accepted) .randoms ≤ 16
 
-pub expanded-start : {table left right constants listed : List ℕ} → AcceptedTable table → freeBits (circuitIn table) ≤ 16
-    → (wireLimit < length left) × (wireLimit < length right) × (wireLimit < length constants) × (64 ≤ length listed) → ExpandedTo table left right constants listed 2 0 0 0 0
-expanded-start a free room = record {
+pub expanded-start : {table : List ℕ} {behind : ℕ} {left right constants listed : List ℕ} → AcceptedTable table → freeBits (circuitIn table) ≤ 16 → behind ≡ size (circuitIn table)
+    → (behind < length left) × (behind < length right) × (behind < length constants) × (64 ≤ length listed) → ExpandedTo table behind left right constants listed 2 0 0 0 0
+expanded-start a free all room = record {
   expanded = record {
     accepted = a;
     left-room = room .0;
@@ -69,6 +69,7 @@ expanded-start a free room = record {
     frames = λ i l. absurd (omega arith);
     last = record { rising = omega arith; gates = λ x l u. absurd (omega arith) };
   };
+  all = all;
   between = between-start a;
   wires-are = refl;
   from-are = omega arith;
@@ -77,8 +78,8 @@ expanded-start a free room = record {
   free = subst (λ (n : ℕ). (n - 1) * whole a .inputs + whole a .randoms ≤ 16) (build-shares (empty (a .d)) (a .fs)) (subst (λ (k : Circuit). freeBits k ≤ 16) (a .circuit-is) free);
 }
 
-module _ {table left right constants listed : List ℕ} {place w from used count : ℕ} (t : ExpandedTo table left right constants listed place w from used count) where
-  abbrev x : Expanded table left right constants listed w count
+module _ {table : List ℕ} {behind : ℕ} {left right constants listed : List ℕ} {place w from used count : ℕ} (t : ExpandedTo table behind left right constants listed place w from used count) where
+  abbrev x : Expanded table behind left right constants listed w count
   x = t .expanded
 
   abbrev a : AcceptedTable table
@@ -87,10 +88,14 @@ module _ {table left right constants listed : List ℕ} {place w from used count
   abbrev k : Circuit
   k = so-far a (t .between)
 
+  -- the wires so far are among all
+  pub wires-within : w ≤ behind
+  wires-within = omega (arith, t .wires-are, wires-grow a (t .between), ap size (a .circuit-is), t .all)
+
   -- all frames are expanded
-  pub all-expanded : t .between .after ≡ [] → Expanded table left right constants listed (size (circuitIn table)) count
-  all-expanded none = subst (λ (n : ℕ). Expanded table left right constants listed n count)
-      (t .wires-are ∙ ap size (sym (a .circuit-is ∙ all-built a (t .between) ∙ ap (build k) none))) x
+  pub all-expanded : t .between .after ≡ [] → Expanded table behind left right constants listed behind count
+  all-expanded none = subst (λ (n : ℕ). Expanded table behind left right constants listed n count)
+      (t .wires-are ∙ ap size (sym (a .circuit-is ∙ all-built a (t .between) ∙ ap (build k) none)) ∙ sym (t .all)) x
 
   -- the frame that is met
   module _ {d : ℕ} {fr : FrameCode} {sh : ShapeCode} {wk : Walk} (same : d ≡ a .d) (m : Met a (t .between) d w from fr sh wk) where
@@ -123,7 +128,7 @@ module _ {table left right constants listed : List ℕ} {place w from used count
 
     -- what is read of it is written at its first wire
     abbrev s : Affine
-    s = affineOf fr
+    s = affineOf behind fr
 
     abbrev left′ : List ℕ
     left′ = set left w (s .left)
@@ -134,11 +139,8 @@ module _ {table left right constants listed : List ℕ} {place w from used count
     abbrev constants′ : List ℕ
     constants′ = set constants w (s .constant)
 
-    few-wires : w ≤ wireLimit
-    few-wires = omega (arith, m .few)
-
     abbrev ListedIn : List ℕ → ℕ → Type 0
-    ListedIn list i = Listed left′ right′ constants′ a (endOf table list i) (nth list (4 * i)) (nth list (4 * i + 1)) (nth list (4 * i + 2)) (nth list (4 * i + 3)) (w + sh .wires)
+    ListedIn list i = Listed behind left′ right′ constants′ a (endOf table list i) (nth list (4 * i)) (nth list (4 * i + 1)) (nth list (4 * i + 2)) (nth list (4 * i + 3)) (w + sh .wires)
 
     -- the listed frames are as they were
     kept : (i : ℕ) → i < count → ListedIn listed i
@@ -154,8 +156,8 @@ module _ {table left right constants listed : List ℕ} {place w from used count
 
     -- with the frame, where its list and the wires behind the last listed frame are known
     grown : {new : List ℕ} {r : ℕ} → length new ≡ length listed → r ≤ count + sh .inputs + sh .randoms → ((i : ℕ) → i < r → ListedIn new i)
-        → AffineRun left′ right′ constants′ (whole a .wires) (endOf table new r) (w + sh .wires)
-        → ExpandedTo table left′ right′ constants′ new (wk .at) (w + sh .wires) (from + d * sh .inputs) (used + sh .randoms) r
+        → AffineRun behind left′ right′ constants′ (whole a .wires) (endOf table new r) (w + sh .wires)
+        → ExpandedTo table behind left′ right′ constants′ new (wk .at) (w + sh .wires) (from + d * sh .inputs) (used + sh .randoms) r
     grown {new} {r} sized h frames last =
         let counted : r ≤ (a .d - 1) * (k .inputs + sh .inputs) + (k .randoms + sh .randoms) = omega (arith, t .counted, bits .more) in
         record {
@@ -169,6 +171,7 @@ module _ {table left right constants listed : List ℕ} {place w from used count
             frames = frames;
             last = last;
           };
+          all = t .all;
           between = m .onward;
           wires-are = sym (m .wires-next);
           from-are = rw (m .inputs-next, same) (omega (arith, t .from-are));
@@ -178,10 +181,10 @@ module _ {table left right constants listed : List ℕ} {place w from used count
         }
 
     -- a frame that takes no bits, whose wire is a sum
-    skipped : sh .inputs + sh .randoms < 1 → ExpandedTo table left′ right′ constants′ listed (wk .at) (w + sh .wires) (from + d * sh .inputs) (used + sh .randoms) count
+    skipped : sh .inputs + sh .randoms < 1 → ExpandedTo table behind left′ right′ constants′ listed (wk .at) (w + sh .wires) (from + d * sh .inputs) (used + sh .randoms) count
     skipped h = grown refl (omega arith) kept
-        (run-more s (omega (arith, few-wires, x .left-room), omega (arith, few-wires, x .right-room), omega (arith, few-wires, x .room)) (omega arith)
-        (λ y l u. frame-sum d w from (sh .inputs) (sh .randoms) y _ _ (omega (arith, a .least)) h l fr (omega (arith, m .as-many)) (m .supplied) (m .early) (m .gates))
+        (run-more s (omega (arith, wires-within, x .left-room), omega (arith, wires-within, x .right-room), omega (arith, wires-within, x .room)) (omega arith)
+        (λ y l u. frame-sum behind d w from (sh .inputs) (sh .randoms) y _ _ (omega (arith, a .least)) h l fr (omega (arith, m .as-many)) (m .supplied) (m .early) (m .gates))
         (x .last))
 
     -- a frame that is listed
@@ -205,13 +208,13 @@ module _ {table left right constants listed : List ℕ} {place w from used count
       })
 
       entered : length new ≡ length listed → 0 < sh .inputs + sh .randoms
-          → ExpandedTo table left′ right′ constants′ new (wk .at) (w + sh .wires) (from + d * sh .inputs) (used + sh .randoms) (count + 1)
+          → ExpandedTo table behind left′ right′ constants′ new (wk .at) (w + sh .wires) (from + d * sh .inputs) (used + sh .randoms) (count + 1)
       entered sized h = grown sized (omega arith)
           (below-more count (λ i l. rw (end-kept i (omega arith), n .below (4 * i) (omega arith), n .below (4 * i + 1) (omega arith), n .below (4 * i + 2) (omega arith), n .below (4 * i + 3) (omega arith)) (kept i l)) here)
           (record { rising = omega (arith, end-is); gates = λ y l u. absurd (omega (arith, end-is)) })
 
     pub expanded-next : stepAt table (nth table 1) place ≡ Next fr sh wk → {new : List ℕ} {r : ℕ} → Enters (sh .inputs + sh .randoms) count place w from used listed new r
-        → ExpandedTo table left′ right′ constants′ new (wk .at) (w + sh .wires) (from + d * sh .inputs) (used + sh .randoms) r
+        → ExpandedTo table behind left′ right′ constants′ new (wk .at) (w + sh .wires) (from + d * sh .inputs) (used + sh .randoms) r
     expanded-next next n = cases (ltb (sh .inputs + sh .randoms) 1)
         (λ h. let (p, q) = n .passes (ltb-true (sh .inputs + sh .randoms) 1 h) in rw (p, q) (skipped (ltb-true (sh .inputs + sh .randoms) 1 h)))
         (λ h. let some = ltb-false (sh .inputs + sh .randoms) 1 h in let (p, q) = n .enters some in rw p (entered next q (n .sized) some))

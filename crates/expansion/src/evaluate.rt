@@ -3,22 +3,20 @@ ghost use mathlib.Core.Path.{_≡_};
 ghost use mathlib.Core.List.{List};
 ghost use Prim.Native.Nat.{ℕ, _<_};
 ghost use lib.ListN.{length};
-ghost use Rattle.circuit.specs.Limits.{wireLimit};
 ghost use Rattle.circuit.specs.Lists.{nth};
 ghost use Rattle.circuit.specs.Circuit.{size};
 ghost use Rattle.gadgets.specs.Internal.Accepting.{circuitIn};
-ghost use Rattle.simulation.specs.Internal.Filling.{Fills};
 ghost use Rattle.simulation.specs.Internal.Evaluating.{Evaluable, Evaluates};
 ghost use Rattle.simulation.specs.Internal.Walked.{FilledTo, FillsFrames};
-ghost use Rattle.expansion.specs.Internal.Expanding.{EarlyRun, SumRun, Expanded};
+ghost use Rattle.expansion.specs.Internal.Expanding.{Runnable, Runs, Expanded};
 use simulation::gadget::copy;
 use simulation::values::Place;
 use simulation::values::fill_frames;
 
 // The wires from one to another, each of them a sum.
 fn run(left: &[u16], right: &[u16], constants: &[u8], from: usize, to: usize, values: &mut [u8])
-    requires { ⌜ EarlyRun (now left) (now right) (now constants) from to × (wireLimit < length (now values)) × (nth (now values) wireLimit ≡ 0) ⌝ }
-    ensures { λ _. ⌜ Fills (SumRun (now (left .entry)) (now (right .entry)) (now (constants .entry)) from to) from to (now (values .entry)) (now (values .exit)) ⌝ }
+    requires { ⌜ ((behind : ℕ) × Runnable behind (now left) (now right) (now constants) from to (now values)) ⌝ }
+    ensures { λ _. ⌜ Runs (now (left .entry)) (now (right .entry)) (now (constants .entry)) from to (now (values .entry)) (now (values .exit)) ⌝ }
 {
     let mut x = from;
     while x < to {
@@ -56,7 +54,7 @@ pub fn evaluate(
     wires: usize,
     values: &mut [u8],
 )
-    requires { ⌜ Expanded (now table) (now left) (now right) (now constants) (now listed) (size (circuitIn (now table))) count × Evaluable (now table) (now shares) (now tape) (length (now values)) × (wires ≡ size (circuitIn (now table))) × (wireLimit < length (now values)) × (nth (now values) wireLimit ≡ 0) ⌝ }
+    requires { ⌜ Expanded (now table) wires (now left) (now right) (now constants) (now listed) wires count × Evaluable (now table) (now shares) (now tape) (length (now values)) × (wires ≡ size (circuitIn (now table))) × (wires < length (now values)) × (nth (now values) wires ≡ 0) ⌝ }
     ensures { λ _. ⌜ Evaluates (now (table .entry)) 255 (now (shares .entry)) (now (tape .entry)) (now (values .entry)) (now (values .exit)) ⌝ }
 {
     let mut w = 0;

@@ -14,14 +14,13 @@ use frames::walk::Step;
 use frames::walk::Walk;
 use simulation::values;
 
-// Stands for a wire where a sum has none: the place behind all wires, whose value is 0.
-pub const ZERO: u16 = WIRES as u16;
-// The least length of the sums and of the values: a word for each wire, and one for ZERO.
+// Room for the sums and values of any table: a place for each wire, and one behind them.
 pub const ROOM: usize = WIRES + 1;
 // The least length of the list: four words for each of at most 16 frames.
 pub const LIST_WORDS: usize = 64;
 
-// A wire whose value is the sum of two wires' values and a constant.
+// A wire whose value is the sum of two wires' values and a constant. The place behind all wires, whose value is 0, stands for a
+// wire that the sum does not have.
 pub struct Affine {
     pub left: u16,
     pub right: u16,
@@ -29,30 +28,30 @@ pub struct Affine {
 }
 
 // No sum, for frames that are listed and for OUT.
-fn no_sum() -> Affine
-    ensures { λ r. ⌜ r ≡ noSum ⌝ }
+fn no_sum(behind: u16) -> Affine
+    ensures { λ r. ⌜ r ≡ noSum behind ⌝ }
 {
     Affine {
-        left: ZERO,
-        right: ZERO,
+        left: behind,
+        right: behind,
         constant: 0,
     }
 }
 
 // The sum that the wire of an XOR, NOT, REG or CON is, for eight evaluations at once.
-fn affine_of(frame: Frame) -> Affine
-    ensures { λ r. ⌜ r ≡ affineOf frame ⌝ }
+fn affine_of(frame: Frame, behind: u16) -> Affine
+    ensures { λ r. ⌜ r ≡ affineOf behind frame ⌝ }
 {
     match frame {
         Frame::Gate(gate) => match gate {
-            Gate::In { stage: _ } => no_sum(),
+            Gate::In { stage: _ } => no_sum(behind),
             Gate::Con {
                 label: _,
                 value,
                 stage: _,
             } => Affine {
-                left: ZERO,
-                right: ZERO,
+                left: behind,
+                right: behind,
                 constant: values::bit(value, 255),
             },
             Gate::Xor {
@@ -65,18 +64,18 @@ fn affine_of(frame: Frame) -> Affine
             },
             Gate::Not { wire } => Affine {
                 left: wire,
-                right: ZERO,
+                right: behind,
                 constant: 255,
             },
             Gate::Reg { wire } => Affine {
                 left: wire,
-                right: ZERO,
+                right: behind,
                 constant: 0,
             },
-            Gate::Out => no_sum(),
+            Gate::Out => no_sum(behind),
         },
-        Frame::And => no_sum(),
-        Frame::Ref => no_sum(),
+        Frame::And => no_sum(behind),
+        Frame::Ref => no_sum(behind),
     }
 }
 
@@ -108,14 +107,16 @@ fn list(
 // The sum of each wire that is one, and the list of the other frames with wires, of which the answer is the number.
 pub fn expand(
     table: &[u16],
+    wires: usize,
     left: &mut [u16],
     right: &mut [u16],
     constants: &mut [u8],
     listed: &mut [u16],
 ) -> usize
-    requires { ⌜ AcceptedTable (now table) × (freeBits (circuitIn (now table)) ≤ 16) × (wireLimit < length (now left)) × (wireLimit < length (now right)) × (wireLimit < length (now constants)) × (64 ≤ length (now listed)) ⌝ }
-    ensures { λ r. ⌜ Expanded (now (table .entry)) (now (left .exit)) (now (right .exit)) (now (constants .exit)) (now (listed .exit)) (size (circuitIn (now (table .entry)))) r ⌝ }
+    requires { ⌜ AcceptedTable (now table) × (freeBits (circuitIn (now table)) ≤ 16) × (wires ≡ size (circuitIn (now table))) × (wires < length (now left)) × (wires < length (now right)) × (wires < length (now constants)) × (64 ≤ length (now listed)) ⌝ }
+    ensures { λ r. ⌜ Expanded (now (table .entry)) wires (now (left .exit)) (now (right .exit)) (now (constants .exit)) (now (listed .exit)) wires r ⌝ }
 {
+    let behind = wires as u16;
     let d = table[1];
     let n = d as usize;
     let mut walk = Walk { d, at: 2 };
@@ -131,7 +132,7 @@ pub fn expand(
                 shape,
                 walk: next,
             } => {
-                let sum = affine_of(frame);
+                let sum = affine_of(frame, behind);
                 left[first] = sum.left;
                 right[first] = sum.right;
                 constants[first] = sum.constant;

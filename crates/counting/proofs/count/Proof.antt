@@ -132,13 +132,14 @@ list-counts-requires c κs =
     let m = e .before in
     let v = accepting m in
     let n = numbers v in
-    let r = read m in (
-      record { accepted = n .of .of .accepted; few = subst (λ (z : Circuit). freeBits z ≤ 16) (n .of .of .circuit-is) (n .of .few); inputs-are = n .inputs ∙ ap (λ (z : Circuit). z .inputs) (n .of .of .circuit-is); randoms-are = n .randoms; wires-are = n .wires },
-      omega (arith, n .of .sized, n .inputs),
-      n .of .bit,
-      record { few = e .if1 .left; sized = r .listed .sized; made = λ i h. read-made (circuitIn (table (judged v))) (r .marked) (few v) (r .listed) i h (omega arith) },
-      n .of .roomy,
-    )
+    let r = read m in
+    record {
+      numbered = record { accepted = n .of .of .accepted; few = subst (λ (z : Circuit). freeBits z ≤ 16) (n .of .of .circuit-is) (n .of .few); inputs-are = n .inputs ∙ ap (λ (z : Circuit). z .inputs) (n .of .of .circuit-is); randoms-are = n .randoms; wires-are = n .wires };
+      sized = omega (arith, n .of .sized, n .inputs);
+      bit = n .of .bit;
+      read-in = record { few = e .if1 .left; sized = r .listed .sized; made = λ i h. read-made (circuitIn (table (judged v))) (r .marked) (few v) (r .listed) i h (omega arith) };
+      room = n .of .roomy;
+    }
 
 returns-3 : tie.Need-returns-3
 returns-3 c =

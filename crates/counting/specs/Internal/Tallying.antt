@@ -4,7 +4,6 @@ use mathlib.Core.List.{List}
 use Prim.Native.Nat.{ℕ, _+_, _*_, _-_, _^_, _≤_, _<_}
 use lib.ListN.{length, take, drop}
 use Rattle.semantics.specs.Counts.{freeBits}
-use Rattle.circuit.specs.Limits.{wireLimit}
 use Rattle.circuit.specs.Lists.{nth, overwrite}
 use Rattle.circuit.specs.Circuit.{size}
 use Rattle.semantics.specs.Values.{bits, at}
@@ -47,7 +46,7 @@ pub record Planned (table : List ℕ) (plan : Plan) : Type 0 where
 -- bytes that hold the values of eight pairs, the first of which has the number 8 · batch; behind the wires they are as they were
 pub record HoldsPairs (table secrets : List ℕ) (batch : ℕ) (old new : List ℕ) : Type 0 where
   pub are : (x : ℕ) → x < size (circuitIn table) → nth new x ≡ packed 8 (λ l. at (valuesIn (circuitIn table) (bits secrets) (8 * batch + l)) x)
-  pub none : nth new wireLimit ≡ nth old wireLimit
+  pub none : nth new (size (circuitIn table)) ≡ nth old (size (circuitIn table))
   pub sized : length new ≡ length old
 
 -- a list of wires that are read
@@ -55,6 +54,14 @@ pub record ReadIn (table read : List ℕ) (found : ℕ) : Type 0 where
   pub few : found ≤ 8
   pub sized : length read ≡ 8
   pub made : (i : ℕ) → i < found → nth read i < size (circuitIn table)
+
+-- what the list of counts rests on: such a table, two sets of secret bits, wires that are read, and room for the counts
+pub record Listable (table secrets : List ℕ) (inputs randoms wires : ℕ) (read : List ℕ) (found : ℕ) (counts : List ℕ) : Type 0 where
+  pub numbered : Numbered table inputs randoms wires
+  pub sized : length secrets ≡ inputs + inputs
+  pub bit : (x : ℕ) → nth secrets x ≤ 1
+  pub read-in : ReadIn table read found
+  pub room : 1024 ≤ length counts
 
 -- the number of pairs for each combination on wires
 pub record Tallied (table secrets wires tally : List ℕ) : Type 0 where

@@ -1,83 +1,33 @@
--- The table is expanded once; each set is tallied from 0, and the list is written from the two tallies.
-use mathlib.Core.Path.{_≡_, refl, sym, _∙_}
-use Prim.Native.Nat.{_*_, _≤_}
+-- Both kinds of sheets have a place for each wire, and one behind them that is 0.
 use native.Mathlib.Omega.{arith}
+use lib.ListN.{getD-replicate}
 use borrow.Author.Needs.{needs}
-use Rattle.gadgets.specs.Internal.Accepting.{circuitIn}
-use Rattle.counting.specs.Counting.{pairCount}
+use Rattle.circuit.proofs.Exact.{accepted-size}
 use Rattle.counting.proofs.tally.list_counts.Statement.{statement}
 use Rattle.counting.proofs.tally.list_counts.Tie as tie
-use Rattle.counting.proofs.Numbered.{pow-mono}
-use Rattle.counting.proofs.Batches.{pairs-are, pairs-few}
 use Rattle.counting.proofs.Tallying.{zeros-at}
-use Rattle.counting.proofs.Counts.{first-set, second-set, lists}
 
--- back to the plan, the expansion and the start
-abbrev planned : tie.After-first → tie.After-plan-pairs
-planned c = c .before .before .before .before .before .before .before .before
+list-on-requires : tie.Need-list-on-requires
+list-on-requires c κs =
+    let s = c .before .before .before .before .before .before .before .before .before in
+    let n = s .pre .numbered in
+    let few = accepted-size (n .accepted) in
+    (s .pre, omega (arith, few, n .wires-are), omega (arith, few, n .wires-are), omega (arith, few, n .wires-are), omega (arith, few, n .wires-are), zeros-at 8193 (s .args .wires))
 
-abbrev expanded : tie.After-plan-pairs → tie.After-expand
-expanded c = c .before .before .before .before .before
-
-abbrev start : tie.After-plan-pairs → tie.Start
-start c = expanded c .before .before .before .before .before .before .before .before
-
-abbrev one-tallied : tie.After-second → tie.After-first
-one-tallied c = c .before .before .before .before .before .before
-
-abbrev both-tallied : tie.After-second2 → tie.After-second
-both-tallied c = c .before .before .before
-
--- the number of pairs
-pairs : (c : tie.After-plan-pairs) → c .plan-pairs .result .batches * c .plan-pairs .result .lanes ≡ pairCount (circuitIn (start c .args .table .now))
-pairs c = pairs-are (c .plan-pairs .ensures .0)
-
-few : (c : tie.After-plan-pairs) → (1 ≤ pairCount (circuitIn (start c .args .table .now))) × (pairCount (circuitIn (start c .args .table .now)) ≤ 65536)
-few c = pairs-few (start c .args .table .now) (start c .pre .0 .few)
-
-tally-set-requires : tie.Need-tally-set-requires
-tally-set-requires c κs =
-    let p = planned c in
-    let s = start p in
-    (first-set (s .pre .0) (s .args .secrets .now) (s .pre .1) (s .pre .2), p .plan-pairs .ensures .0, rw (p .plan-pairs .ensures .1) (expanded p .expand .ensures), s .pre .3, refl, zeros-at 256)
-
-tally-set-requires-2 : tie.Need-tally-set-requires-2
-tally-set-requires-2 c κs =
-    let p = planned (one-tallied c) in
-    let s = start p in
-    (second-set (s .pre .0) (s .args .secrets .now) (s .pre .1) (s .pre .2), p .plan-pairs .ensures .0, rw (p .plan-pairs .ensures .1) (expanded p .expand .ensures), s .pre .3, refl, zeros-at 256)
-
-write-list-requires : tie.Need-write-list-requires
-write-list-requires c κs =
-    let w = c .before in
-    let b = both-tallied (w .before) in
-    let p = planned (one-tallied b) in
-    let s = start p in
-    let most = pow-mono 8 (s .args .found) (s .pre .3 .few) in
-    (omega (arith, w .power .ensures .0, most), omega (arith, w .power .ensures .0, most, s .pre .4), omega (arith, pairs p, few p), omega (arith, pairs p, few p), b .before .before .before .before .before .tally-set .ensures .few, w .before .before .before .tally-set2 .ensures .few)
-
-returns : tie.Need-returns
-returns c =
-    let v = c .before .before in
-    let w = v .before .before in
-    let b = both-tallied (w .before) in
-    let p = planned (one-tallied b) in
-    let s = start p in
-    (pairs p, lists (s .pre .0) (s .args .secrets .now) (s .pre .1) (s .pre .2) (s .pre .3) (b .before .before .before .before .before .tally-set .ensures) (w .before .before .before .tally-set2 .ensures) _ (s .pre .4) _ _ (w .power .ensures .0) (pairs p) (v .write-list .ensures))
+list-on-requires-2 : tie.Need-list-on-requires-2
+list-on-requires-2 c κs =
+    let s = c .before .before .before .before .before .before .before .before .before in
+    (s .pre, omega arith, omega arith, omega arith, omega arith, zeros-at 256 (s .args .wires))
 
 pub list-counts-spec : {M : Type 1} → statement M
 list-counts-spec =
     tie.close
     (tie.spec
-    (λ c. search needs) (λ c. search needs) (λ c. search needs) (λ c. search needs) (λ c κs. search needs) (λ c κs. search needs)
-    (λ c. record { fits = omega (arith, pairs (c .before), few (c .before)) })
-    (λ c. search needs) (λ c. search needs) (λ c. search needs) (λ c. search needs) (λ c. search needs) (λ c. search needs)
     (λ c. search needs) (λ c. search needs) (λ c. search needs) (λ c. search needs)
-    tally-set-requires
-    (λ c. search needs) (λ c. search needs) (λ c. search needs) (λ c. search needs)
-    tally-set-requires-2
-    (λ c κs. omega (arith, start (planned (one-tallied (both-tallied c))) .pre .3 .few))
-    (λ c. let p = planned (one-tallied (both-tallied (c .before))) in record { fits = omega (arith, pairs p, few p) })
-    write-list-requires
+    list-on-requires
     (λ c. search needs)
-    returns)
+    (λ c. c .before .before .before .before .before .before .list-on .ensures)
+    (λ c. search needs) (λ c. search needs) (λ c. search needs) (λ c. search needs)
+    list-on-requires-2
+    (λ c. search needs)
+    (λ c. c .before .before .before .before .before .before .list-on2 .ensures))

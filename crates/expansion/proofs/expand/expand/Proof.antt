@@ -6,20 +6,21 @@ use lib.ListN.{length, length-set}
 use borrow.Author.Needs.{needs}
 use Rattle.circuit.specs.Limits.{wireLimit}
 use Rattle.circuit.specs.Lists.{nth}
+use Rattle.circuit.proofs.Exact.{accepted-size}
 use Rattle.frames.specs.declared.walk.Step.{Step}
 use Rattle.frames.specs.Walk.{stepAt}
 use Rattle.gadgets.proofs.Walking.{headed, second-word, Met, Answers, step-answers}
 use Rattle.expansion.proofs.expand.expand.Statement.{statement}
 use Rattle.expansion.proofs.expand.expand.Tie as tie
-use Rattle.expansion.proofs.Expanding.{ExpandedTo, Bits, bits, expanded-start, expanded-next, all-expanded}
+use Rattle.expansion.proofs.Expanding.{ExpandedTo, Bits, bits, expanded-start, wires-within, expanded-next, all-expanded}
 
 abbrev Inv-loop : tie.InvT-loop
-Inv-loop table left₀ right₀ constants₀ listed₀ d n walk₀ first₀ from₀ used₀ count₀ left right constants listed walk first from used count =
-    (walk .d ≡ nth table 1) × ExpandedTo table left right constants listed (walk .at) first from used count
+Inv-loop table wires left₀ right₀ constants₀ listed₀ behind d n walk₀ first₀ from₀ used₀ count₀ left right constants listed walk first from used count =
+    (walk .d ≡ nth table 1) × ExpandedTo table wires left right constants listed (walk .at) first from used count
     × (length left ≡ length left₀) × (length right ≡ length right₀) × (length constants ≡ length constants₀) × (length listed ≡ length listed₀)
 
 abbrev μ-loop : tie.MeasureT-loop
-μ-loop table left₀ right₀ constants₀ listed₀ d n walk₀ first₀ from₀ used₀ count₀ left right constants listed walk first from used count = length table - walk .at
+μ-loop table wires left₀ right₀ constants₀ listed₀ behind d n walk₀ first₀ from₀ used₀ count₀ left right constants listed walk first from used count = length table - walk .at
 
 abbrev entry : tie.After-shared-slice-known2 Inv-loop μ-loop → tie.Start Inv-loop μ-loop
 entry c = c .before .before .before .before .before .before
@@ -51,6 +52,9 @@ taken c = let t = head c .loop .inv .1 in bits t (second-word (t .expanded .acce
 first-most : (c : tie.After-step2 Inv-loop μ-loop) → head c .loop .first ≤ wireLimit
 first-most c = omega (arith, met c .few)
 
+within : (c : tie.After-step2 Inv-loop μ-loop) → head c .loop .first ≤ start (head c) .args .wires
+within c = wires-within (head c .loop .inv .1)
+
 list-requires : tie.Need-list-requires Inv-loop μ-loop
 list-requires c κs =
     let m = c .before .before .before .before in
@@ -80,15 +84,16 @@ expand-spec =
     (tie.spec
     Inv-loop
     μ-loop
+    (λ c. let p = c .before .before .before .before .before .pre in record { fits = omega (arith, p .2, accepted-size (p .0)) })
     (λ c. omega (arith, headed (entry c .pre .0)))
     (λ c. record { fits = omega (arith, second-word (entry c .pre .0)) })
-    (λ c. let p = entry c .pre in (refl, expanded-start (p .0) (p .1) (p .2, p .3, p .4, p .5), refl, refl, refl, refl))
+    (λ c. let p = entry c .pre in (refl, expanded-start (p .0) (p .1) (p .2) (p .3, p .4, p .5, p .6), refl, refl, refl, refl))
     (λ c κs. search needs) (λ c. search needs) (λ c κs. search needs)
     (λ c. record { fits = omega (arith, first-most (c .before .before)) })
-    (λ c. omega (arith, first-most (c .before .before), c .before .before .before .before .before .loop .inv .1 .expanded .left-room))
+    (λ c. omega (arith, within (c .before .before), c .before .before .before .before .before .loop .inv .1 .expanded .left-room))
     (λ c. record { fits = omega (arith, first-most (c .before .before)) })
-    (λ c. omega (arith, first-most (c .before .before), c .before .before .before .before .before .loop .inv .1 .expanded .right-room))
-    (λ c. omega (arith, first-most (c .before .before), c .before .before .before .before .before .loop .inv .1 .expanded .room))
+    (λ c. omega (arith, within (c .before .before), c .before .before .before .before .before .loop .inv .1 .expanded .right-room))
+    (λ c. omega (arith, within (c .before .before), c .before .before .before .before .before .loop .inv .1 .expanded .room))
     (λ c. record { fits = omega (arith, taken (c .before .before .before) .within, taken (c .before .before .before) .more) })
     list-requires
     (λ c. record { fits = omega (arith, met (c .before .before .before .before .before .before .before .before) .few) })
