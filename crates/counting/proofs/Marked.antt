@@ -1,5 +1,5 @@
 -- The marked wires as a list, wire by wire; and that they are those that probes read.
-use mathlib.Core.Path.{_≡_, refl, sym, ap, subst₂, _∙_}
+use mathlib.Core.Path.{_≡_, refl, sym, ap, subst, subst₂, _∙_}
 use mathlib.Core.Bool.{Bool, true, false, cond}
 use mathlib.Core.List.{List, [], _∷_, _++_, append-nil}
 use Prim.Native.Nat.{ℕ, zero, suc, _+_, _-_, _≤_, _<_}
@@ -13,11 +13,13 @@ use Rattle.circuit.specs.Limits.{wireLimit}
 use Rattle.circuit.specs.Lists.{nth, range, filter}
 use Rattle.circuit.specs.Circuit.{Circuit, size, isSet}
 use Rattle.circuit.proofs.Base.{cases, In, in-head, in-tail, range-in, filter-in}
+use Rattle.circuit.proofs.Exact.{accepted-size}
+use Rattle.gadgets.specs.Internal.Accepting.{circuitIn}
 use Rattle.gadgets.proofs.Bits.{set-low, set-high}
 use Rattle.gadgets.proofs.Ranges.{range-split, filter-append, filter-none}
 use Rattle.reach.specs.Internal.Reading.{OnStops}
 use Rattle.counting.specs.Counting.{isRead, readWires}
-use Rattle.counting.specs.Internal.Reading.{markedBelow, listedWith, Listed}
+use Rattle.counting.specs.Internal.Reading.{markedBelow, listedWith, Listed, Probed, ListsRead}
 
 -- one wire more
 marked-next : (marks : List ℕ) (x : ℕ) → markedBelow marks (x + 1) ≡ markedBelow marks x ++ cond (isSet (nth marks x)) (x ∷ []) []
@@ -71,7 +73,7 @@ module _ (k : Circuit) {probes marks : List ℕ} (on : OnStops (k .wires) probes
   abbrev marked : ℕ → Bool
   marked x = isSet (nth marks x)
 
-  pub read-marked : readWires k probes ≡ markedBelow marks (size k)
+  read-marked : readWires k probes ≡ markedBelow marks (size k)
   unfolding readWires
   read-marked =
       let rest = wireLimit - size k in
@@ -83,15 +85,23 @@ module _ (k : Circuit) {probes marks : List ℕ} (on : OnStops (k .wires) probes
 
   -- the list of those that are read
   module _ {read : List ℕ} {found : ℕ} (l : Listed marks (size k) read found) where
-    pub found-is : found ≡ length (readWires k probes)
+    found-is : found ≡ length (readWires k probes)
     found-is = l .all ∙ sym (ap length read-marked)
 
-    pub read-is : found ≤ 8 → readWires k probes ≡ take found read
+    read-is : found ≤ 8 → readWires k probes ≡ take found read
     read-is h = read-marked ∙ sym (ext-getD 0 (take found read) (markedBelow marks (size k)) (sized ∙ l .all)
         (λ i j. let z : i < found = omega (arith, sized) in getD-take found read i 0 z ∙ l .first i z (omega arith)))
       where
         sized : length (take found read) ≡ found
         sized = length-take-le found read (omega (arith, l .sized))
 
-    pub read-made : (i : ℕ) → i < found → i < 8 → nth read i < size k
+    read-made : (i : ℕ) → i < found → i < 8 → nth read i < size k
     read-made i h j = rw (l .first i h j) (omega (arith, range-in _ 0 (size k) (filter-in marked (range 0 (size k)) (nth (markedBelow marks (size k)) i) (nth-in (markedBelow marks (size k)) i (omega (arith, l .all))) .0)))
+
+-- the list of an accepted table's
+pub lists-read : {table probes marks read : List ℕ} {wires found : ℕ} → Probed table wires probes → OnStops (circuitIn table .wires) probes marks → Listed marks wires read found → ListsRead table probes read found
+lists-read {table} {marks = marks} {read} {found = found} p on l =
+    let few = accepted-size (p .accepted) in
+    let k = circuitIn table in
+    let same = subst (λ (n : ℕ). Listed marks n read found) (p .wires-are) l in
+    record { all = found-is k on few same; sized = l .sized; are = read-is k on few same; made = read-made k on few same }

@@ -18,8 +18,9 @@ mod read;
 mod tally;
 
 use checker::Verdict;
-use circuit::WIRES;
-use reach::readings;
+
+// Wires of a circuit for which small sheets do: a sheet is set to 0 at each call, and a large one takes longer than such a circuit.
+pub(crate) const FEW: usize = 255;
 
 // Accepted: how many wires are read, how many combinations of values they have, and how many pairs of a sharing and a tape there
 // are for a set of secret bits.
@@ -81,10 +82,8 @@ pub fn count(
     else {
         return refused(verdict);
     };
-    let mut marks = [0u8; WIRES];
-    readings::reach_stops(table, wires, probes, &mut marks);
     let mut read = [0u16; 8];
-    let found = read::list_marked(&marks, wires, &mut read);
+    let found = read::list_read(table, wires, probes, &mut read);
     if 8 < found {
         return Counted::Refused {
             rule: 25,

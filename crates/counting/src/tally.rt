@@ -7,6 +7,7 @@ ghost use Rattle.gadgets.specs.Internal.Accepting.{circuitIn};
 ghost use Rattle.expansion.specs.Internal.Expanding.{Expanded};
 ghost use Rattle.counting.specs.Counting.{pairCount};
 ghost use Rattle.counting.specs.Internal.Tallying.{Countable, Numbered, Listable, Divides, Planned, HoldsPairs, ReadIn, Tallied, ListsCounts};
+use super::FEW;
 use super::lanes;
 use super::listing;
 use super::numbers;
@@ -14,9 +15,7 @@ use super::pairs;
 use expansion::evaluate::evaluate;
 use expansion::expand;
 
-// Wires of a circuit for which small sheets do: a sheet is set to 0 at each call, and a large one takes longer than such a circuit.
-const FEW: usize = 255;
-// Places of a small sheet.
+// Room for the sums and values of few wires: a place for each, and one behind them.
 const FEW_ROOM: usize = FEW + 1;
 
 // How the pairs of a set of secret bits are gone through.

@@ -5,7 +5,6 @@ use Prim.Native.Nat.{ℕ, _+_, _-_, _*_, _≤_, _<_}
 use native.Mathlib.Omega.{arith}
 use lib.ListN.{length, take, drop, set, length-append, length-drop}
 use lib.Seq.{length-take-le, take-at}
-use Rattle.circuit.specs.Limits.{wireLimit}
 use Rattle.circuit.specs.Lists.{nth}
 use Rattle.circuit.specs.Wires.{Wire}
 use Rattle.circuit.specs.Circuit.{size, empty}
@@ -20,7 +19,7 @@ use Rattle.gadgets.specs.Internal.Gates.{FrameGates}
 use Rattle.gadgets.specs.Internal.Frames.{frameWires}
 use Rattle.gadgets.specs.Internal.Accepting.{AcceptedTable, circuitIn, Between}
 use Rattle.gadgets.proofs.Stored.{nth-set}
-use Rattle.gadgets.proofs.Walking.{whole, whole-few, whole-ordered, so-far, between-start, wires-grow, second-word, Onward, Met, Answers, step-answers}
+use Rattle.gadgets.proofs.Walking.{whole, whole-ordered, so-far, between-start, wires-grow, second-word, Onward, Met, Answers, step-answers}
 use Rattle.reach.specs.Internal.Marks.{Moving, Moves}
 use Rattle.reach.specs.Internal.Reading.{Starts, Lists, Propagates}
 use Rattle.reach.proofs.Reaching.{moving-start, moving-end}
@@ -45,7 +44,7 @@ module _ {table starts : List ℕ} {place count : ℕ} (l : ListedTo table start
   listed-end end = record {
     accepted = l .accepted;
     all = sym (ap length (l .between .split ∙ ap (λ r. l .between .before ++ r) (no-words (l .between .after) (l .between .rest)) ∙ append-nil (l .between .before)) ∙ l .counted);
-    few = omega (arith, l .spaced, l .between .most, l .accepted .short);
+    few = omega (arith, l .spaced, l .between .most);
     starts-are = l .starts-are;
   }
     where
@@ -125,14 +124,19 @@ module _ {table starts : List ℕ} {count : ℕ} {old marks : List ℕ} {w i : �
       pub found : Met a place (nth table 1) (w - sh .wires) (so-far a place .inputs * a .d) fr sh wk
       found = subst (λ (n : ℕ). Met a place (nth table 1) n (so-far a place .inputs * a .d) fr sh wk) (omega (arith, grown)) (here e)
 
-      pub propagated-next : {new : List ℕ} → wireLimit ≤ length marks
+      top : w - sh .wires + frameWires fr (nth table 1) ≡ w
+      top = ap (λ n. w - sh .wires + n) (found .as-many) ∙ omega (arith, grown)
+
+      -- its wires are among all
+      pub within : w - sh .wires + frameWires fr (nth table 1) ≤ length ws
+      within = omega (arith, top, grown, here e .wires-next, wires-grow a (here e .onward))
+
+      pub propagated-next : {new : List ℕ} → length ws ≤ length marks
           → ((from : ℕ) → Moves (FrameGates fr (nth table 1) (w - sh .wires) from (operandsAt table (nth table 1) (nth starts (i - 1)))) (w - sh .wires) (w - sh .wires + frameWires fr (nth table 1)) marks new)
           → PropagatedTo table starts count old new (w - sh .wires) (i - 1)
-      propagated-next room g =
-          let top : w - sh .wires + frameWires fr (nth table 1) ≡ w = ap (λ n. w - sh .wires + n) (found .as-many) ∙ omega (arith, grown) in
-          record {
-            lists = p .lists;
-            most = omega (arith, p .most);
-            wires-are = omega (arith, grown, ap (λ x. size (build (empty (a .d)) x)) place-is);
-            moved = λ probes q. g _ .moved ws probes (whole-ordered a) (found .gates) (omega (arith, top, grown, here e .wires-next, wires-grow a (here e .onward))) (omega (arith, whole-few a)) (rw top (p .moved probes q));
-          }
+      propagated-next room g = record {
+        lists = p .lists;
+        most = omega (arith, p .most);
+        wires-are = omega (arith, grown, ap (λ x. size (build (empty (a .d)) x)) place-is);
+        moved = λ probes q. g _ .moved ws probes (whole-ordered a) (found .gates) within room (rw top (p .moved probes q));
+      }

@@ -10,7 +10,7 @@ ghost use Rattle.gadgets.specs.Internal.Gates.{AndGates, FrameGates};
 ghost use Rattle.gadgets.specs.Internal.Frames.{frameWires, Small, FrameEarly};
 ghost use Rattle.gadgets.specs.Internal.Accepting.{AcceptedTable, circuitIn};
 ghost use Rattle.reach.specs.Internal.Marks.{Marked, markAll, Moves, shownAt};
-ghost use Rattle.reach.specs.Internal.Reading.{Lists, Propagates, OnStops, Shows};
+ghost use Rattle.reach.specs.Internal.Reading.{Lists, Propagates, Reachable, OnStops, Shows};
 use super::bytes;
 use super::reach;
 use circuit::TABLE_WORDS;
@@ -24,10 +24,15 @@ use gadgets::places;
 
 // The most frames behind HEAD: each of them, and HEAD too, has at least two words.
 const FRAMES: usize = TABLE_WORDS / 2;
+// Words of a table for which a small list of frames does: the list is set to 0 at each call, and a large one takes longer than such a
+// table.
+const FEW_WORDS: usize = 512;
+
+const FEW_FRAMES: usize = FEW_WORDS / 2;
 
 // A mark on each probed wire.
-fn mark(marks: &mut [u8; WIRES], probes: &[u16])
-    requires { ⌜ ((x : ℕ) → In x (now probes) → x < wireLimit) ⌝ }
+fn mark(marks: &mut [u8], probes: &[u16])
+    requires { ⌜ ((x : ℕ) → In x (now probes) → x < length (now marks)) ⌝ }
     ensures { λ _. ⌜ now (marks .exit) ≡ markAll (now (marks .entry)) (now (probes .entry)) ⌝ }
 {
     let mut i = 0;
@@ -78,7 +83,7 @@ fn propagate_frame(marks: &mut [u8], frame: Frame, d: usize, first: usize, ops: 
 
 // The places of an accepted table's frames, and how many there are.
 fn list_frames(table: &[u16], starts: &mut [u16]) -> usize
-    requires { ⌜ AcceptedTable (now table) × (tableLimit ≤ 2 * length (now starts)) ⌝ }
+    requires { ⌜ AcceptedTable (now table) × (length (now table) ≤ 2 * length (now starts)) ⌝ }
     ensures { λ r. ⌜ Lists (now (table .entry)) (now (starts .exit)) r ⌝ }
 {
     let d = table[1];
@@ -93,14 +98,8 @@ fn list_frames(table: &[u16], starts: &mut [u16]) -> usize
 }
 
 // The marks moved on, from the last frame to the first.
-fn propagate_frames(
-    table: &[u16],
-    starts: &[u16],
-    count: usize,
-    wires: usize,
-    marks: &mut [u8; WIRES],
-)
-    requires { ⌜ Lists (now table) (now starts) count × (count ≤ length (now starts)) × (wires ≡ size (circuitIn (now table))) ⌝ }
+fn propagate_frames(table: &[u16], starts: &[u16], count: usize, wires: usize, marks: &mut [u8])
+    requires { ⌜ Lists (now table) (now starts) count × (count ≤ length (now starts)) × (wires ≡ size (circuitIn (now table))) × (wires ≤ length (now marks)) ⌝ }
     ensures { λ _. ⌜ Propagates (circuitIn (now (table .entry)) .wires) (now (marks .entry)) (now (marks .exit)) ⌝ }
 {
     let d = table[1];
@@ -134,15 +133,28 @@ fn propagate_frames(
     }
 }
 
-// From clear marks, a mark on exactly the stops that the probes on an accepted table's wires read.
-pub fn reach_stops(table: &[u16], wires: usize, probes: &[u16], marks: &mut [u8; WIRES])
-    requires { ⌜ AcceptedTable (now table) × (wires ≡ size (circuitIn (now table))) × ((x : ℕ) → In x (now probes) → x < wires) × (now marks ≡ replicate wireLimit 0) ⌝ }
+// From clear marks, a mark on exactly the stops that the probes on an accepted table's wires read; the frames are listed on the way.
+fn reach_listed(table: &[u16], starts: &mut [u16], wires: usize, probes: &[u16], marks: &mut [u8])
+    requires { ⌜ Reachable (now table) wires (now probes) (now marks) × (length (now table) ≤ 2 * length (now starts)) ⌝ }
     ensures { λ _. ⌜ OnStops (circuitIn (now (table .entry)) .wires) (now (probes .entry)) (now (marks .exit)) ⌝ }
 {
-    let mut starts = [0u16; FRAMES];
-    let count = list_frames(table, &mut starts);
+    let count = list_frames(table, starts);
     mark(marks, probes);
-    propagate_frames(table, &starts, count, wires, marks);
+    propagate_frames(table, starts, count, wires, marks);
+}
+
+// The same, with a list of its own.
+pub fn reach_stops(table: &[u16], wires: usize, probes: &[u16], marks: &mut [u8])
+    requires { ⌜ Reachable (now table) wires (now probes) (now marks) ⌝ }
+    ensures { λ _. ⌜ OnStops (circuitIn (now (table .entry)) .wires) (now (probes .entry)) (now (marks .exit)) ⌝ }
+{
+    if FEW_WORDS < table.len() {
+        let mut starts = [0u16; FRAMES];
+        reach_listed(table, &mut starts, wires, probes, marks);
+        return;
+    }
+    let mut starts = [0u16; FEW_FRAMES];
+    reach_listed(table, &mut starts, wires, probes, marks);
 }
 
 // A wire's byte of the reading: its value where it is marked, 2 elsewhere.

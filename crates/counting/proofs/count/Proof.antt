@@ -5,7 +5,6 @@ use Prim.Native.Nat.{ℕ, _+_, _*_, _^_, _≤_, _<_}
 use native.Mathlib.Omega.{arith}
 use lib.ListN.{length, take, drop}
 use borrow.Author.Needs.{needs}
-use Rattle.circuit.specs.Limits.{wireLimit}
 use Rattle.circuit.specs.Circuit.{Circuit, size}
 use Rattle.circuit.specs.Rules.{Judgement, pass, refuse, checked}
 use Rattle.circuit.specs.Answer.{notesAfter}
@@ -16,13 +15,10 @@ use Rattle.semantics.specs.Calls.{Accepts, circuitOf, written}
 use Rattle.checker.specs.declared.Verdict.{Verdict}
 use Rattle.checker.specs.Answers.{answerOf, inputsAre}
 use Rattle.gadgets.specs.Internal.Accepting.{circuitIn}
-use Rattle.reach.specs.Internal.Reading.{OnStops}
 use Rattle.counting.specs.Counting.{pairCount, readWires, countList, CountAnswer, accepted, countRule, answerTo, countAnswer, countsAfter, AddUp, SameColumns}
 use Rattle.counting.specs.Internal.Judging.{firstRules, refusalIn}
-use Rattle.counting.specs.Internal.Reading.{Listed}
 use Rattle.counting.proofs.count.Statement.{statement}
 use Rattle.counting.proofs.count.Tie as tie
-use Rattle.counting.proofs.Marked.{found-is, read-is, read-made}
 use Rattle.counting.proofs.Judging.{Passed, passed}
 use Rattle.counting.proofs.Calling.{refuses, too-many, passes, sheet, adds-up, same-columns}
 
@@ -100,31 +96,18 @@ returns c =
     (c .refused .ensures ∙ ap (λ v. refusalIn (answerOf v)) e) refl
 
 -- the wires that are read
-abbrev accepting : tie.After-list-marked → tie.After-verdict
-accepting m = m .before .before .before .before .before .before
+abbrev accepting : tie.After-list-read → tie.After-verdict
+accepting m = m .before .before .before
 
-few : (v : tie.After-verdict) → size (circuitIn (table (judged v))) ≤ wireLimit
-few v = omega (arith, numbers v .of .of .wires-few, ap size (numbers v .of .of .circuit-is))
-
-record Read (m : tie.After-list-marked) : Type 0 where
-  marked : OnStops (circuitIn (table (judged (accepting m))) .wires) (probes (judged (accepting m))) (m .before .before .before .reach-stops .last .1 .1 .1 .0)
-  listed : Listed (m .before .before .before .reach-stops .last .1 .1 .1 .0) (size (circuitIn (table (judged (accepting m))))) (m .list-marked .last .1 .1 .0) (m .list-marked .result)
-  found : m .list-marked .result ≡ length (readWires (k (judged (accepting m))) (probes (judged (accepting m))))
-
-read : (m : tie.After-list-marked) → Read m
-read m =
-    let v = accepting m in
-    let n = numbers v in
-    let on = m .before .before .before .reach-stops .ensures in
-    let l = subst (λ (w : ℕ). Listed (m .before .before .before .reach-stops .last .1 .1 .1 .0) w (m .list-marked .last .1 .1 .0) (m .list-marked .result)) (n .wires) (m .list-marked .ensures) in
-    record { marked = on; listed = l; found = found-is (circuitIn (table (judged v))) on (few v) l ∙ ap (λ (c : Circuit). length (readWires c (probes (judged v)))) (sym (n .of .of .circuit-is)) }
+found : (m : tie.After-list-read) → let c = judged (accepting m) in m .list-read .result ≡ length (readWires (k c) (probes c))
+found m = let c = judged (accepting m) in m .list-read .ensures .all ∙ ap (λ (z : Circuit). length (readWires z (probes c))) (sym (numbers (accepting m) .of .of .circuit-is))
 
 returns-2 : tie.Need-returns-2
 returns-2 c =
     let m = c .before in
     let v = accepting m in
     let g = judged v in
-    promised g (too-many (table g) (notes g) (secrets g) (probes g) (counts g) (numbers v .first) (omega (arith, read m .found, c .if1 .taken))) refl refl
+    promised g (too-many (table g) (notes g) (secrets g) (probes g) (counts g) (numbers v .first) (omega (arith, found m, c .if1 .taken))) refl refl
 
 list-counts-requires : tie.Need-list-counts-requires
 list-counts-requires c κs =
@@ -132,12 +115,12 @@ list-counts-requires c κs =
     let m = e .before in
     let v = accepting m in
     let n = numbers v in
-    let r = read m in
+    let r = m .list-read .ensures in
     record {
       numbered = record { accepted = n .of .of .accepted; few = subst (λ (z : Circuit). freeBits z ≤ 16) (n .of .of .circuit-is) (n .of .few); inputs-are = n .inputs ∙ ap (λ (z : Circuit). z .inputs) (n .of .of .circuit-is); randoms-are = n .randoms; wires-are = n .wires };
       sized = omega (arith, n .of .sized, n .inputs);
       bit = n .of .bit;
-      read-in = record { few = e .if1 .left; sized = r .listed .sized; made = λ i h. read-made (circuitIn (table (judged v))) (r .marked) (few v) (r .listed) i h (omega arith) };
+      read-in = record { few = e .if1 .left; sized = r .sized; made = λ i h. r .made i h (omega arith) };
       room = n .of .roomy;
     }
 
@@ -149,13 +132,12 @@ returns-3 c =
     let v = accepting m in
     let g = judged v in
     let n = numbers v in
-    let r = read m in
     let same = n .of .of .circuit-is in
     let number = length (readWires (k g) (probes g)) in
-    promised g (passes (table g) (notes g) (secrets g) (probes g) (counts g) (n .first) (omega (arith, r .found, e .if1 .left)))
-    (ap₂ (λ x y. accepted x y (t .list-counts .result)) (r .found) (c .power .ensures .0 ∙ ap (λ y. 2 ^ y) (r .found)) ∙ ap (λ z. accepted number (2 ^ number) z) (t .list-counts .ensures .0 ∙ ap pairCount (sym same)))
+    promised g (passes (table g) (notes g) (secrets g) (probes g) (counts g) (n .first) (omega (arith, found m, e .if1 .left)))
+    (ap₂ (λ x y. accepted x y (t .list-counts .result)) (found m) (c .power .ensures .0 ∙ ap (λ y. 2 ^ y) (found m)) ∙ ap (λ z. accepted number (2 ^ number) z) (t .list-counts .ensures .0 ∙ ap pairCount (sym same)))
     (sheet (table g) (notes g) (secrets g) (probes g) (counts g) (n .of .of) (n .inputs) (t .list-counts .ensures .1)
-    (ap (λ (z : Circuit). readWires z (probes g)) same ∙ read-is (circuitIn (table g)) (r .marked) (few v) (r .listed) (e .if1 .left)))
+    (ap (λ (z : Circuit). readWires z (probes g)) same ∙ m .list-read .ensures .are (e .if1 .left)))
 
 pub count-spec : {M : Type 1} → statement M
 count-spec =
@@ -163,8 +145,7 @@ count-spec =
     (tie.spec
     (λ c κs. search needs) (λ c. search needs) (λ c. search needs) (λ c κs. search needs) (λ c. search needs)
     returns
-    (λ c κs. let v = c .before .before in let n = numbers v in (n .of .of .accepted, n .wires, (λ x i. omega (arith, n .of .probed x i, n .wires, ap size (n .of .of .circuit-is))), refl))
-    (λ c κs. let v = c .before .before .before .before .before in (omega (arith, numbers v .wires, few v), refl))
+    (λ c κs. let v = c .before .before in let n = numbers v in (record { accepted = n .of .of .accepted; wires-are = n .wires; made = λ x i. omega (arith, n .of .probed x i, n .wires, ap size (n .of .of .circuit-is)) }, refl))
     (λ c. search needs)
     returns-2
     list-counts-requires

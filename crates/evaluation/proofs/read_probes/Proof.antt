@@ -41,16 +41,16 @@ returns c =
 
 show-requires : tie.Need-show-requires
 show-requires c κs =
-    let p = passes (c .before .before .before .before .before .before .before .before .before .before) in
-    (p .few, omega (arith, p .roomy), omega (arith, p .roomy), λ x m. omega (arith, c .before .before .before .reach-stops .ensures .made x m, p .wires-are))
+    let p = passes (c .before .before .before .before .before .before .before .before .before .before .before) in
+    (p .few, omega (arith, p .roomy), omega (arith, p .roomy), λ x m. omega (arith, c .before .before .before .before .reach-stops .ensures .made x m, p .wires-are))
 
 returns-2 : tie.Need-returns-2
 returns-2 c =
-    let v = c .before .before .before .before .before .before .before .before .before .before .before .before .before in
+    let v = c .before .before .before .before .before .before .before .before .before .before .before .before .before .before in
     let j = judged v .judge .ensures in
     let a = start (judged v) .args in
-    let new = evaluated _ _ _ _ _ _ (passes v) (c .before .before .before .before .before .before .before .before .before .before .fill .ensures) (omega arith) in
-    let read = c .before .before .show .ensures .is _ _ (bits (a .shares .now)) (bits (a .tape .now)) _ (c .before .before .before .before .before .before .reach-stops .ensures) new in (
+    let new = evaluated _ _ _ _ _ _ (passes v) (c .before .before .before .before .before .before .before .before .before .before .before .fill .ensures) (omega arith) in
+    let read = c .before .before .show .ensures .is _ _ (bits (a .shares .now)) (bits (a .tape .now)) _ (c .before .before .before .before .before .before .before .reach-stops .ensures) new in (
       sym (ap answerOf (v .verdict .given .1)) ∙ j .answers (sheets (judged v)) (shorter (judged v)),
       (
         j .noted,
@@ -68,7 +68,8 @@ read-probes-spec =
     (λ c κs. search needs) (λ c κs. search needs) (λ c. search needs) (λ c. search needs) (λ c. search needs)
     returns
     (λ c κs. evaluable _ _ _ _ _ _ (passes (c .before .before)) (omega arith))
-    (λ c κs. let p = passes (c .before .before .before .before .before .before) in (p .of .accepted, p .wires-are, p .probed, refl))
+    (λ c. search needs)
+    (λ c κs. let p = passes (c .before .before .before .before .before .before) in record { accepted = p .of .accepted; wires-are = p .wires-are; made = p .probed; clear = refl; room = omega (arith, p .few) })
     show-requires
     (λ c. search needs) (λ c. search needs) (λ c. search needs)
     returns-2)

@@ -3,16 +3,15 @@ use mathlib.Core.Path.{_≡_}
 use mathlib.Core.Bool.{Bool}
 use mathlib.Core.List.{List}
 use Prim.Native.Nat.{ℕ, _*_, _≤_, _<_}
-use lib.ListN.{length, take}
-use Rattle.circuit.specs.Limits.{tableLimit}
+use lib.ListN.{length, take, replicate}
 use Rattle.circuit.specs.Lists.{nth, mem, overwrite}
 use Rattle.circuit.specs.Wires.{Wire}
-use Rattle.circuit.specs.Circuit.{isSet}
+use Rattle.circuit.specs.Circuit.{size, isSet}
 use Rattle.circuit.specs.Composition.{Frame}
 use Rattle.circuit.proofs.Base.{In}
 use Rattle.semantics.specs.Values.{bytes, valuesOf}
 use Rattle.semantics.specs.Probes.{stops, readingOf}
-use Rattle.gadgets.specs.Internal.Accepting.{AcceptedTable, Between}
+use Rattle.gadgets.specs.Internal.Accepting.{AcceptedTable, circuitIn, Between}
 use Rattle.reach.specs.Internal.Marks.{Marked}
 
 -- a buffer that holds the places of the first frames
@@ -23,8 +22,16 @@ Starts table fs starts count = (i : ℕ) → i < count → (b : Between table fs
 pub record Lists (table starts : List ℕ) (count : ℕ) : Type 0 where
   pub accepted : AcceptedTable table
   pub all : count ≡ length (accepted .fs)
-  pub few : 2 * count ≤ tableLimit
+  pub few : 2 * count ≤ length table
   pub starts-are : Starts table (accepted .fs) starts count
+
+-- what they are reached from: an accepted table, probes on its wires, and clear marks for all of these
+pub record Reachable (table : List ℕ) (wires : ℕ) (probes marks : List ℕ) : Type 0 where
+  pub accepted : AcceptedTable table
+  pub wires-are : wires ≡ size (circuitIn table)
+  pub made : (x : ℕ) → In x probes → x < wires
+  pub clear : marks ≡ replicate (length marks) 0
+  pub room : wires ≤ length marks
 
 -- marks on exactly the stops that probes on these wires read
 pub record OnStops (ws : List Wire) (probes marks : List ℕ) : Type 0 where

@@ -20,11 +20,11 @@ list-marked-spec =
     (tie.spec
     Inv-loop
     μ-loop
-    (λ c. (omega arith, listed-start _ _ (c .pre .1)))
+    (λ c. (omega arith, listed-start _ _ (c .before .pre .2)))
     (λ c. omega arith)
     (λ c κs. let l = c .before .before .before .loop .inv .1 in (omega arith, omega (arith, l .few), l .sized))
     (λ c. search needs)
     (λ c. omega arith)
     (λ c. (omega arith, listed-next (c .before .before .before .before .loop .inv .1) (c .list-wire .ensures .0) (c .list-wire .ensures .1)))
-    (λ c. let a = c .before .before .args in let e : c .before .loop .x ≡ a .wires = omega arith in
+    (λ c. let a = c .before .before .before .args in let e : c .before .loop .x ≡ a .wires = omega arith in
     subst (λ (n : ℕ). Listed (a .marks .now) n (c .before .loop .read) (c .before .loop .count)) e (c .before .loop .inv .1)))

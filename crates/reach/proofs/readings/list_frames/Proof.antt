@@ -29,8 +29,8 @@ onward c = let l = c .before .loop .inv .0 in frame-words (l .accepted) (l .betw
 room : (c : tie.In-loop Inv-loop μ-loop) → (2 * c .before .loop .count + 2 ≤ tableLimit) × (c .before .loop .at ≤ tableLimit) × (c .before .loop .count < length (c .before .loop .starts))
 room c =
     let l = c .before .loop .inv .0 in
-    let few : 2 * c .before .loop .count + 2 ≤ tableLimit = omega (arith, l .spaced, onward c .past, onward c .next .most, l .accepted .short) in
-    (few, omega (arith, l .between .most, l .accepted .short), omega (arith, start c .pre .1, c .before .loop .inv .1))
+    let few : 2 * c .before .loop .count + 2 ≤ length (start c .args .table .now) = omega (arith, l .spaced, onward c .past, onward c .next .most) in
+    (omega (arith, l .accepted .short), omega (arith, l .between .most, l .accepted .short), omega (arith, start c .pre .1, c .before .loop .inv .1))
 
 -- what the code adds to the place
 added : (c : tie.After-decide Inv-loop μ-loop) → let t = c .before .before in let table = start t .args .table .now in

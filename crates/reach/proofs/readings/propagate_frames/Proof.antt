@@ -1,18 +1,20 @@
 -- The loop's invariant: the frames from the i-th on have moved their marks on.
-use mathlib.Core.Path.{_≡_, sym, _∙_}
-use Prim.Native.Nat.{_-_}
+use mathlib.Core.Path.{_≡_, refl, sym, ap, _∙_}
+use Prim.Native.Nat.{_-_, _≤_}
 use native.Mathlib.Omega.{arith}
+use lib.ListN.{length}
 use borrow.Author.Needs.{needs}
 use Rattle.circuit.specs.Lists.{nth}
+use Rattle.circuit.specs.Circuit.{size}
 use Rattle.frames.specs.declared.walk.Step.the-variants.{Next}
 use Rattle.frames.specs.Walk.{stepAt}
 use Rattle.reach.proofs.readings.propagate_frames.Statement.{statement}
 use Rattle.reach.proofs.readings.propagate_frames.Tie as tie
-use Rattle.gadgets.proofs.Walking.{headed, second-word}
-use Rattle.reach.proofs.Propagating.{PropagatedTo, propagated-start, propagated-end, propagated-next, no-end, no-refusal, covers, found}
+use Rattle.gadgets.proofs.Walking.{whole, headed, second-word}
+use Rattle.reach.proofs.Propagating.{PropagatedTo, propagated-start, propagated-end, propagated-next, no-end, no-refusal, covers, found, within}
 
 abbrev Inv-loop : tie.InvT-loop
-Inv-loop table starts count wires marks₀ d n w₀ i₀ marks w i = PropagatedTo table starts count marks₀ marks w i
+Inv-loop table starts count wires marks₀ d n w₀ i₀ marks w i = PropagatedTo table starts count marks₀ marks w i × (length marks ≡ length marks₀)
 
 abbrev μ-loop : tie.MeasureT-loop
 μ-loop table starts count wires marks₀ d n w₀ i₀ marks w i = i
@@ -24,20 +26,26 @@ turn c = c .before .before .before .before
 abbrev head : tie.After-step2 Inv-loop μ-loop → tie.At-loop Inv-loop μ-loop
 head c = turn c .before
 
-met : (c : tie.After-step2 Inv-loop μ-loop) → let a = head c .before .before .before .before .args in let g = c .step2 .given .0 in
+met : (c : tie.After-step2 Inv-loop μ-loop) → let a = head c .before .before .before .before .before .args in let g = c .step2 .given .0 in
     stepAt (a .table .now) (nth (a .table .now) 1) (nth (a .starts .now) (head c .loop .i - 1)) ≡ Next (g .0) (g .1 .0) (g .1 .1 .0)
 met c = sym (c .before .before .step .ensures) ∙ c .step2 .given .1
+
+-- the marks have room for all wires
+room : (c : tie.At-loop Inv-loop μ-loop) → length (whole (c .loop .inv .0 .lists .accepted) .wires) ≤ length (c .loop .marks)
+room c = let p = c .before .before .before .before .before .pre in omega (arith, p .2, p .3, ap size (c .loop .inv .0 .lists .accepted .circuit-is), c .loop .inv .1)
 
 propagate-frame-requires : tie.Need-propagate-frame-requires Inv-loop μ-loop
 propagate-frame-requires c κs =
     let t = c .before .before .before .before in
-    let f = found (head t .loop .inv) (turn t .loop-test .taken) (met t) in
-    (f .small, omega (arith, f .few, f .as-many, covers (head t .loop .inv) (turn t .loop-test .taken) (met t)), rw (c .before .before .operands .ensures) (f .early))
+    let i = head t .loop .inv .0 in
+    let h = turn t .loop-test .taken in
+    (found i h (met t) .small, omega (arith, within i h (met t), room (head t)), rw (c .before .before .operands .ensures) (found i h (met t) .early))
 
 loop-again : tie.Need-loop-again Inv-loop μ-loop
 loop-again c =
-    let t = c .before .before .before .before .before in
-    propagated-next (head t .loop .inv) (turn t .loop-test .taken) (met t) (omega arith) (rw (c .before .before .before .operands .ensures) at (c .propagate-frame .ensures))
+    let t = c .before .before .before .before .before .before .before in
+    let i = head t .loop .inv in
+    (propagated-next (i .0) (turn t .loop-test .taken) (met t) (room (head t)) (rw (c .before .before .before .before .before .operands .ensures) at (c .before .before .propagate-frame .ensures)), c .before .marks .given ∙ i .1)
 
 pub propagate-frames-spec : {M : Type 1} → statement M
 propagate-frames-spec =
@@ -45,20 +53,23 @@ propagate-frames-spec =
     (tie.spec
     Inv-loop
     μ-loop
-    (λ c. omega (arith, headed (c .before .before .before .pre .0 .accepted)))
-    (λ c. record { fits = omega (arith, second-word (c .before .before .before .pre .0 .accepted)) })
-    (λ c. propagated-start (c .before .before .before .pre .0) (c .before .before .before .pre .2) _)
+    (λ c. omega (arith, headed (c .before .before .before .before .pre .0 .accepted)))
+    (λ c. record { fits = omega (arith, second-word (c .before .before .before .before .pre .0 .accepted)) })
+    (λ c. (propagated-start (c .before .before .before .before .pre .0) (c .before .before .before .before .pre .2) _, refl))
     (λ c. c .loop-test .taken)
     (λ c. search needs)
-    (λ c. omega (arith, c .before .before .loop .inv .most))
+    (λ c. omega (arith, c .before .before .loop .inv .0 .most))
     (λ c. record { fits = omega (arith, c .shared-slice-known4 .given (c .before .before .loop .i - 1)) })
     (λ c κs. search needs) (λ c. search needs)
-    (λ c. absurd (no-end (c .before .before .before .before .before .loop .inv) (c .before .before .before .before .loop-test .taken) (sym (c .before .before .step .ensures) ∙ c .enum-told .given .1)))
+    (λ c. c .before .before .before .before .before .loop .inv .1)
+    (λ c. absurd (no-end (c .before .before .before .before .before .loop .inv .0) (c .before .before .before .before .loop-test .taken) (sym (c .before .before .step .ensures) ∙ c .enum-told .given .1)))
     (λ c. search needs)
-    (λ c. absurd (no-refusal (c .before .before .before .before .before .loop .inv) (c .before .before .before .before .loop-test .taken) (sym (c .before .before .step .ensures) ∙ c .enum-told2 .given .1)))
+    (λ c. c .before .before .before .before .before .loop .inv .1)
+    (λ c. absurd (no-refusal (c .before .before .before .before .before .loop .inv .0) (c .before .before .before .before .loop-test .taken) (sym (c .before .before .step .ensures) ∙ c .enum-told2 .given .1)))
     (λ c. search needs) (λ c κs. search needs)
-    (λ c. let t = c .before .before .before in covers (head t .loop .inv) (turn t .loop-test .taken) (met t))
+    (λ c. let t = c .before .before .before in covers (head t .loop .inv .0) (turn t .loop-test .taken) (met t))
     propagate-frame-requires
     (λ c. omega arith)
     loop-again
-    (λ c. propagated-end (c .before .loop .inv) (c .loop-test .left)))
+    (λ c. c .before .loop .inv .1)
+    (λ c. propagated-end (c .before .loop .inv .0) (c .loop-test .left)))
