@@ -6,7 +6,7 @@ ghost use mathlib.Core.Path.{_≡_};
 ghost use mathlib.Core.List.{[], _∷_};
 ghost use lib.ListN.{length};
 ghost use Rattle.circuit.specs.Rules.{checked};
-ghost use Rattle.circuit.specs.Answer.{verdictOf, notesAfter};
+ghost use Rattle.circuit.specs.Answer.{refused, verdictOf, notesAfter};
 ghost use Rattle.semantics.specs.Calls.{written, callRule, callAnswer, callNotes, valueBytes, readingBytes};
 ghost use Rattle.text.specs.Reader.{readText};
 ghost use Rattle.text.specs.Answer.{textAnswer, textAnswerOf, tableAfter};
@@ -18,7 +18,24 @@ use checker::Verdict;
 use counting::Counted;
 use text::TextVerdict;
 
-// Puts a verdict's numbers where the caller wants them, and answers its result.
+// Puts a refusal's numbers where the caller wants them, and answers its result.
+fn put_refusal(
+    rule: usize,
+    frame: usize,
+    word: usize,
+    first: &mut u64,
+    second: &mut u64,
+    third: &mut u64,
+) -> u64
+    ensures answered { λ r. ⌜ AnswerIs (refused rule frame word) r (now (first .exit)) (now (second .exit)) (now (third .exit)) ⌝ }
+{
+    *first = frame as u64;
+    *second = word as u64;
+    *third = 0;
+    rule as u64
+}
+
+// The same for a verdict.
 fn put(verdict: Verdict, a: &mut u64, b: &mut u64, c: &mut u64) -> u64
     ensures answered { λ r. ⌜ AnswerIs (answerOf verdict) r (now (a .exit)) (now (b .exit)) (now (c .exit)) ⌝ }
 {
@@ -34,12 +51,7 @@ fn put(verdict: Verdict, a: &mut u64, b: &mut u64, c: &mut u64) -> u64
             *c = latency as u64;
             0
         }
-        Verdict::Refused { rule, frame, word } => {
-            *a = frame as u64;
-            *b = word as u64;
-            *c = 0;
-            rule as u64
-        }
+        Verdict::Refused { rule, frame, word } => put_refusal(rule, frame, word, a, b, c),
     }
 }
 
@@ -76,12 +88,7 @@ fn put_count(counted: Counted, a: &mut u64, b: &mut u64, c: &mut u64) -> u64
             *c = pairs as u64;
             0
         }
-        Counted::Refused { rule, frame, word } => {
-            *a = frame as u64;
-            *b = word as u64;
-            *c = 0;
-            rule as u64
-        }
+        Counted::Refused { rule, frame, word } => put_refusal(rule, frame, word, a, b, c),
     }
 }
 

@@ -1,16 +1,9 @@
-use Rattle.exports.proofs.Telling.{moved}
+-- The checker's answer, by its numbers.
 use borrow.Author.Needs.{needs}
+use Rattle.exports.proofs.Telling.{moved}
 use Rattle.exports.proofs.masked_check.Statement.{statement}
 use Rattle.exports.proofs.masked_check.Tie as tie
-use Rattle.exports.proofs.masked_check.Reads as reads
-use Rattle.exports.proofs.masked_check.Lts as lts
-use Rattle.checker.proofs.check.Reads as check-reads
-use Rattle.exports.proofs.put.Reads as put-reads
 
--- src/lib.rt:57:9
--- src/lib.rt:58:5
--- src/lib.rt:43:1
--- src/lib.rt:43:1
 returns : tie.Need-returns
 returns c = (moved (c .before .before .before .before .before .before .check .ensures .0) (c .put .ensures), c .before .before .before .before .before .before .check .ensures .1 .0)
 
