@@ -17,7 +17,7 @@ list-on-requires c κs =
 list-on-requires-2 : tie.Need-list-on-requires-2
 list-on-requires-2 c κs =
     let s = c .before .before .before .before .before .before .before .before .before in
-    (s .pre, omega arith, omega arith, omega arith, omega arith, zeros-at 256 (s .args .wires))
+    (s .pre, omega arith, omega arith, omega arith, omega arith, zeros-at 257 (s .args .wires))
 
 pub list-counts-spec : {M : Type 1} → statement M
 list-counts-spec =
