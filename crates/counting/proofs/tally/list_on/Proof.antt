@@ -54,7 +54,8 @@ tally-set-requires-2 c κs =
     let p = planned (one-tallied c) in
     let s = start p in
     let n = s .pre .0 in
-    (second-set (n .numbered) (s .args .secrets .now) (n .sized) (n .bit), p .plan-pairs .ensures .0, plan-expanded (p .plan-pairs .result) (wires p) (p .plan-pairs .ensures .1) (expanded p .expand .ensures), omega (arith, wires p, s .pre .4, c .before .before .before .before .before .before .before .values .given), c .before .before .before .before .before .before .before .before .tally-set .ensures .1, n .read-in, refl, zeros-at 256)
+    let v = c .before .before .before .before .before .before .before in
+    (second-set (n .numbered) (s .args .secrets .now) (n .sized) (n .bit), p .plan-pairs .ensures .0, plan-expanded (p .plan-pairs .result) (wires p) (p .plan-pairs .ensures .1) (expanded p .expand .ensures), omega (arith, wires p, s .pre .4, v .values .given), v .before .tally-set .ensures .1, n .read-in, refl, zeros-at 256)
 
 write-list-requires : tie.Need-write-list-requires
 write-list-requires c κs =
