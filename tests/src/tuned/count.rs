@@ -1,13 +1,20 @@
-//! Counts: the check's pass and the stops once, then a pass over the frames for eight pairs of sharing and tape at a time, one in
-//! each bit of a byte.
+//! Counts: the check's pass and the stops once, then a pass over the frames for many pairs of sharing and tape at a time, eight
+//! in the bits of each byte.
 use super::evaluate::bits;
 use super::lanes::{Lanes, Planes};
 use super::planes::write;
 use super::{check, reach, Found, Refused};
 
-/// Bytes that a wire has in one pass over the frames: eight pairs, as the proved code has them. With 64 bytes the passes become
-/// vector code and the counts several times as fast (docs/DECISIONS.md says why the proved code has one).
-const PLANES: usize = 1;
+/// Bytes that a wire has in one pass over the frames, where there are pairs enough: 512 pairs.
+const MOST_PLANES: usize = 64;
+
+const fn planes(wanted: usize) -> usize {
+    if wanted < MOST_PLANES {
+        wanted
+    } else {
+        MOST_PLANES
+    }
+}
 
 pub fn count(
     table: &[u16],
@@ -18,7 +25,12 @@ pub fn count(
 ) -> Result<[usize; 3], Refused> {
     let task = Task::new(table, notes, secrets, probes, counts.len())?;
     let mut tally = Tally::new(&task);
-    all_pairs::<PLANES>(table, &task, secrets, &mut tally);
+    match task.bits {
+        0..=3 => all_pairs::<1>(table, &task, secrets, &mut tally),
+        4 | 5 => all_pairs::<{ planes(4) }>(table, &task, secrets, &mut tally),
+        6 | 7 => all_pairs::<{ planes(16) }>(table, &task, secrets, &mut tally),
+        _ => all_pairs::<MOST_PLANES>(table, &task, secrets, &mut tally),
+    }
     Ok(task.answer(counts, |set, combination| tally.times(set, combination)))
 }
 
