@@ -14,6 +14,7 @@ mod notes;
 use forms::Spot;
 use frame::Added;
 use frame::Tally;
+use frames::randoms::random_bits;
 use frames::walk::Step;
 use frames::walk::Walk;
 
@@ -84,12 +85,13 @@ fn check_frames(table: &[u16], notes: &mut [u16]) -> Verdict
     ensures inputs { λ r. ⌜ inputsAre r (checked (now (table .entry)) (length (now (notes .entry))) .circuit .inputs) ⌝ }
 {
     let d = table[1];
+    let randoms = random_bits(d);
     let mut walk = Walk { d, at: 2 };
     let mut tally = frame::head_alone();
     let mut broken = Spot { rule: 0, word: 0 };
     let mut going = true;
     while going {
-        let step = walk.step(table);
+        let step = walk.step(table, randoms);
         match step {
             Step::End => {
                 going = false;

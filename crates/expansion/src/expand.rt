@@ -8,6 +8,7 @@ ghost use Rattle.circuit.specs.Circuit.{size};
 ghost use Rattle.gadgets.specs.Internal.Accepting.{AcceptedTable, circuitIn};
 ghost use Rattle.expansion.specs.Internal.Expanding.{noSum, affineOf, Enters, Expanded};
 use circuit::WIRES;
+use frames::randoms::random_bits;
 use frames::walk::Frame;
 use frames::walk::Gate;
 use frames::walk::Step;
@@ -119,13 +120,14 @@ pub fn expand(
     let behind = wires as u16;
     let d = table[1];
     let n = d as usize;
+    let randoms = random_bits(d);
     let mut walk = Walk { d, at: 2 };
     let mut first = 0;
     let mut from = 0;
     let mut used = 0;
     let mut count = 0;
     loop {
-        let step = walk.step(table);
+        let step = walk.step(table, randoms);
         match step {
             Step::Next {
                 frame,

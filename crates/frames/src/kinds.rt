@@ -1,6 +1,6 @@
 // What the kind word decides, once d is known: the one decision over kinds 0 to 8.
 ghost use mathlib.Core.Path.{_≡_};
-ghost use Rattle.circuit.specs.Kinds.{kindOf};
+ghost use Rattle.circuit.specs.Kinds.{kindOf, pairs, words};
 ghost use Rattle.frames.specs.Walk.{kindLine, shapeCode, Means};
 
 pub enum Kind {
@@ -67,15 +67,17 @@ fn kind_line(
     }
 }
 
-// The frame that a kind word begins. A word past 8 is no kind and is answered as HEAD. The kinds stand in three groups, so
-// that a processor foresees each by its own branches: one jump for all of them cost some tables of gates twice the time.
-pub fn decide(word: u16, d: u16) -> Shape
-    ensures shaped { λ r. ⌜ r ≡ shapeCode d (kindOf word) ⌝ }
+// The frame that a kind word begins, given the random bits of a gadget of d shares. How many words follow the kind does not
+// depend on them. A word past 8 is no kind and is answered as HEAD. The kinds stand in three groups, so that a processor
+// foresees each by its own branches: one jump for all of them cost some tables of gates twice the time.
+pub fn decide(word: u16, d: u16, randoms: u16) -> Shape
+    ensures shaped { λ r. ⌜ (randoms ≡ pairs d → r ≡ shapeCode d (kindOf word)) ⌝ }
+    ensures worded { λ r. ⌜ r .words ≡ words d (kindOf word) ⌝ }
     ensures formed { λ r. ⌜ Means d (r .form) (kindOf word) ⌝ }
 {
     let n = d as usize;
     let ordered = n * n - n;
-    let pairs = ordered / 2;
+    let pairs = randoms as usize;
     if word < 3 {
         return match word {
             1 => kind_line(Kind::In, Form::Stage, 1, n, 0, 1),

@@ -1,5 +1,6 @@
 // The walk over the frames of a table.
 ghost use mathlib.Core.Path.{_≡_};
+ghost use Rattle.circuit.specs.Kinds.{pairs};
 ghost use Rattle.circuit.specs.Lists.{nth};
 ghost use Rattle.frames.specs.Walk.{frameCode, framedBy, operandsAt, stepAt};
 use super::kinds;
@@ -128,7 +129,7 @@ impl Walk {
         if n <= at {
             return &table[n..n];
         }
-        let shape = kinds::decide(table[at], self.d);
+        let shape = kinds::decide(table[at], self.d, 0);
         let words = shape.words;
         let start = at + 1;
         if n - start < words {
@@ -138,9 +139,9 @@ impl Walk {
         &table[start..end]
     }
 
-    // The frame at the walk's place, and the walk behind it.
-    pub fn step(self, table: &[u16]) -> Step
-        ensures { λ r. ⌜ r ≡ stepAt (now (table .entry)) (self .d) (self .at) ⌝ }
+    // The frame at the walk's place, and the walk behind it, given the random bits of a gadget of the walk's number of shares.
+    pub fn step(self, table: &[u16], randoms: u16) -> Step
+        ensures { λ r. ⌜ (randoms ≡ pairs (self .d) → r ≡ stepAt (now (table .entry)) (self .d) (self .at)) ⌝ }
     {
         let at = self.at;
         let d = self.d;
@@ -157,7 +158,7 @@ impl Walk {
         let start = at + 1;
         let n = table.len();
         let rest = &table[start..n];
-        let shape = kinds::decide(word, d);
+        let shape = kinds::decide(word, d, randoms);
         let kind = shape.kind;
         let words = shape.words;
         let framed = frame_of(kind, words, rest);

@@ -11,7 +11,7 @@ use borrow.Author.Tests.{lt-ltb, le-ltb, le-leb}
 use Rattle.circuit.specs.Limits.{wireLimit, tableLimit, notesRoom}
 use Rattle.circuit.specs.Lists.{nth}
 use Rattle.circuit.specs.Wires.{Wire}
-use Rattle.circuit.specs.Kinds.{Kind, kindOf, shape, words}
+use Rattle.circuit.specs.Kinds.{Kind, kindOf, pairs, shape, words}
 use Rattle.circuit.specs.Circuit.{Circuit, size, empty, made, extend}
 use Rattle.circuit.specs.Rules.{checked}
 use Rattle.circuit.specs.Composition.{Frame, Fits, fit-IN, fit-CON, fit-XOR, fit-NOT, fit-REG, fit-AND, fit-REF, fit-OUT, AllFit, next, build, kindWord, wordsOf}
@@ -25,7 +25,9 @@ use Rattle.frames.specs.declared.walk.Walk.{Walk}
 use Rattle.frames.specs.declared.walk.Step.{Step}
 use Rattle.frames.specs.declared.walk.Step.the-variants.{Next, Refused, End}
 use Rattle.frames.specs.declared.kinds.Shape.{Shape as ShapeCode}
+use Rattle.frames.specs.Randoms.{listedPairs}
 use Rattle.frames.specs.Walk.{kindCode, shapeCode, frameCode, operandsAt, behind, stepAt}
+use Rattle.frames.proofs.RandomBits.{listed-right}
 use Rattle.gadgets.specs.Internal.Gates.{gateAt, OrderedFrom, FrameGates}
 use Rattle.gadgets.specs.Internal.Frames.{frameWires, Small, FrameEarly, FrameSupplied}
 use Rattle.gadgets.specs.Internal.Accepting.{AcceptedTable, circuitIn, Between}
@@ -53,6 +55,10 @@ same-circuit a = a .circuit-is ∙ sym (least-notes a .circuit-is)
 -- the second word of an accepted table is its number of shares
 pub second-word : {table : List ℕ} (a : AcceptedTable table) → nth table 1 ≡ a .d
 second-word a = ap (λ t. nth t 1) (a .table-is)
+
+-- so the list's number of random bits is that of its gadgets
+pub given-bits : {table : List ℕ} → AcceptedTable table → {randoms d : ℕ} → randoms ≡ listedPairs (nth table 1) → d ≡ nth table 1 → randoms ≡ pairs d
+given-bits {table} a e same = e ∙ listed-right (nth table 1) (omega (arith, second-word a, a .most)) ∙ ap pairs (sym same)
 
 pub headed : {table : List ℕ} → AcceptedTable table → 2 ≤ length table
 headed a = omega (arith, ap length (a .table-is))

@@ -4,13 +4,14 @@ ghost use Prim.Native.Nat.{_+_, _*_, _/_, _-_, _≤_, _<_};
 ghost use lib.ListN.{length};
 ghost use Rattle.gadgets.specs.Internal.Places.{wordA, wordB, rowStart, pairSite, slotOf, crossStart, pairAt, productAt, crossAt, outAt, maskAt, sumAt};
 ghost use Rattle.gadgets.specs.Internal.Frames.{Small};
+use frames::randoms::random_bits;
 
 // How many pairs two of d shares make.
 pub fn pairs(d: usize) -> usize
     requires { ⌜ (0 < d) × (d ≤ 8) ⌝ }
     ensures { λ r. ⌜ (r ≡ d * (d - 1) / 2) × (r ≤ 32) ⌝ }
 {
-    d * (d - 1) / 2
+    random_bits(d as u16) as usize
 }
 
 // How many pairs of shares come before those whose lower share is i.
@@ -18,7 +19,7 @@ fn row_start(d: usize, i: usize) -> usize
     requires { ⌜ (i < d) × (d ≤ 8) ⌝ }
     ensures { λ r. ⌜ (r ≡ rowStart d i) × (r ≤ 64) ⌝ }
 {
-    i * (2 * d - i - 1) / 2
+    pairs(d) - pairs(d - i)
 }
 
 // The place of the pair of two different shares among all pairs.

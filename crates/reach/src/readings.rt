@@ -16,6 +16,7 @@ use super::reach;
 use circuit::TABLE_WORDS;
 use circuit::WIRES;
 use frames::kinds::decide;
+use frames::randoms::random_bits;
 use frames::walk::Frame;
 use frames::walk::Gate;
 use frames::walk::Step;
@@ -92,7 +93,7 @@ fn list_frames(table: &[u16], starts: &mut [u16]) -> usize
     while at < table.len() {
         starts[count] = at as u16;
         count += 1;
-        at += 1 + decide(table[at], d).words;
+        at += 1 + decide(table[at], d, 0).words;
     }
     count
 }
@@ -104,6 +105,7 @@ fn propagate_frames(table: &[u16], starts: &[u16], count: usize, wires: usize, m
 {
     let d = table[1];
     let n = d as usize;
+    let randoms = random_bits(d);
     let mut w = wires;
     let mut i = count;
     while 0 < i {
@@ -112,7 +114,7 @@ fn propagate_frames(table: &[u16], starts: &[u16], count: usize, wires: usize, m
             d,
             at: starts[i] as usize,
         };
-        let step = walk.step(table);
+        let step = walk.step(table, randoms);
         match step {
             Step::End => {
                 return;

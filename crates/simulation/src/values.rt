@@ -11,6 +11,7 @@ ghost use Rattle.simulation.specs.Internal.Filling.{Fills, FrameValues};
 ghost use Rattle.simulation.specs.Internal.Evaluating.{Evaluable, Evaluates};
 ghost use Rattle.simulation.specs.Internal.Walked.{FilledTo, FillsFrames};
 use super::gadget;
+use frames::randoms::random_bits;
 use frames::walk::Frame;
 use frames::walk::Gate;
 use frames::walk::Step;
@@ -120,12 +121,13 @@ pub fn fill_frames(
 {
     let d = table[1];
     let n = d as usize;
+    let randoms = random_bits(d);
     let mut walk = Walk { d, at: place.at };
     let mut first = place.first;
     let mut from = place.from;
     let mut used = place.used;
     loop {
-        let step = walk.step(table);
+        let step = walk.step(table, randoms);
         match step {
             Step::Next {
                 frame,

@@ -62,7 +62,7 @@ pub(crate) fn lengths(d: u16) -> [usize; 9]
     let mut lengths = [0usize; 9];
     let mut kind = 0;
     while kind < 9 {
-        lengths[kind] = 1 + kinds::decide(kind as u16, d).words;
+        lengths[kind] = 1 + kinds::decide(kind as u16, d, 0).words;
         kind += 1;
     }
     lengths

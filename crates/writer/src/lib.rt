@@ -16,6 +16,7 @@ ghost use Rattle.writer.specs.Internal.Line.{PairsTo, refusalIn};
 mod line;
 
 use checker::Verdict;
+use frames::randoms::random_bits;
 use frames::walk::Step;
 use frames::walk::Walk;
 use text::TextVerdict;
@@ -44,9 +45,11 @@ fn write_frames(pairs: &[u16; 256], table: &[u16], text: &mut [u8])
     requires { ⌜ PairsTo 256 (now pairs) × AcceptedTable (now table) × (5 * length (now table) ≤ length (now text)) ⌝ }
     ensures { λ _. ⌜ now (text .exit) ≡ sets (now (text .entry)) 10 (linesFrom (nth (now (table .entry)) 1) 0 (drop 2 (now (table .entry)))) ⌝ }
 {
-    let mut walk = Walk { d: table[1], at: 2 };
+    let d = table[1];
+    let randoms = random_bits(d);
+    let mut walk = Walk { d, at: 2 };
     loop {
-        let step = walk.step(table);
+        let step = walk.step(table, randoms);
         match step {
             Step::Next {
                 frame: _,

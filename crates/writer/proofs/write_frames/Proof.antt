@@ -4,24 +4,29 @@ use Prim.Native.Nat.{_*_, _-_}
 use native.Mathlib.Omega.{arith}
 use lib.ListN.{length}
 use borrow.Author.Needs.{needs}
+use Rattle.circuit.specs.Kinds.{pairs}
 use Rattle.circuit.specs.Lists.{nth}
 use Rattle.circuit.specs.Circuit.{size}
 use Rattle.frames.specs.declared.walk.Step.{Step}
 use Rattle.frames.specs.Walk.{stepAt}
-use Rattle.gadgets.proofs.Walking.{headed, second-word, so-far, Met, Answers, step-answers}
+use Rattle.gadgets.proofs.Walking.{headed, second-word, given-bits, so-far, Met, Answers, step-answers}
 use Rattle.writer.proofs.Writing.{LinesTo, lines-start, lines-next, lines-done}
 use Rattle.writer.proofs.write_frames.Statement.{statement}
 use Rattle.writer.proofs.write_frames.Tie as tie
 
 abbrev Inv-loop : tie.InvT-loop
-Inv-loop pairs table text₀ walk₀ text walk = (walk .d ≡ nth table 1) × LinesTo table text₀ text (walk .at)
+Inv-loop digits table text₀ d randoms walk₀ text walk = (walk .d ≡ nth table 1) × LinesTo table text₀ text (walk .at)
 
 abbrev μ-loop : tie.MeasureT-loop
-μ-loop pairs table text₀ walk₀ text walk = length table - walk .at
+μ-loop digits table text₀ d randoms walk₀ text walk = length table - walk .at
 
 -- the step's answer at the loop's head
 abbrev start : tie.At-loop Inv-loop μ-loop → tie.Start Inv-loop μ-loop
-start c = c .before .before .before .before
+start c = c .before .before .before .before .before
+
+-- the random bits that the step is given are those of a gadget
+given : (c : tie.At-loop Inv-loop μ-loop) → c .before .random-bits .result ≡ pairs (c .loop .walk .d)
+given c = given-bits (start c .pre .1) (c .before .random-bits .ensures .0) (c .loop .inv .0)
 
 abbrev lines : (c : tie.At-loop Inv-loop μ-loop) → LinesTo (start c .args .table .now) (start c .args .text .now) (c .loop .text) (c .loop .walk .at)
 lines c = c .loop .inv .1
@@ -38,7 +43,7 @@ head c = c .before .before .before
 
 met : (c : tie.After-step2 Inv-loop μ-loop) → let h = lines (head c) in let k = so-far (h .accepted) (h .between) in let g = c .step2 .given .0 in
     Met (h .accepted) (h .between) (nth (start (head c) .args .table .now) 1) (size k) (k .inputs * h .accepted .d) (g .0) (g .1 .0) (g .1 .1 .0)
-met c = answered (head c) (sym (c .before .before .step .ensures) ∙ c .step2 .given .1)
+met c = answered (head c) (sym (c .before .before .step .ensures (given (head c))) ∙ c .step2 .given .1)
 
 write-words-requires : tie.Need-write-words-requires Inv-loop μ-loop
 write-words-requires c κs =
@@ -67,7 +72,8 @@ write-frames-spec =
     Inv-loop
     μ-loop
     (λ c. omega (arith, headed (c .before .before .before .pre .1)))
-    (λ c. (refl, lines-start _ (c .before .before .before .pre .1)))
+    (λ c κs. search needs)
+    (λ c. (refl, lines-start _ (c .before .before .before .before .pre .1)))
     (λ c κs. search needs) (λ c. search needs)
     write-words-requires
     end-line-requires
@@ -75,7 +81,7 @@ write-frames-spec =
     loop-again
     (λ c. search needs)
     (λ c. lines (c .before .before .before) .sized)
-    (λ c. let h = c .before .before .before in lines-done (lines h) (answered h (sym (c .before .before .step .ensures) ∙ c .enum-told .given .1)))
+    (λ c. let h = c .before .before .before in lines-done (lines h) (answered h (sym (c .before .before .step .ensures (given h)) ∙ c .enum-told .given .1)))
     (λ c. search needs)
     (λ c. lines (c .before .before .before) .sized)
-    (λ c. absurd (answered (c .before .before .before) (sym (c .before .before .step .ensures) ∙ c .enum-told2 .given .1))))
+    (λ c. let h = c .before .before .before in absurd (answered h (sym (c .before .before .step .ensures (given h)) ∙ c .enum-told2 .given .1))))

@@ -5,28 +5,33 @@ use native.Mathlib.Omega.{arith}
 use lib.ListN.{length, length-set}
 use borrow.Author.Needs.{needs}
 use Rattle.circuit.specs.Limits.{wireLimit}
+use Rattle.circuit.specs.Kinds.{pairs}
 use Rattle.circuit.specs.Lists.{nth}
 use Rattle.circuit.proofs.Exact.{accepted-size}
 use Rattle.frames.specs.declared.walk.Step.{Step}
 use Rattle.frames.specs.Walk.{stepAt}
-use Rattle.gadgets.proofs.Walking.{headed, second-word, Met, Answers, step-answers}
+use Rattle.gadgets.proofs.Walking.{headed, second-word, given-bits, Met, Answers, step-answers}
 use Rattle.expansion.proofs.expand.expand.Statement.{statement}
 use Rattle.expansion.proofs.expand.expand.Tie as tie
 use Rattle.expansion.proofs.Expanding.{ExpandedTo, Bits, bits, expanded-start, wires-within, expanded-next, all-expanded}
 
 abbrev Inv-loop : tie.InvT-loop
-Inv-loop table wires left₀ right₀ constants₀ listed₀ behind d n walk₀ first₀ from₀ used₀ count₀ left right constants listed walk first from used count =
+Inv-loop table wires left₀ right₀ constants₀ listed₀ behind d n randoms walk₀ first₀ from₀ used₀ count₀ left right constants listed walk first from used count =
     (walk .d ≡ nth table 1) × ExpandedTo table wires left right constants listed (walk .at) first from used count
     × (length left ≡ length left₀) × (length right ≡ length right₀) × (length constants ≡ length constants₀) × (length listed ≡ length listed₀)
 
 abbrev μ-loop : tie.MeasureT-loop
-μ-loop table wires left₀ right₀ constants₀ listed₀ behind d n walk₀ first₀ from₀ used₀ count₀ left right constants listed walk first from used count = length table - walk .at
+μ-loop table wires left₀ right₀ constants₀ listed₀ behind d n randoms walk₀ first₀ from₀ used₀ count₀ left right constants listed walk first from used count = length table - walk .at
 
 abbrev entry : tie.After-shared-slice-known2 Inv-loop μ-loop → tie.Start Inv-loop μ-loop
 entry c = c .before .before .before .before .before .before
 
 abbrev start : tie.At-loop Inv-loop μ-loop → tie.Start Inv-loop μ-loop
-start c = entry (c .before)
+start c = entry (c .before .before)
+
+-- the random bits that the step is given are those of a gadget
+given : (c : tie.At-loop Inv-loop μ-loop) → c .before .random-bits .result ≡ pairs (c .loop .walk .d)
+given c = given-bits (start c .pre .0) (c .before .random-bits .ensures .0) (c .loop .inv .0)
 
 -- the step's answer at the loop's head
 told : (c : tie.At-loop Inv-loop μ-loop) {s : Step} → let table = start c .args .table .now in
@@ -43,7 +48,7 @@ head c = c .before .before .before
 
 met : (c : tie.After-step2 Inv-loop μ-loop) → let l = head c .loop in let t = l .inv .1 in let g = c .step2 .given .0 in
     Met (t .expanded .accepted) (t .between) (nth (start (head c) .args .table .now) 1) (l .first) (l .from) (g .0) (g .1 .0) (g .1 .1 .0)
-met c = answered (head c) (sym (c .before .before .step .ensures) ∙ c .step2 .given .1)
+met c = answered (head c) (sym (c .before .before .step .ensures (given (head c))) ∙ c .step2 .given .1)
 
 taken : (c : tie.After-step2 Inv-loop μ-loop) → let t = head c .loop .inv .1 in Bits t (second-word (t .expanded .accepted)) (met c)
 taken c = let t = head c .loop .inv .1 in bits t (second-word (t .expanded .accepted)) (met c)
@@ -71,7 +76,7 @@ loop-again c =
     let i = head m .loop .inv in
     let t = i .1 in (
       met m .same,
-      rw (l .before .before .before .affine-of .ensures) (expanded-next t (second-word (t .expanded .accepted)) (met m) (told (head m) (sym (m .before .before .step .ensures) ∙ m .step2 .given .1)) (l .list .ensures)),
+      rw (l .before .before .before .affine-of .ensures) (expanded-next t (second-word (t .expanded .accepted)) (met m) (told (head m) (sym (m .before .before .step .ensures (given (head m))) ∙ m .step2 .given .1)) (l .list .ensures)),
       simp length-set (i .2),
       simp length-set (i .3),
       simp length-set (i .4),
@@ -87,7 +92,8 @@ expand-spec =
     (λ c. let p = c .before .before .before .before .before .pre in record { fits = omega (arith, p .2, accepted-size (p .0)) })
     (λ c. omega (arith, headed (entry c .pre .0)))
     (λ c. record { fits = omega (arith, second-word (entry c .pre .0)) })
-    (λ c. let p = entry c .pre in (refl, expanded-start (p .0) (p .1) (p .2) (p .3, p .4, p .5, p .6), refl, refl, refl, refl))
+    (λ c κs. search needs)
+    (λ c. let p = entry (c .before) .pre in (refl, expanded-start (p .0) (p .1) (p .2) (p .3, p .4, p .5, p .6), refl, refl, refl, refl))
     (λ c κs. search needs) (λ c. search needs) (λ c κs. search needs)
     (λ c. record { fits = omega (arith, first-most (c .before .before)) })
     (λ c. omega (arith, within (c .before .before), c .before .before .before .before .before .loop .inv .1 .expanded .left-room))
@@ -104,7 +110,7 @@ expand-spec =
     loop-again
     (λ c. search needs)
     (λ c. c .before .before .before .loop .inv .2) (λ c. c .before .before .before .loop .inv .3) (λ c. c .before .before .before .loop .inv .4) (λ c. c .before .before .before .loop .inv .5)
-    (λ c. let h = c .before .before .before in all-expanded (h .loop .inv .1) (answered h (sym (c .before .before .step .ensures) ∙ c .enum-told .given .1)))
+    (λ c. let h = c .before .before .before in all-expanded (h .loop .inv .1) (answered h (sym (c .before .before .step .ensures (given h)) ∙ c .enum-told .given .1)))
     (λ c. search needs)
     (λ c. c .before .before .before .loop .inv .2) (λ c. c .before .before .before .loop .inv .3) (λ c. c .before .before .before .loop .inv .4) (λ c. c .before .before .before .loop .inv .5)
-    (λ c. absurd (answered (c .before .before .before) (sym (c .before .before .step .ensures) ∙ c .enum-told2 .given .1))))
+    (λ c. let h = c .before .before .before in absurd (answered h (sym (c .before .before .step .ensures (given h)) ∙ c .enum-told2 .given .1))))

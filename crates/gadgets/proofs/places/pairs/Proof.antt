@@ -1,11 +1,13 @@
--- Small numbers: no sum and no product wraps.
-use mathlib.Core.Path.{refl}
+-- The list goes to eight shares.
+use mathlib.Core.Path.{_∙_}
 use native.Mathlib.Omega.{arith}
 use borrow.Author.Needs.{needs}
-use Rattle.gadgets.proofs.Bounds.{squares}
+use Rattle.frames.proofs.RandomBits.{listed-right}
 use Rattle.gadgets.proofs.places.pairs.Statement.{statement}
 use Rattle.gadgets.proofs.places.pairs.Tie as tie
 
 pub pairs-spec : {M : Type 1} → statement M
 pairs-spec = tie.close
-    (tie.spec (λ c. search needs) (λ c. omega (arith, squares (c .args .d) (omega arith))) (λ c. (refl, omega (arith, squares (c .args .d) (omega arith)))))
+    (tie.spec
+    (λ c. search needs) (λ c κs. search needs) (λ c. search needs)
+    (λ c. let (is, few) = c .random-bits .ensures in (is ∙ listed-right (c .before .args .d) (omega arith), omega (arith, few))))

@@ -4,20 +4,28 @@ use Prim.Native.Nat.{_-_, _≤_}
 use native.Mathlib.Omega.{arith}
 use lib.ListN.{length}
 use borrow.Author.Needs.{needs}
+use Rattle.circuit.specs.Kinds.{pairs}
 use Rattle.circuit.specs.Lists.{nth}
 use Rattle.circuit.specs.Circuit.{size}
 use Rattle.frames.specs.declared.walk.Step.the-variants.{Next}
 use Rattle.frames.specs.Walk.{stepAt}
 use Rattle.reach.proofs.readings.propagate_frames.Statement.{statement}
 use Rattle.reach.proofs.readings.propagate_frames.Tie as tie
-use Rattle.gadgets.proofs.Walking.{whole, headed, second-word}
+use Rattle.gadgets.proofs.Walking.{whole, headed, second-word, given-bits}
 use Rattle.reach.proofs.Propagating.{PropagatedTo, propagated-start, propagated-end, propagated-next, no-end, no-refusal, covers, found, within}
 
 abbrev Inv-loop : tie.InvT-loop
-Inv-loop table starts count wires marks₀ d n w₀ i₀ marks w i = PropagatedTo table starts count marks₀ marks w i × (length marks ≡ length marks₀)
+Inv-loop table starts count wires marks₀ d n randoms w₀ i₀ marks w i = PropagatedTo table starts count marks₀ marks w i × (length marks ≡ length marks₀)
 
 abbrev μ-loop : tie.MeasureT-loop
-μ-loop table starts count wires marks₀ d n w₀ i₀ marks w i = i
+μ-loop table starts count wires marks₀ d n randoms w₀ i₀ marks w i = i
+
+abbrev start : tie.At-loop Inv-loop μ-loop → tie.Start Inv-loop μ-loop
+start c = c .before .before .before .before .before .before
+
+-- the random bits that the step is given are those of a gadget
+given : (c : tie.At-loop Inv-loop μ-loop) → c .before .random-bits .result ≡ pairs (nth (start c .args .table .now) 1)
+given c = given-bits (start c .pre .0 .accepted) (c .before .random-bits .ensures .0) refl
 
 -- the frame that a turn meets
 abbrev turn : tie.After-step2 Inv-loop μ-loop → tie.In-loop Inv-loop μ-loop
@@ -26,13 +34,13 @@ turn c = c .before .before .before .before
 abbrev head : tie.After-step2 Inv-loop μ-loop → tie.At-loop Inv-loop μ-loop
 head c = turn c .before
 
-met : (c : tie.After-step2 Inv-loop μ-loop) → let a = head c .before .before .before .before .before .args in let g = c .step2 .given .0 in
+met : (c : tie.After-step2 Inv-loop μ-loop) → let a = start (head c) .args in let g = c .step2 .given .0 in
     stepAt (a .table .now) (nth (a .table .now) 1) (nth (a .starts .now) (head c .loop .i - 1)) ≡ Next (g .0) (g .1 .0) (g .1 .1 .0)
-met c = sym (c .before .before .step .ensures) ∙ c .step2 .given .1
+met c = sym (c .before .before .step .ensures (given (head c))) ∙ c .step2 .given .1
 
 -- the marks have room for all wires
 room : (c : tie.At-loop Inv-loop μ-loop) → length (whole (c .loop .inv .0 .lists .accepted) .wires) ≤ length (c .loop .marks)
-room c = let p = c .before .before .before .before .before .pre in omega (arith, p .2, p .3, ap size (c .loop .inv .0 .lists .accepted .circuit-is), c .loop .inv .1)
+room c = let p = start c .pre in omega (arith, p .2, p .3, ap size (c .loop .inv .0 .lists .accepted .circuit-is), c .loop .inv .1)
 
 propagate-frame-requires : tie.Need-propagate-frame-requires Inv-loop μ-loop
 propagate-frame-requires c κs =
@@ -55,17 +63,18 @@ propagate-frames-spec =
     μ-loop
     (λ c. omega (arith, headed (c .before .before .before .before .pre .0 .accepted)))
     (λ c. record { fits = omega (arith, second-word (c .before .before .before .before .pre .0 .accepted)) })
-    (λ c. (propagated-start (c .before .before .before .before .pre .0) (c .before .before .before .before .pre .2) _, refl))
+    (λ c κs. search needs)
+    (λ c. (propagated-start (c .before .before .before .before .before .pre .0) (c .before .before .before .before .before .pre .2) _, refl))
     (λ c. c .loop-test .taken)
     (λ c. search needs)
     (λ c. omega (arith, c .before .before .loop .inv .0 .most))
     (λ c. record { fits = omega (arith, c .shared-slice-known4 .given (c .before .before .loop .i - 1)) })
     (λ c κs. search needs) (λ c. search needs)
     (λ c. c .before .before .before .before .before .loop .inv .1)
-    (λ c. absurd (no-end (c .before .before .before .before .before .loop .inv .0) (c .before .before .before .before .loop-test .taken) (sym (c .before .before .step .ensures) ∙ c .enum-told .given .1)))
+    (λ c. absurd (no-end (c .before .before .before .before .before .loop .inv .0) (c .before .before .before .before .loop-test .taken) (sym (c .before .before .step .ensures (given (c .before .before .before .before .before))) ∙ c .enum-told .given .1)))
     (λ c. search needs)
     (λ c. c .before .before .before .before .before .loop .inv .1)
-    (λ c. absurd (no-refusal (c .before .before .before .before .before .loop .inv .0) (c .before .before .before .before .loop-test .taken) (sym (c .before .before .step .ensures) ∙ c .enum-told2 .given .1)))
+    (λ c. absurd (no-refusal (c .before .before .before .before .before .loop .inv .0) (c .before .before .before .before .loop-test .taken) (sym (c .before .before .step .ensures (given (c .before .before .before .before .before))) ∙ c .enum-told2 .given .1)))
     (λ c. search needs) (λ c κs. search needs)
     (λ c. let t = c .before .before .before in covers (head t .loop .inv .0) (turn t .loop-test .taken) (met t))
     propagate-frame-requires

@@ -5,23 +5,28 @@ use native.Mathlib.Omega.{arith}
 use lib.ListN.{length}
 use borrow.Author.Needs.{needs}
 use Rattle.circuit.specs.Limits.{wireLimit}
+use Rattle.circuit.specs.Kinds.{pairs}
 use Rattle.circuit.specs.Lists.{nth}
 use Rattle.frames.specs.declared.walk.Step.the-variants.{Next}
 use Rattle.frames.specs.Walk.{operandsAt, stepAt}
 use Rattle.simulation.proofs.values.fill_frames.Statement.{statement}
 use Rattle.simulation.proofs.values.fill_frames.Tie as tie
-use Rattle.gadgets.proofs.Walking.{headed, second-word, Met}
+use Rattle.gadgets.proofs.Walking.{headed, second-word, given-bits, Met}
 use Rattle.simulation.specs.Internal.Walked.{FilledTo}
 use Rattle.simulation.proofs.Evaluating.{room-in, inputs-in, draws-in, FillingTo, filling-start, filling-answers, filling-next, filling-end, filling-done}
 
 abbrev Inv-loop : tie.InvT-loop
-Inv-loop table end ones shares tape values₀ d n walk₀ first₀ from₀ used₀ values walk first from used = FillingTo table ones shares tape values₀ (walk₀ .at) first₀ from₀ used₀ end values walk first from used
+Inv-loop table end ones shares tape values₀ d n randoms walk₀ first₀ from₀ used₀ values walk first from used = FillingTo table ones shares tape values₀ (walk₀ .at) first₀ from₀ used₀ end values walk first from used
 
 abbrev μ-loop : tie.MeasureT-loop
-μ-loop table end ones shares tape values₀ d n walk₀ first₀ from₀ used₀ values walk first from used = length table - walk .at
+μ-loop table end ones shares tape values₀ d n randoms walk₀ first₀ from₀ used₀ values walk first from used = length table - walk .at
 
 abbrev start : tie.At-loop Inv-loop μ-loop → tie.Start Inv-loop μ-loop
-start c = c .before .before .before .before .before .before
+start c = c .before .before .before .before .before .before .before
+
+-- the random bits that the step is given are those of a gadget
+given : (c : tie.At-loop Inv-loop μ-loop) → c .before .random-bits .result ≡ pairs (c .loop .walk .d)
+given c = given-bits (start c .pre .1 .evaluable .accepted) (c .before .random-bits .ensures .0) (c .loop .inv .d-is)
 
 -- what is filled in at the loop's head
 abbrev so-far : (c : tie.At-loop Inv-loop μ-loop) → let s = start c in FilledTo (s .args .table .now) (s .args .ones) (s .args .shares .now) (s .args .tape .now) (s .pre .0) (c .loop .values) (c .loop .walk .at) (c .loop .first) (c .loop .from) (c .loop .used)
@@ -33,7 +38,7 @@ head c = c .before .before .before
 
 met : (c : tie.After-step2 Inv-loop μ-loop) → let h = head c in let f = so-far h in let g = c .step2 .given .0 in
     Met (f .evaluable .accepted) (f .between) (nth (start h .args .table .now) 1) (h .loop .first) (h .loop .from) (g .0) (g .1 .0) (g .1 .1 .0)
-met c = let h = head c in filling-answers (h .loop .inv) (start h .pre .0) (start h .pre .1) (sym (c .before .before .step .ensures) ∙ c .step2 .given .1)
+met c = let h = head c in filling-answers (h .loop .inv) (start h .pre .0) (start h .pre .1) (sym (c .before .before .step .ensures (given h)) ∙ c .step2 .given .1)
 
 words : (c : tie.After-operands Inv-loop μ-loop) → let h = head (c .before .before) in let table = start h .args .table .now in
     c .operands .result .now ≡ operandsAt table (nth table 1) (h .loop .walk .at)
@@ -60,7 +65,7 @@ turn c = c .before .before .before .before .before .before .before .before .befo
 
 -- the step's answer, and the values of the frame
 told : (c : tie.After-struct-known3 Inv-loop μ-loop) → let t = turn c in let h = head t in let g = t .step2 .given .0 in stepAt (start h .args .table .now) (h .loop .walk .d) (h .loop .walk .at) ≡ Next (g .0) (g .1 .0) (g .1 .1 .0)
-told c = sym (turn c .before .before .step .ensures) ∙ turn c .step2 .given .1
+told c = sym (turn c .before .before .step .ensures (given (head (turn c)))) ∙ turn c .step2 .given .1
 
 loop-again : tie.Need-loop-again Inv-loop μ-loop
 loop-again c =
@@ -84,6 +89,7 @@ fill-frames-spec =
     μ-loop
     (λ c. omega (arith, headed (c .before .before .before .before .before .pre .1 .evaluable .accepted)))
     (λ c. record { fits = omega (arith, second-word (c .before .before .before .before .before .pre .1 .evaluable .accepted)) })
+    (λ c κs. search needs)
     (λ c. filling-start _ _ _ _ _ _ _ _ _ _ refl)
     (λ c κs. search needs) (λ c. search needs) (λ c κs. search needs)
     write-frame-requires
@@ -97,7 +103,7 @@ fill-frames-spec =
     loop-again
     (λ c. search needs)
     (λ c. c .before .before .before .loop .inv .size-is)
-    (λ c. filling-done (c .before .before .before .loop .inv) (sym (c .before .before .step .ensures) ∙ c .enum-told .given .1))
+    (λ c. filling-done (c .before .before .before .loop .inv) (sym (c .before .before .step .ensures (given (c .before .before .before))) ∙ c .enum-told .given .1))
     (λ c. search needs)
     (λ c. c .before .before .before .loop .inv .size-is)
-    (λ c. let h = c .before .before .before in absurd (filling-answers (h .loop .inv) (start h .pre .0) (start h .pre .1) (sym (c .before .before .step .ensures) ∙ c .enum-told2 .given .1))))
+    (λ c. let h = c .before .before .before in absurd (filling-answers (h .loop .inv) (start h .pre .0) (start h .pre .1) (sym (c .before .before .step .ensures (given h)) ∙ c .enum-told2 .given .1))))
