@@ -41,6 +41,15 @@ row-rest d (suc i) h =
     let e : pairs (d - i) ≡ pairs (d - suc i) + (d - suc i) = ap pairs (omega arith) ∙ pairs-next (d - suc i) in
     omega (arith, row-next d i h, e, row-rest d i (omega arith))
 
+-- twice the pairs before a row
+pub row-twice : (d i : ℕ) → i ≤ d → 2 * rowStart d i ≡ i * (2 * d - i - 1)
+row-twice d zero h = omega arith
+row-twice d (suc i) h =
+    let k = d - suc i in
+    let before : 2 * rowStart d i ≡ i * (i + 1 + 2 * k) = row-twice d i (omega arith) ∙ ap (λ n. i * n) (omega arith) in
+    let there : suc i * (2 * d - suc i - 1) ≡ suc i * (i + 2 * k) = ap (λ n. suc i * n) (omega arith) in
+    omega (arith, before, there, row-next d i h)
+
 row-most : (d i k : ℕ) → i + k ≤ d → rowStart d i ≤ rowStart d (i + k)
 row-most d i zero h = simp add-zero (omega arith)
 row-most d i (suc k) h = simp add-suc (omega (arith, row-next d (i + k) (omega arith), row-most d i k (omega arith)))

@@ -14,24 +14,24 @@ pub fn pairs(d: usize) -> usize
     random_bits(d as u16) as usize
 }
 
-// How many pairs of shares come before those whose lower share is i.
-fn row_start(d: usize, i: usize) -> usize
+// Twice the pairs of shares that come before those whose lower share is i.
+fn twice_row_start(d: usize, i: usize) -> usize
     requires { ⌜ (i < d) × (d ≤ 8) ⌝ }
-    ensures { λ r. ⌜ (r ≡ rowStart d i) × (r ≤ 64) ⌝ }
+    ensures { λ r. ⌜ (r ≡ 2 * rowStart d i) × (r ≤ 128) ⌝ }
 {
-    pairs(d) - pairs(d - i)
+    i * (2 * d - i - 1)
 }
 
-// The place of the pair of two different shares among all pairs.
-fn pair_site(d: usize, i: usize, j: usize) -> usize
+// The place of AND's r of two different shares among its wires r and R, of which each pair has one.
+fn pair_offset(d: usize, i: usize, j: usize) -> usize
     requires { ⌜ (i < d) × (j < d) × (d ≤ 8) ⌝ }
-    ensures { λ r. ⌜ (r ≡ pairSite d i j) × (r ≤ 72) ⌝ }
+    ensures { λ r. ⌜ (r ≡ 2 * pairSite d i j) × (r ≤ 144) ⌝ }
 {
     if i < j {
-        return row_start(d, i) + (j - i - 1);
+        return twice_row_start(d, i) + 2 * (j - i - 1);
     }
     if j < i {
-        return row_start(d, j) + (i - j - 1);
+        return twice_row_start(d, j) + 2 * (i - j - 1);
     }
     0
 }
@@ -56,7 +56,7 @@ pub fn pair_at(d: usize, first: usize, i: usize, j: usize) -> usize
     requires { ⌜ Small first d × (i < d) × (j < d) ⌝ }
     ensures { λ r. ⌜ (r ≡ pairAt d first i j) × (r ≤ first + 144) ⌝ }
 {
-    first + 2 * pair_site(d, i, j)
+    first + pair_offset(d, i, j)
 }
 
 // AND's wire B of the share i; m and M stand behind it.
@@ -83,14 +83,7 @@ pub fn out_at(d: usize, first: usize, i: usize) -> usize
     first + cross_start(d, d) + i
 }
 
-// REF's random bit of the shares i and j, and its sum of the share i.
-pub fn mask_at(d: usize, first: usize, i: usize, j: usize) -> usize
-    requires { ⌜ Small first d × (i < d) × (j < d) ⌝ }
-    ensures { λ r. ⌜ (r ≡ maskAt d first i j) × (r ≤ first + 72) ⌝ }
-{
-    first + pair_site(d, i, j)
-}
-
+// REF's sum of the share i.
 pub fn sum_at(d: usize, first: usize, i: usize) -> usize
     requires { ⌜ Small first d × (i ≤ d) ⌝ }
     ensures { λ r. ⌜ (r ≡ sumAt d first i) × (r ≤ first + 40) ⌝ }

@@ -146,14 +146,23 @@ pub(crate) fn propagate_and(marks: &mut [u8], first: usize, d: usize, ops: &[u16
     propagate_products(marks, first, d, ops);
 }
 
-// Marks on REF's random bits of the share i and each from one to another.
-fn mark_masks(marks: &mut [u8], first: usize, d: usize, i: usize, from: usize, to: usize)
-    requires { ⌜ Small first d × (i < d) × (to ≤ d) × (first + pairs d ≤ length (now marks)) × ((j : ℕ) → from ≤ j → j < to → j ≡ i → ⊥) × (from ≤ to) ⌝ }
-    ensures { λ _. ⌜ now (marks .exit) ≡ markAll (now (marks .entry)) (map (maskAt d first i) (range from (to - from))) ⌝ }
+// Marks on REF's random bits of the share i and each other: those of lower shares stand in their rows, the next one a row less
+// one further on; those of higher shares follow each other.
+fn mark_masks(marks: &mut [u8], first: usize, d: usize, i: usize)
+    requires { ⌜ Small first d × (i < d) × (first + pairs d ≤ length (now marks)) ⌝ }
+    ensures { λ _. ⌜ now (marks .exit) ≡ markAll (markAll (now (marks .entry)) (map (maskAt d first i) (range 0 (i - 0)))) (map (maskAt d first i) (range (i + 1) (d - (i + 1)))) ⌝ }
 {
-    let mut j = from;
-    while j < to {
-        marks[places::mask_at(d, first, i, j)] = 1;
+    let mut at = first + i;
+    let mut j = 0;
+    while j < i {
+        marks[at - 1] = 1;
+        at += d - j - 2;
+        j += 1;
+    }
+    j += 1;
+    while j < d {
+        marks[at] = 1;
+        at += 1;
         j += 1;
     }
 }
@@ -168,8 +177,7 @@ fn propagate_sum(marks: &mut [u8], first: usize, d: usize, i: usize, a: usize)
         return;
     }
     marks[a] = 1;
-    mark_masks(marks, first, d, i, 0, i);
-    mark_masks(marks, first, d, i, i + 1, d);
+    mark_masks(marks, first, d, i);
     marks[wire] = 0;
 }
 

@@ -132,23 +132,24 @@ pub(crate) fn and(
     cross_all(values, first, d, ones, ops);
 }
 
-// The sum of a word and REF's random bits of the share i and each from one to another.
-fn add_masks(
-    values: &[u8],
-    first: usize,
-    d: usize,
-    i: usize,
-    word: u8,
-    from: usize,
-    to: usize,
-) -> u8
-    requires { ⌜ Small first d × (i < d) × (to ≤ d) × (first + pairs d ≤ length (now values)) × ((j : ℕ) → from ≤ j → j < to → j ≡ i → ⊥) × (from ≤ to) ⌝ }
-    ensures { λ s. ⌜ Sums d first i word from to (now (values .entry)) s ⌝ }
+// The sum of a word and REF's random bits of the share i and each other: those of lower shares stand in their rows, the next
+// one a row less one further on; those of higher shares follow each other.
+fn add_masks(values: &[u8], first: usize, d: usize, i: usize, word: u8) -> u8
+    requires { ⌜ Small first d × (i < d) × (first + pairs d ≤ length (now values)) ⌝ }
+    ensures { λ r. ⌜ ((s : ℕ) × Sums d first i word 0 i (now (values .entry)) s × Sums d first i s (i + 1) d (now (values .entry)) r) ⌝ }
 {
     let mut sum = word;
-    let mut j = from;
-    while j < to {
-        sum = sum ^ values[places::mask_at(d, first, i, j)];
+    let mut at = first + i;
+    let mut j = 0;
+    while j < i {
+        sum = sum ^ values[at - 1];
+        at += d - j - 2;
+        j += 1;
+    }
+    j += 1;
+    while j < d {
+        sum = sum ^ values[at];
+        at += 1;
         j += 1;
     }
     sum
@@ -162,8 +163,7 @@ fn sums(values: &mut [u8], first: usize, d: usize, ops: &[u16])
     let mut i = 0;
     while i < d {
         let a = values[places::word_a(ops, i)];
-        let lower = add_masks(values, first, d, i, a, 0, i);
-        values[places::sum_at(d, first, i)] = add_masks(values, first, d, i, lower, i + 1, d);
+        values[places::sum_at(d, first, i)] = add_masks(values, first, d, i, a);
         i += 1;
     }
 }

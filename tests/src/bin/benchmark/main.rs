@@ -135,6 +135,19 @@ fn products(d: usize, wires: usize) -> Builder {
     builder
 }
 
+/// A chain of REF, each on the outputs of the last, up to a number of wires.
+fn refreshes(d: usize, wires: usize) -> Builder {
+    let mut builder = Builder::new(d);
+    let mut row = builder.input(0);
+    while builder.wires() + builder.refresh_wires() <= wires {
+        let output = builder.refresh(&row);
+        if builder.place(row[0]).stage < 250 {
+            row = output;
+        }
+    }
+    builder
+}
+
 /// OUTs of one row that goes through registers in between, up to a number of words.
 fn outputs(d: usize, words: usize) -> Builder {
     let mut builder = Builder::new(d);
@@ -190,6 +203,8 @@ fn main() {
         ("gates, d 8".to_string(), gates(8, 8192)),
         ("AND chain, d 2".to_string(), products(2, 8192)),
         ("AND chain, d 8".to_string(), products(8, 8192)),
+        ("REF chain, d 2".to_string(), refreshes(2, 8192)),
+        ("REF chain, d 8".to_string(), refreshes(8, 8192)),
         ("OUT rows, d 2".to_string(), outputs(2, 8192)),
         ("OUT rows, d 8".to_string(), outputs(8, 8192)),
     ];

@@ -1,5 +1,5 @@
--- A sum without a mark is left; another hands its mark to the share's wire and to its random bits, those below i and those above.
-use mathlib.Core.Path.{_≡_, _∙_}
+-- A sum without a mark is left; another hands its mark to the share's wire and to its random bits, those of the shares below i and above.
+use mathlib.Core.Path.{_≡_, refl, _∙_}
 use borrow.Author.Needs.{needs}
 use native.Mathlib.Omega.{arith}
 use lib.ListN.{length, length-set}
@@ -9,19 +9,16 @@ use Rattle.reach.proofs.reach.propagate_sum.Tie as tie
 use Rattle.reach.proofs.Moved.{sum-handed}
 
 -- the marks keep their number
-once : (c : tie.After-mark-masks) → length (c .mark-masks .last .0) ≡ length (c .before .before .before .before .before .before .args .marks .now)
-once c = c .mark-masks .kept .0 ∙ simp length-set
-
-twice : (c : tie.After-mark-masks2) → length (c .mark-masks2 .last .0) ≡ length (c .before .before .before .before .before .before .before .before .before .before .args .marks .now)
-twice c = c .mark-masks2 .kept .0 ∙ once (c .before .before .before .before)
+kept : (c : tie.After-mark-masks) → length (c .mark-masks .last .0) ≡ length (c .before .before .before .before .before .before .args .marks .now)
+kept c = c .mark-masks .kept .0 ∙ simp length-set
 
 returns-2 : tie.Need-returns-2
 returns-2 c =
-    let m = c .before .before .before .before .before .before in
+    let m = c .before .before in
     let t = m .before .before in
     let s = t .before .before .before .before in
     let a = s .args in
-    sum-handed (a .d) (a .first) (a .i) (a .a) (a .marks .now) _ (s .pre .1) (t .before .before .sum-at .ensures .0) (t .if1 .left) (m .mark-masks .ensures) (c .before .before .mark-masks2 .ensures)
+    sum-handed (a .d) (a .first) (a .i) (a .a) (a .marks .now) _ (s .pre .1) (t .before .before .sum-at .ensures .0) (t .if1 .left) refl (m .mark-masks .ensures)
 
 pub propagate-sum-spec : {M : Type 1} → statement M
 propagate-sum-spec =
@@ -32,8 +29,6 @@ propagate-sum-spec =
     (λ c. rw (← c .before .before .sum-at .ensures .0, lt-ltb _ 1 (c .if1 .taken)))
     (λ c. omega arith)
     (λ c κs. simp length-set (omega (arith, c .before .before .before .before .before .pre)))
-    (λ c. search needs)
-    (λ c κs. omega (arith, once (c .before .before .before), c .before .before .before .before .before .before .before .before .before .pre))
-    (λ c. omega (arith, twice (c .before .before), c .before .before .before .before .before .before .before .before .before .before .sum-at .ensures .0))
-    (λ c. simp length-set (twice (c .before .before)))
+    (λ c. omega (arith, kept (c .before .before), c .before .before .before .before .before .before .sum-at .ensures .0))
+    (λ c. simp length-set (kept (c .before .before)))
     returns-2)

@@ -26,9 +26,11 @@ early c = entry c .pre .2 (c .before .loop .i) (c .loop-test .taken)
 
 loop-again : tie.Need-loop-again Inv-loop μ-loop
 loop-again c =
-    let w = c .before .before .before .before .before .before in
+    let m = c .before in
+    let w = m .before .before .before in
     let t = w .before in
-    (omega arith, masked-turn (t .before .loop .inv .1) (t .loop-test .taken) (omega (arith, entry t .pre .3)) (early t) _ _ (w .word-a .ensures) (c .sum-at .ensures .0) (c .before .before .before .add-masks .ensures) (c .before .add-masks2 .ensures))
+    let (_, lower, all) = m .add-masks .ensures in
+    (omega arith, masked-turn (t .before .loop .inv .1) (t .loop-test .taken) (omega (arith, entry t .pre .3)) (early t) _ _ (w .word-a .ensures) (c .sum-at .ensures .0) lower all)
 
 pub sums-spec : {M : Type 1} → statement M
 sums-spec =
@@ -39,11 +41,9 @@ sums-spec =
     (λ c. (omega arith, fills-at refl (omega arith) (fills-none (c .before .before .args .first + pairs (c .before .before .args .d)) _)))
     (λ c κs. omega arith)
     (λ c. omega (arith, early (c .before .before), c .before .word-a .ensures))
-    (λ c κs. let t = c .before .before .before in (entry t .pre .0, t .loop-test .taken, omega arith, omega arith, (λ j l u e. omega arith), omega arith))
-    (λ c. search needs)
-    (λ c κs. let t = c .before .before .before .before .before in (entry t .pre .0, t .loop-test .taken, omega arith, omega arith, (λ j l u e. omega arith), omega arith))
-    (λ c κs. (entry (c .before .before .before .before .before .before) .pre .0, omega arith))
-    (λ c. let t = c .before .before .before .before .before .before .before in omega (arith, c .sum-at .ensures .0, t .before .loop .inv .1 .size, entry t .pre .3))
+    (λ c κs. let t = c .before .before .before in (entry t .pre .0, t .loop-test .taken, omega arith))
+    (λ c κs. (entry (c .before .before .before .before) .pre .0, omega arith))
+    (λ c. let t = c .before .before .before .before .before in omega (arith, c .sum-at .ensures .0, t .before .loop .inv .1 .size, entry t .pre .3))
     (λ c. search needs) (λ c. omega arith)
     loop-again
     (λ c. c .before .loop .inv .1 .size)
