@@ -114,20 +114,21 @@ fn cross_all(values: &mut [u8], first: usize, d: usize, ones: u8, ops: &[u16])
     }
 }
 
-// AND.
+// AND, given the number of its random bits.
 pub(crate) fn and(
     values: &mut [u8],
     first: usize,
     d: usize,
+    randoms: usize,
     ones: u8,
     ops: &[u16],
     tape: &[u8],
     used: usize,
 )
-    requires { ⌜ Small first d × (length (now ops) ≡ 1 + d + d) × RowBefore first d (wordA (now ops)) × RowBefore first d (wordB d (now ops)) × Roomy d first (now values) × (used + pairs d ≤ length (now tape)) ⌝ }
+    requires { ⌜ Small first d × (length (now ops) ≡ 1 + d + d) × RowBefore first d (wordA (now ops)) × RowBefore first d (wordB d (now ops)) × Roomy d first (now values) × (used + pairs d ≤ length (now tape)) × (randoms ≡ pairs d) ⌝ }
     ensures { λ _. ⌜ Fills (AndValues ones d first (wordA (now (ops .entry))) (wordB d (now (ops .entry))) (now (tape .entry)) used) first (first + (7 * (d * (d - 1)) + 4 * d)) (now (values .entry)) (now (values .exit)) ⌝ }
 {
-    draws(values, first, tape, used, places::pairs(d));
+    draws(values, first, tape, used, randoms);
     share_products(values, first, d, ops);
     cross_all(values, first, d, ones, ops);
 }
@@ -156,44 +157,45 @@ fn add_masks(values: &[u8], first: usize, d: usize, i: usize, word: u8) -> u8
 }
 
 // REF's sums.
-fn sums(values: &mut [u8], first: usize, d: usize, ops: &[u16])
-    requires { ⌜ Small first d × (1 + d ≤ length (now ops)) × RowBefore first d (wordA (now ops)) × (first + pairs d + d ≤ length (now values)) ⌝ }
+fn sums(values: &mut [u8], first: usize, d: usize, randoms: usize, ops: &[u16])
+    requires { ⌜ Small first d × (1 + d ≤ length (now ops)) × RowBefore first d (wordA (now ops)) × (first + pairs d + d ≤ length (now values)) × (randoms ≡ pairs d) ⌝ }
     ensures { λ _. ⌜ Fills (Masked d first (wordA (now (ops .entry)))) (first + pairs d) (first + pairs d + d) (now (values .entry)) (now (values .exit)) ⌝ }
 {
     let mut i = 0;
     while i < d {
         let a = values[places::word_a(ops, i)];
-        values[places::sum_at(d, first, i)] = add_masks(values, first, d, i, a);
+        values[first + randoms + i] = add_masks(values, first, d, i, a);
         i += 1;
     }
 }
 
 // REF's outputs, registers of the sums.
-fn holds(values: &mut [u8], first: usize, d: usize)
-    requires { ⌜ Small first d × (first + pairs d + d + d ≤ length (now values)) ⌝ }
+fn holds(values: &mut [u8], first: usize, d: usize, randoms: usize)
+    requires { ⌜ Small first d × (first + pairs d + d + d ≤ length (now values)) × (randoms ≡ pairs d) ⌝ }
     ensures { λ _. ⌜ Fills (Held d first) (first + pairs d + d) (first + pairs d + d + d) (now (values .entry)) (now (values .exit)) ⌝ }
 {
     let mut i = 0;
     while i < d {
-        let at = places::sum_at(d, first, i);
+        let at = first + randoms + i;
         values[at + d] = values[at];
         i += 1;
     }
 }
 
-// REF.
+// REF, given the number of its random bits.
 pub(crate) fn refresh(
     values: &mut [u8],
     first: usize,
     d: usize,
+    randoms: usize,
     ops: &[u16],
     tape: &[u8],
     used: usize,
 )
-    requires { ⌜ Small first d × (1 + d ≤ length (now ops)) × RowBefore first d (wordA (now ops)) × (first + pairs d + d + d ≤ length (now values)) × (used + pairs d ≤ length (now tape)) ⌝ }
+    requires { ⌜ Small first d × (1 + d ≤ length (now ops)) × RowBefore first d (wordA (now ops)) × (first + pairs d + d + d ≤ length (now values)) × (used + pairs d ≤ length (now tape)) × (randoms ≡ pairs d) ⌝ }
     ensures { λ _. ⌜ Fills (RefValues d first (wordA (now (ops .entry))) (now (tape .entry)) used) first (first + (pairs d + 2 * d)) (now (values .entry)) (now (values .exit)) ⌝ }
 {
-    copy(values, first, tape, used, places::pairs(d));
-    sums(values, first, d, ops);
-    holds(values, first, d);
+    copy(values, first, tape, used, randoms);
+    sums(values, first, d, randoms, ops);
+    holds(values, first, d, randoms);
 }

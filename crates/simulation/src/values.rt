@@ -5,6 +5,7 @@ ghost use mathlib.Core.List.{List};
 ghost use Prim.Native.Nat.{ℕ, _+_, _≤_, _<_};
 ghost use lib.Bits.{bitXor};
 ghost use lib.ListN.{length};
+ghost use Rattle.circuit.specs.Kinds.{pairs};
 ghost use Rattle.circuit.specs.Circuit.{isSet};
 ghost use Rattle.gadgets.specs.Internal.Frames.{frameWires, Small, FrameEarly, FrameSupplied};
 ghost use Rattle.simulation.specs.Internal.Filling.{Fills, FrameValues};
@@ -60,12 +61,13 @@ fn register(values: &mut [u8], first: usize, wire: u16)
     values[first] = values[x];
 }
 
-// A frame's wires, behind so many wires, shares and random bits.
+// A frame's wires, behind so many wires, shares and random bits. A gadget takes so many random bits.
 fn write_frame(
     values: &mut [u8],
     frame: Frame,
     ones: u8,
     d: usize,
+    randoms: usize,
     first: usize,
     from: usize,
     used: usize,
@@ -73,7 +75,7 @@ fn write_frame(
     shares: &[u8],
     tape: &[u8],
 )
-    requires { ⌜ Small first d × (first + frameWires frame d ≤ length (now values)) × FrameEarly frame d first (now ops) × FrameSupplied frame d from used (length (now shares)) (length (now tape)) ⌝ }
+    requires { ⌜ Small first d × (first + frameWires frame d ≤ length (now values)) × FrameEarly frame d first (now ops) × FrameSupplied frame d from used (length (now shares)) (length (now tape)) × (randoms ≡ pairs d) ⌝ }
     ensures { λ _. ⌜ Fills (FrameValues frame ones d first from used (now (ops .entry)) (now (shares .entry)) (now (tape .entry))) first (first + frameWires frame d) (now (values .entry)) (now (values .exit)) ⌝ }
 {
     match frame {
@@ -92,8 +94,8 @@ fn write_frame(
             Gate::Reg { wire } => register(values, first, wire),
             Gate::Out => {}
         },
-        Frame::And => gadget::and(values, first, d, ones, ops, tape, used),
-        Frame::Ref => gadget::refresh(values, first, d, ops, tape, used),
+        Frame::And => gadget::and(values, first, d, randoms, ones, ops, tape, used),
+        Frame::Ref => gadget::refresh(values, first, d, randoms, ops, tape, used),
     }
 }
 
@@ -122,6 +124,7 @@ pub fn fill_frames(
     let d = table[1];
     let n = d as usize;
     let randoms = random_bits(d);
+    let bits = randoms as usize;
     let mut walk = Walk { d, at: place.at };
     let mut first = place.first;
     let mut from = place.from;
@@ -135,7 +138,19 @@ pub fn fill_frames(
                 walk: next,
             } => {
                 let ops = walk.operands(table);
-                write_frame(values, frame, ones, n, first, from, used, ops, shares, tape);
+                write_frame(
+                    values,
+                    frame,
+                    ones,
+                    n,
+                    bits,
+                    first,
+                    from,
+                    used,
+                    ops,
+                    shares,
+                    tape,
+                );
                 first += shape.wires;
                 from += n * shape.inputs;
                 used += shape.randoms;

@@ -10,17 +10,16 @@ returns : tie.Need-returns
 returns c =
     let s = c .before .before .before .before .before .before in
     let d = s .before .before .before .before in
-    let p = d .before in
-    let a = p .before .before .before .before .before .args in
-    and-filled (a .ones) (a .d) (a .first) (wordA (a .ops .now)) (wordB (a .d) (a .ops .now)) (a .tape .now) (a .used) _ (p .pairs .ensures .0) (d .draws .ensures) (s .share-products .ensures) (c .before .before .cross-all .ensures)
+    let e = d .before .before .before .before .before in
+    let a = e .args in
+    and-filled (a .ones) (a .d) (a .first) (wordA (a .ops .now)) (wordB (a .d) (a .ops .now)) (a .tape .now) (a .used) _ (e .pre .6) (d .draws .ensures) (s .share-products .ensures) (c .before .before .cross-all .ensures)
 
 pub and-spec : {M : Type 1} → statement M
 and-spec =
     tie.close
     (tie.spec
     (λ c κs. (omega arith, omega arith))
-    (λ c κs. (omega arith, omega arith))
-    (λ c κs. let p = c .before .before .before .before .before .before .before .before .before .pre in (p .0, p .1, p .2, p .3, omega arith))
-    (λ c κs. let p = c .before .before .before .before .before .before .before .before .before .before .before .before .before .pre in (p .0, omega arith, p .2, omega arith))
+    (λ c κs. let p = c .before .before .before .before .before .before .before .before .pre in (p .0, p .1, p .2, p .3, omega arith))
+    (λ c κs. let p = c .before .before .before .before .before .before .before .before .before .before .before .before .pre in (p .0, omega arith, p .2, omega arith))
     (λ c. search needs)
     returns)

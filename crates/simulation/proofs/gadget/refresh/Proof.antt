@@ -10,17 +10,16 @@ returns : tie.Need-returns
 returns c =
     let s = c .before .before .before .before .before .before in
     let d = s .before .before .before .before in
-    let p = d .before in
-    let a = p .before .before .before .before .before .args in
-    ref-filled (a .d) (a .first) (wordA (a .ops .now)) (a .tape .now) (a .used) _ (p .pairs .ensures .0) (d .copy .ensures) (s .sums .ensures) (c .before .before .holds .ensures)
+    let e = d .before .before .before .before .before in
+    let a = e .args in
+    ref-filled (a .d) (a .first) (wordA (a .ops .now)) (a .tape .now) (a .used) _ (e .pre .5) (d .copy .ensures) (s .sums .ensures) (c .before .before .holds .ensures)
 
 pub refresh-spec : {M : Type 1} → statement M
 refresh-spec =
     tie.close
     (tie.spec
     (λ c κs. (omega arith, omega arith))
-    (λ c κs. (omega arith, omega arith))
-    (λ c κs. let p = c .before .before .before .before .before .before .before .before .before .pre in (p .0, p .1, p .2, omega arith))
-    (λ c κs. (c .before .before .before .before .before .before .before .before .before .before .before .before .before .pre .0, omega arith))
+    (λ c κs. let p = c .before .before .before .before .before .before .before .before .pre in (p .0, p .1, p .2, omega arith, p .5))
+    (λ c κs. let p = c .before .before .before .before .before .before .before .before .before .before .before .before .pre in (p .0, omega arith, p .5))
     (λ c. search needs)
     returns)

@@ -16,10 +16,10 @@ use Rattle.simulation.specs.Internal.Walked.{FilledTo}
 use Rattle.simulation.proofs.Evaluating.{room-in, inputs-in, draws-in, FillingTo, filling-start, filling-answers, filling-next, filling-end, filling-done}
 
 abbrev Inv-loop : tie.InvT-loop
-Inv-loop table end ones shares tape values₀ d n randoms walk₀ first₀ from₀ used₀ values walk first from used = FillingTo table ones shares tape values₀ (walk₀ .at) first₀ from₀ used₀ end values walk first from used
+Inv-loop table end ones shares tape values₀ d n randoms bits walk₀ first₀ from₀ used₀ values walk first from used = FillingTo table ones shares tape values₀ (walk₀ .at) first₀ from₀ used₀ end values walk first from used
 
 abbrev μ-loop : tie.MeasureT-loop
-μ-loop table end ones shares tape values₀ d n randoms walk₀ first₀ from₀ used₀ values walk first from used = length table - walk .at
+μ-loop table end ones shares tape values₀ d n randoms bits walk₀ first₀ from₀ used₀ values walk first from used = length table - walk .at
 
 abbrev start : tie.At-loop Inv-loop μ-loop → tie.Start Inv-loop μ-loop
 start c = c .before .before .before .before .before .before .before
@@ -58,7 +58,7 @@ write-frame-requires c κs =
     let t = c .before .before .before in
     let f = so-far (head t) in
     let m = met t in
-    (m .small, room-in f (second-word (f .evaluable .accepted)) m, rw (words (c .before)) (m .early), m .supplied _ _ _ (counts t .shares) (counts t .randoms))
+    (m .small, room-in f (second-word (f .evaluable .accepted)) m, rw (words (c .before)) (m .early), m .supplied _ _ _ (counts t .shares) (counts t .randoms), given (head t) ∙ ap pairs (head t .loop .inv .d-is))
 
 abbrev turn : tie.After-struct-known3 Inv-loop μ-loop → tie.After-step2 Inv-loop μ-loop
 turn c = c .before .before .before .before .before .before .before .before .before
@@ -90,6 +90,7 @@ fill-frames-spec =
     (λ c. omega (arith, headed (c .before .before .before .before .before .pre .1 .evaluable .accepted)))
     (λ c. record { fits = omega (arith, second-word (c .before .before .before .before .before .pre .1 .evaluable .accepted)) })
     (λ c κs. search needs)
+    (λ c. record { fits = omega (arith, c .random-bits .ensures .1) })
     (λ c. filling-start _ _ _ _ _ _ _ _ _ _ refl)
     (λ c κs. search needs) (λ c. search needs) (λ c κs. search needs)
     write-frame-requires

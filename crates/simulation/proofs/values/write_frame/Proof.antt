@@ -45,10 +45,10 @@ write-frame-spec =
     (λ c κs. let q = asked-gate (c .before .before .before .before) (c .before .before .gate4 .given .1) in (q .0, q .1))
     (λ c. search needs) (λ c. search needs)
     (λ c κs. let s = c .before .before .before .before .before .before .before in let q = asked s (c .before .enum-told3 .given .1) in
-    (s .pre .0, q .1 .0, q .1 .1, q .1 .2, omega (arith, q .0), q .2))
+    (s .pre .0, q .1 .0, q .1 .1, q .1 .2, omega (arith, q .0), q .2, s .pre .4))
     (λ c. search needs)
     (λ c κs. let s = c .before .before .before .before .before .before .before in let q = asked s (c .before .enum-told4 .given .1) in
-    (s .pre .0, q .1 .0, q .1 .1, omega (arith, q .0), q .2))
+    (s .pre .0, q .1 .0, q .1 .1, omega (arith, q .0), q .2, s .pre .4))
     (λ c. c .before .before .copy .ensures .size)
     (λ c. rw (c .before .before .before .before .before .before .before .frame .given .1, c .before .before .before .before .enum-told .given .1) (c .before .before .copy .ensures))
     (λ c. c .before .before .constant .ensures .size)
