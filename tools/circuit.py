@@ -19,7 +19,7 @@ HEAD, IN, CON, XOR, NOT, REG, AND, REF, OUT = range(len(KINDS))
 
 def pairs(d: int) -> int:
     """The pairs i<j of d shares: the random bits of an AND or a REF."""
-    return d * (d - 1) // 2
+    return sum(range(d))
 
 
 def frame_words(kind: int, d: int) -> int:
