@@ -1,12 +1,16 @@
 -- The kind table in numbers: that they fit, and that the code holds them.
-use mathlib.Core.Path.{_≡_, refl, sym, ap, subst, _∙_}
+use mathlib.Core.Path.{_≡_, refl, sym, ap, subst, fun-ext, _∙_}
+use mathlib.Core.List.{List}
 use Prim.Native.Nat.{ℕ, zero, suc, _*_, _-_, _≤_, _<_}
 use native.Mathlib.Nat.{mul-le-mul}
 use native.Mathlib.Omega.{arith}
-use Rattle.circuit.specs.Kinds.{Kind, HEAD, IN, CON, XOR, NOT, REG, AND, REF, OUT, kindOf, pairs, shape, words}
+use Rattle.circuit.specs.Kinds.{Kind, HEAD, IN, CON, XOR, NOT, REG, AND, REF, OUT, kindOf, pairs, shape}
 use Rattle.circuit.specs.Circuit.{newStage}
+use Rattle.frames.specs.declared.kinds.Kind.{Kind as KindCode}
+use Rattle.frames.specs.declared.kinds.Form.{Form}
 use Rattle.frames.specs.declared.kinds.Shape.{Shape as ShapeCode}
-use Rattle.frames.specs.Walk.{kindCode, formOf, Means, kindLine, shapeCode}
+use Rattle.frames.specs.declared.walk.Step.{Step}
+use Rattle.frames.specs.Walk.{formOf, Means, kindLine, shapeCode, shapeTaking, stepWith, stepAt}
 
 -- d(d−1) as the code computes it
 pub ordered : (d : ℕ) → d * d - d ≡ d * (d - 1)
@@ -25,6 +29,10 @@ pub no-kind : (word : ℕ) → 8 < word → kindOf word ≡ HEAD
 unfolding kindOf
 no-kind word h = let e : word ≡ suc (suc (suc (suc (suc (suc (suc (suc (suc (word - 9))))))))) = omega (arith, h) in rw e refl
 
+-- what the code holds of a kind, number by number
+pub same-line : (kind : KindCode) (form : Form) {w w′ m m′ u u′ b : ℕ} → w ≡ w′ → m ≡ m′ → u ≡ u′ → kindLine kind form w m u b ≡ kindLine kind form w′ m′ u′ b
+same-line kind form {b = b} e f g = λ i. kindLine kind form (e i) (f i) (g i) b
+
 -- the form of each kind means it, and so does what the code holds of a kind
 pub means : (d : ℕ) (kind : Kind) → Means d (formOf kind) kind
 unfolding shape newStage
@@ -38,11 +46,21 @@ means d AND = record { rules = refl; stages = λ k ops. omega arith }
 means d REF = record { rules = refl; stages = λ k ops. omega arith }
 means d OUT = record { rules = refl; stages = λ k ops. refl }
 
--- what is told of a kind's line, from its numbers
-module _ (d randoms : ℕ) (kind : Kind) {sh : ShapeCode} {w m u b : ℕ} (e : sh ≡ kindLine (kindCode kind) (formOf kind) w m u b) where
-  pub decided : w ≡ words d kind → (randoms ≡ pairs d → m ≡ shape d kind .wires) → (randoms ≡ pairs d → u ≡ shape d kind .randoms) → b ≡ shape d kind .inputs
-      → (randoms ≡ pairs d → sh ≡ shapeCode d kind) × ((sh .words ≡ words d kind) × Means d (sh .form) kind)
-  decided w-is m-is u-is b-is = (
-    λ h. e ∙ (λ i. kindLine (kindCode kind) (formOf kind) (w-is i) (m-is h i) (u-is h i) (b-is i)),
-    (ap (λ s. s .words) e ∙ w-is, subst (λ f. Means d f kind) (sym (ap (λ s. s .form) e)) (means d kind)),
-  )
+pub decided : {d : ℕ} (kind : Kind) {sh line : ShapeCode} → sh ≡ line → line .form ≡ formOf kind → (sh ≡ line) × Means d (sh .form) kind
+decided {d} kind e f = (e, subst (λ g. Means d g kind) (sym (ap (λ s. s .form) e ∙ f)) (means d kind))
+
+-- with a gadget's number of random bits these are the kind table's lines, and the step is the table's
+right-line : (d : ℕ) (kind : Kind) → shapeTaking (pairs d) d kind ≡ shapeCode d kind
+unfolding shape
+right-line d HEAD = refl
+right-line d IN = refl
+right-line d CON = refl
+right-line d XOR = refl
+right-line d NOT = refl
+right-line d REG = refl
+right-line d AND = refl
+right-line d REF = refl
+right-line d OUT = refl
+
+pub right-step : (table : List ℕ) (randoms d at : ℕ) {s : Step} → s ≡ stepWith (shapeTaking randoms d) table d at → randoms ≡ pairs d → s ≡ stepAt table d at
+right-step table randoms d at e given = e ∙ ap (λ n. stepWith (shapeTaking n d) table d at) given ∙ ap (λ shapes. stepWith shapes table d at) (fun-ext (right-line d))

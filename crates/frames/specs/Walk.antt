@@ -2,7 +2,7 @@
 use mathlib.Core.Bool.{cond, _&&_}
 use mathlib.Core.Path.{_≡_}
 use mathlib.Core.List.{List, [], _∷_, _++_}
-use Prim.Native.Nat.{ℕ, _+_}
+use Prim.Native.Nat.{ℕ, _+_, _*_}
 use lib.Dec.{leb, ltb}
 use lib.ListN.{length, take, drop}
 use Rattle.circuit.specs.Lists.{nth}
@@ -80,6 +80,23 @@ kindLine kind form n wires randoms inputs = record { kind = kind; form = form; w
 abbrev pub shapeCode : ℕ → Kind → ShapeCode
 shapeCode d kind = kindLine (kindCode kind) (formOf kind) (words d kind) (shape d kind .wires) (shape d kind .randoms) (shape d kind .inputs)
 
+-- the same where a gadget is said to take so many random bits, which REF's wires begin with
+abbrev pub byGadget : Kind → (and ref other : ℕ) → ℕ
+byGadget HEAD a r x = x
+byGadget IN a r x = x
+byGadget CON a r x = x
+byGadget XOR a r x = x
+byGadget NOT a r x = x
+byGadget REG a r x = x
+byGadget AND a r x = a
+byGadget REF a r x = r
+byGadget OUT a r x = x
+
+abbrev pub shapeTaking : (randoms d : ℕ) → Kind → ShapeCode
+shapeTaking n d kind =
+    let wires = shape d kind .wires in
+    kindLine (kindCode kind) (formOf kind) (words d kind) (byGadget kind wires (n + 2 * d) wires) (byGadget kind n n 0) (shape d kind .inputs)
+
 -- a frame, as the code holds it: a gate with its words, or a gadget
 abbrev pub frameCode : KindCode → List ℕ → Frame
 frameCode Head ops = frame.Gate gate.Out
@@ -104,14 +121,18 @@ operandsAt table d at = take (words d (kindOf (nth table at))) (drop (at + 1) ta
 abbrev pub behind : (d at count : ℕ) → Walk
 behind d at count = record { d = d; at = at + 1 + count }
 
--- what stands at a place of the table: its end; 5, no kind; 6, too few words; or a frame
-abbrev pub stepAt : List ℕ → (d at : ℕ) → Step
-stepAt table d at =
+-- what stands at a place of the table: its end; 5, no kind; 6, too few words; or a frame, with what its kind decides
+abbrev pub stepWith : (Kind → ShapeCode) → List ℕ → (d at : ℕ) → Step
+stepWith shapes table d at =
     let kind = kindOf (nth table at) in
     cond (ltb at (length table))
     (cond (leb 1 (nth table at) && leb (nth table at) 8)
     (cond (leb (words d kind) (length (drop (at + 1) table)))
-    (Next (frameCode (kindCode kind) (operandsAt table d at)) (shapeCode d kind) (behind d at (words d kind)))
+    (Next (frameCode (kindCode kind) (operandsAt table d at)) (shapes kind) (behind d at (words d kind)))
     (Refused 6))
     (Refused 5))
     End
+
+-- with the kind table's numbers
+abbrev pub stepAt : List ℕ → (d at : ℕ) → Step
+stepAt table d at = stepWith (shapeCode d) table d at

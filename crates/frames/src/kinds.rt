@@ -1,7 +1,7 @@
 // What the kind word decides, once d is known: the one decision over kinds 0 to 8.
 ghost use mathlib.Core.Path.{_≡_};
-ghost use Rattle.circuit.specs.Kinds.{kindOf, pairs, words};
-ghost use Rattle.frames.specs.Walk.{kindLine, shapeCode, Means};
+ghost use Rattle.circuit.specs.Kinds.{kindOf};
+ghost use Rattle.frames.specs.Walk.{kindLine, shapeTaking, Means};
 
 pub enum Kind {
     Head,
@@ -67,12 +67,11 @@ fn kind_line(
     }
 }
 
-// The frame that a kind word begins, given the random bits of a gadget of d shares. How many words follow the kind does not
-// depend on them. A word past 8 is no kind and is answered as HEAD. The kinds stand in three groups, so that a processor
-// foresees each by its own branches: one jump for all of them cost some tables of gates twice the time.
+// The frame that a kind word begins, where a gadget of d shares takes so many random bits. A word past 8 is no kind and is
+// answered as HEAD. The kinds stand in three groups, so that a processor foresees each by its own branches: one jump for all of
+// them cost some tables of gates twice the time.
 pub fn decide(word: u16, d: u16, randoms: u16) -> Shape
-    ensures shaped { λ r. ⌜ (randoms ≡ pairs d → r ≡ shapeCode d (kindOf word)) ⌝ }
-    ensures worded { λ r. ⌜ r .words ≡ words d (kindOf word) ⌝ }
+    ensures shaped { λ r. ⌜ r ≡ shapeTaking randoms d (kindOf word) ⌝ }
     ensures formed { λ r. ⌜ Means d (r .form) (kindOf word) ⌝ }
 {
     let n = d as usize;

@@ -1,8 +1,7 @@
 // The walk over the frames of a table.
 ghost use mathlib.Core.Path.{_≡_};
-ghost use Rattle.circuit.specs.Kinds.{pairs};
 ghost use Rattle.circuit.specs.Lists.{nth};
-ghost use Rattle.frames.specs.Walk.{frameCode, framedBy, operandsAt, stepAt};
+ghost use Rattle.frames.specs.Walk.{shapeTaking, frameCode, framedBy, operandsAt, stepWith};
 use super::kinds;
 use kinds::Kind;
 use kinds::Shape;
@@ -139,9 +138,9 @@ impl Walk {
         &table[start..end]
     }
 
-    // The frame at the walk's place, and the walk behind it, given the random bits of a gadget of the walk's number of shares.
+    // The frame at the walk's place, and the walk behind it, where a gadget takes so many random bits.
     pub fn step(self, table: &[u16], randoms: u16) -> Step
-        ensures { λ r. ⌜ (randoms ≡ pairs (self .d) → r ≡ stepAt (now (table .entry)) (self .d) (self .at)) ⌝ }
+        ensures { λ r. ⌜ r ≡ stepWith (shapeTaking randoms (self .d)) (now (table .entry)) (self .d) (self .at) ⌝ }
     {
         let at = self.at;
         let d = self.d;

@@ -12,6 +12,7 @@ use Rattle.circuit.specs.Lists.{nth}
 use Rattle.frames.specs.declared.walk.Walk.{Walk}
 use Rattle.frames.specs.declared.walk.Step.the-variants as step
 use Rattle.frames.specs.Walk.{stepAt}
+use Rattle.frames.proofs.KindTable.{right-step}
 use Rattle.frames.proofs.RandomBits.{listed-right}
 use Rattle.checker.specs.declared.forms.Spot.{Spot}
 use Rattle.checker.specs.declared.frame.Tally.{Tally}
@@ -52,7 +53,7 @@ given c =
 
 -- what the step answers
 answered : (c : tie.After-step Inv-loop μ-loop) → c .step .result ≡ stepAt (table c) (top c .loop .walk .d) (top c .loop .walk .at)
-answered c = c .step .ensures (given c)
+answered c = right-step (table c) (top c .before .before .random-bits .result) (top c .loop .walk .d) (top c .loop .walk .at) (c .step .ensures) (given c)
 
 -- a rule ends the loop: the spot is the answer
 stopped : {table notes₀ notes : List ℕ} {d : ℕ} {walk : Walk} {tally : Tally} (broken : Spot) → length notes ≡ length notes₀ → (broken .rule ≡ 0 → ⊥)

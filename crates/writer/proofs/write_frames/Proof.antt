@@ -8,6 +8,7 @@ use Rattle.circuit.specs.Kinds.{pairs}
 use Rattle.circuit.specs.Lists.{nth}
 use Rattle.circuit.specs.Circuit.{size}
 use Rattle.frames.specs.declared.walk.Step.{Step}
+use Rattle.frames.proofs.KindTable.{right-step}
 use Rattle.frames.specs.Walk.{stepAt}
 use Rattle.gadgets.proofs.Walking.{headed, second-word, given-bits, so-far, Met, Answers, step-answers}
 use Rattle.writer.proofs.Writing.{LinesTo, lines-start, lines-next, lines-done}
@@ -28,6 +29,10 @@ start c = c .before .before .before .before .before
 given : (c : tie.At-loop Inv-loop μ-loop) → c .before .random-bits .result ≡ pairs (c .loop .walk .d)
 given c = given-bits (start c .pre .1) (c .before .random-bits .ensures .0) (c .loop .inv .0)
 
+-- what the step answers
+answer : (c : tie.After-step Inv-loop μ-loop) → let h = c .before in c .step .result ≡ stepAt (start h .args .table .now) (h .loop .walk .d) (h .loop .walk .at)
+answer c = let h = c .before in right-step (start h .args .table .now) (h .before .random-bits .result) (h .loop .walk .d) (h .loop .walk .at) (c .step .ensures) (given h)
+
 abbrev lines : (c : tie.At-loop Inv-loop μ-loop) → LinesTo (start c .args .table .now) (start c .args .text .now) (c .loop .text) (c .loop .walk .at)
 lines c = c .loop .inv .1
 
@@ -43,7 +48,7 @@ head c = c .before .before .before
 
 met : (c : tie.After-step2 Inv-loop μ-loop) → let h = lines (head c) in let k = so-far (h .accepted) (h .between) in let g = c .step2 .given .0 in
     Met (h .accepted) (h .between) (nth (start (head c) .args .table .now) 1) (size k) (k .inputs * h .accepted .d) (g .0) (g .1 .0) (g .1 .1 .0)
-met c = answered (head c) (sym (c .before .before .step .ensures (given (head c))) ∙ c .step2 .given .1)
+met c = answered (head c) (sym (answer (c .before .before)) ∙ c .step2 .given .1)
 
 write-words-requires : tie.Need-write-words-requires Inv-loop μ-loop
 write-words-requires c κs =
@@ -81,7 +86,7 @@ write-frames-spec =
     loop-again
     (λ c. search needs)
     (λ c. lines (c .before .before .before) .sized)
-    (λ c. let h = c .before .before .before in lines-done (lines h) (answered h (sym (c .before .before .step .ensures (given h)) ∙ c .enum-told .given .1)))
+    (λ c. let h = c .before .before .before in lines-done (lines h) (answered h (sym (answer (c .before .before)) ∙ c .enum-told .given .1)))
     (λ c. search needs)
     (λ c. lines (c .before .before .before) .sized)
-    (λ c. let h = c .before .before .before in absurd (answered h (sym (c .before .before .step .ensures (given h)) ∙ c .enum-told2 .given .1))))
+    (λ c. let h = c .before .before .before in absurd (answered h (sym (answer (c .before .before)) ∙ c .enum-told2 .given .1))))

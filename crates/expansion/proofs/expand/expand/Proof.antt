@@ -9,6 +9,7 @@ use Rattle.circuit.specs.Kinds.{pairs}
 use Rattle.circuit.specs.Lists.{nth}
 use Rattle.circuit.proofs.Exact.{accepted-size}
 use Rattle.frames.specs.declared.walk.Step.{Step}
+use Rattle.frames.proofs.KindTable.{right-step}
 use Rattle.frames.specs.Walk.{stepAt}
 use Rattle.gadgets.proofs.Walking.{headed, second-word, given-bits, Met, Answers, step-answers}
 use Rattle.expansion.proofs.expand.expand.Statement.{statement}
@@ -33,6 +34,10 @@ start c = entry (c .before .before)
 given : (c : tie.At-loop Inv-loop μ-loop) → c .before .random-bits .result ≡ pairs (c .loop .walk .d)
 given c = given-bits (start c .pre .0) (c .before .random-bits .ensures .0) (c .loop .inv .0)
 
+-- what the step answers
+answer : (c : tie.After-step Inv-loop μ-loop) → let h = c .before in c .step .result ≡ stepAt (start h .args .table .now) (h .loop .walk .d) (h .loop .walk .at)
+answer c = let h = c .before in right-step (start h .args .table .now) (h .before .random-bits .result) (h .loop .walk .d) (h .loop .walk .at) (c .step .ensures) (given h)
+
 -- the step's answer at the loop's head
 told : (c : tie.At-loop Inv-loop μ-loop) {s : Step} → let table = start c .args .table .now in
     stepAt table (c .loop .walk .d) (c .loop .walk .at) ≡ s → stepAt table (nth table 1) (c .loop .walk .at) ≡ s
@@ -48,7 +53,7 @@ head c = c .before .before .before
 
 met : (c : tie.After-step2 Inv-loop μ-loop) → let l = head c .loop in let t = l .inv .1 in let g = c .step2 .given .0 in
     Met (t .expanded .accepted) (t .between) (nth (start (head c) .args .table .now) 1) (l .first) (l .from) (g .0) (g .1 .0) (g .1 .1 .0)
-met c = answered (head c) (sym (c .before .before .step .ensures (given (head c))) ∙ c .step2 .given .1)
+met c = answered (head c) (sym (answer (c .before .before)) ∙ c .step2 .given .1)
 
 taken : (c : tie.After-step2 Inv-loop μ-loop) → let t = head c .loop .inv .1 in Bits t (second-word (t .expanded .accepted)) (met c)
 taken c = let t = head c .loop .inv .1 in bits t (second-word (t .expanded .accepted)) (met c)
@@ -76,7 +81,7 @@ loop-again c =
     let i = head m .loop .inv in
     let t = i .1 in (
       met m .same,
-      rw (l .before .before .before .affine-of .ensures) (expanded-next t (second-word (t .expanded .accepted)) (met m) (told (head m) (sym (m .before .before .step .ensures (given (head m))) ∙ m .step2 .given .1)) (l .list .ensures)),
+      rw (l .before .before .before .affine-of .ensures) (expanded-next t (second-word (t .expanded .accepted)) (met m) (told (head m) (sym (answer (m .before .before)) ∙ m .step2 .given .1)) (l .list .ensures)),
       simp length-set (i .2),
       simp length-set (i .3),
       simp length-set (i .4),
@@ -110,7 +115,7 @@ expand-spec =
     loop-again
     (λ c. search needs)
     (λ c. c .before .before .before .loop .inv .2) (λ c. c .before .before .before .loop .inv .3) (λ c. c .before .before .before .loop .inv .4) (λ c. c .before .before .before .loop .inv .5)
-    (λ c. let h = c .before .before .before in all-expanded (h .loop .inv .1) (answered h (sym (c .before .before .step .ensures (given h)) ∙ c .enum-told .given .1)))
+    (λ c. let h = c .before .before .before in all-expanded (h .loop .inv .1) (answered h (sym (answer (c .before .before)) ∙ c .enum-told .given .1)))
     (λ c. search needs)
     (λ c. c .before .before .before .loop .inv .2) (λ c. c .before .before .before .loop .inv .3) (λ c. c .before .before .before .loop .inv .4) (λ c. c .before .before .before .loop .inv .5)
-    (λ c. let h = c .before .before .before in absurd (answered h (sym (c .before .before .step .ensures (given h)) ∙ c .enum-told2 .given .1))))
+    (λ c. let h = c .before .before .before in absurd (answered h (sym (answer (c .before .before)) ∙ c .enum-told2 .given .1))))

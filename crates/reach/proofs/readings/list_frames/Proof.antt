@@ -35,7 +35,7 @@ room c =
 -- what the code adds to the place
 added : (c : tie.After-decide Inv-loop μ-loop) → let t = c .before .before in let table = start t .args .table .now in
     t .before .loop .at + (1 + c .decide .result .words) ≡ t .before .loop .at + (1 + words (nth table 1) (kindOf (nth table (t .before .loop .at))))
-added c = ap (λ n. c .before .before .before .loop .at + (1 + n)) (c .decide .ensures .1 .0)
+added c = ap (λ s. c .before .before .before .loop .at + (1 + s .words)) (c .decide .ensures .0)
 
 most : (c : tie.After-decide Inv-loop μ-loop) → c .before .before .before .loop .at + (1 + c .decide .result .words) ≤ tableLimit
 most c = let t = c .before .before in omega (arith, added c, onward t .next .most, t .before .loop .inv .0 .accepted .short)

@@ -9,6 +9,7 @@ use Rattle.circuit.specs.Lists.{nth}
 use Rattle.circuit.specs.Circuit.{size}
 use Rattle.frames.specs.declared.walk.Step.the-variants.{Next}
 use Rattle.frames.specs.Walk.{stepAt}
+use Rattle.frames.proofs.KindTable.{right-step}
 use Rattle.reach.proofs.readings.propagate_frames.Statement.{statement}
 use Rattle.reach.proofs.readings.propagate_frames.Tie as tie
 use Rattle.gadgets.proofs.Walking.{whole, headed, second-word, given-bits}
@@ -34,9 +35,16 @@ turn c = c .before .before .before .before
 abbrev head : tie.After-step2 Inv-loop μ-loop → tie.At-loop Inv-loop μ-loop
 head c = turn c .before
 
+-- what the step answers
+answer : (c : tie.After-step Inv-loop μ-loop) → let h = c .before .before .before in let a = start h .args in c .step .result ≡ stepAt (a .table .now) (nth (a .table .now) 1) (nth (a .starts .now) (h .loop .i - 1))
+answer c =
+    let h = c .before .before .before in
+    let table = start h .args .table .now in
+    right-step table (h .before .random-bits .result) (nth table 1) (nth (start h .args .starts .now) (h .loop .i - 1)) (c .step .ensures) (given h)
+
 met : (c : tie.After-step2 Inv-loop μ-loop) → let a = start (head c) .args in let g = c .step2 .given .0 in
     stepAt (a .table .now) (nth (a .table .now) 1) (nth (a .starts .now) (head c .loop .i - 1)) ≡ Next (g .0) (g .1 .0) (g .1 .1 .0)
-met c = sym (c .before .before .step .ensures (given (head c))) ∙ c .step2 .given .1
+met c = sym (answer (c .before .before)) ∙ c .step2 .given .1
 
 -- the marks have room for all wires
 room : (c : tie.At-loop Inv-loop μ-loop) → length (whole (c .loop .inv .0 .lists .accepted) .wires) ≤ length (c .loop .marks)
@@ -71,10 +79,10 @@ propagate-frames-spec =
     (λ c. record { fits = omega (arith, c .shared-slice-known4 .given (c .before .before .loop .i - 1)) })
     (λ c κs. search needs) (λ c. search needs)
     (λ c. c .before .before .before .before .before .loop .inv .1)
-    (λ c. absurd (no-end (c .before .before .before .before .before .loop .inv .0) (c .before .before .before .before .loop-test .taken) (sym (c .before .before .step .ensures (given (c .before .before .before .before .before))) ∙ c .enum-told .given .1)))
+    (λ c. absurd (no-end (c .before .before .before .before .before .loop .inv .0) (c .before .before .before .before .loop-test .taken) (sym (answer (c .before .before)) ∙ c .enum-told .given .1)))
     (λ c. search needs)
     (λ c. c .before .before .before .before .before .loop .inv .1)
-    (λ c. absurd (no-refusal (c .before .before .before .before .before .loop .inv .0) (c .before .before .before .before .loop-test .taken) (sym (c .before .before .step .ensures (given (c .before .before .before .before .before))) ∙ c .enum-told2 .given .1)))
+    (λ c. absurd (no-refusal (c .before .before .before .before .before .loop .inv .0) (c .before .before .before .before .loop-test .taken) (sym (answer (c .before .before)) ∙ c .enum-told2 .given .1)))
     (λ c. search needs) (λ c κs. search needs)
     (λ c. let t = c .before .before .before in covers (head t .loop .inv .0) (turn t .loop-test .taken) (met t))
     propagate-frame-requires

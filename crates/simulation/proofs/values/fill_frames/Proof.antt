@@ -8,6 +8,7 @@ use Rattle.circuit.specs.Limits.{wireLimit}
 use Rattle.circuit.specs.Kinds.{pairs}
 use Rattle.circuit.specs.Lists.{nth}
 use Rattle.frames.specs.declared.walk.Step.the-variants.{Next}
+use Rattle.frames.proofs.KindTable.{right-step}
 use Rattle.frames.specs.Walk.{operandsAt, stepAt}
 use Rattle.simulation.proofs.values.fill_frames.Statement.{statement}
 use Rattle.simulation.proofs.values.fill_frames.Tie as tie
@@ -28,6 +29,10 @@ start c = c .before .before .before .before .before .before .before
 given : (c : tie.At-loop Inv-loop μ-loop) → c .before .random-bits .result ≡ pairs (c .loop .walk .d)
 given c = given-bits (start c .pre .1 .evaluable .accepted) (c .before .random-bits .ensures .0) (c .loop .inv .d-is)
 
+-- what the step answers
+answer : (c : tie.After-step Inv-loop μ-loop) → let h = c .before in c .step .result ≡ stepAt (start h .args .table .now) (h .loop .walk .d) (h .loop .walk .at)
+answer c = let h = c .before in right-step (start h .args .table .now) (h .before .random-bits .result) (h .loop .walk .d) (h .loop .walk .at) (c .step .ensures) (given h)
+
 -- what is filled in at the loop's head
 abbrev so-far : (c : tie.At-loop Inv-loop μ-loop) → let s = start c in FilledTo (s .args .table .now) (s .args .ones) (s .args .shares .now) (s .args .tape .now) (s .pre .0) (c .loop .values) (c .loop .walk .at) (c .loop .first) (c .loop .from) (c .loop .used)
 so-far c = c .loop .inv .filled (start c .pre .0) (start c .pre .1)
@@ -38,7 +43,7 @@ head c = c .before .before .before
 
 met : (c : tie.After-step2 Inv-loop μ-loop) → let h = head c in let f = so-far h in let g = c .step2 .given .0 in
     Met (f .evaluable .accepted) (f .between) (nth (start h .args .table .now) 1) (h .loop .first) (h .loop .from) (g .0) (g .1 .0) (g .1 .1 .0)
-met c = let h = head c in filling-answers (h .loop .inv) (start h .pre .0) (start h .pre .1) (sym (c .before .before .step .ensures (given h)) ∙ c .step2 .given .1)
+met c = let h = head c in filling-answers (h .loop .inv) (start h .pre .0) (start h .pre .1) (sym (answer (c .before .before)) ∙ c .step2 .given .1)
 
 words : (c : tie.After-operands Inv-loop μ-loop) → let h = head (c .before .before) in let table = start h .args .table .now in
     c .operands .result .now ≡ operandsAt table (nth table 1) (h .loop .walk .at)
@@ -65,7 +70,7 @@ turn c = c .before .before .before .before .before .before .before .before .befo
 
 -- the step's answer, and the values of the frame
 told : (c : tie.After-struct-known3 Inv-loop μ-loop) → let t = turn c in let h = head t in let g = t .step2 .given .0 in stepAt (start h .args .table .now) (h .loop .walk .d) (h .loop .walk .at) ≡ Next (g .0) (g .1 .0) (g .1 .1 .0)
-told c = sym (turn c .before .before .step .ensures (given (head (turn c)))) ∙ turn c .step2 .given .1
+told c = sym (answer (turn c .before .before)) ∙ turn c .step2 .given .1
 
 loop-again : tie.Need-loop-again Inv-loop μ-loop
 loop-again c =
@@ -104,7 +109,7 @@ fill-frames-spec =
     loop-again
     (λ c. search needs)
     (λ c. c .before .before .before .loop .inv .size-is)
-    (λ c. filling-done (c .before .before .before .loop .inv) (sym (c .before .before .step .ensures (given (c .before .before .before))) ∙ c .enum-told .given .1))
+    (λ c. filling-done (c .before .before .before .loop .inv) (sym (answer (c .before .before)) ∙ c .enum-told .given .1))
     (λ c. search needs)
     (λ c. c .before .before .before .loop .inv .size-is)
-    (λ c. let h = c .before .before .before in absurd (filling-answers (h .loop .inv) (start h .pre .0) (start h .pre .1) (sym (c .before .before .step .ensures (given h)) ∙ c .enum-told2 .given .1))))
+    (λ c. let h = c .before .before .before in absurd (filling-answers (h .loop .inv) (start h .pre .0) (start h .pre .1) (sym (answer (c .before .before)) ∙ c .enum-told2 .given .1))))

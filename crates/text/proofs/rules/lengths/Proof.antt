@@ -6,6 +6,7 @@ use lib.ListN.{length, getD, length-set}
 use lib.Seq.{getD-set-same, getD-set-other}
 use borrow.Author.Needs.{needs}
 use Rattle.circuit.specs.Kinds.{words, kindOf}
+use Rattle.frames.specs.declared.kinds.Shape.{Shape}
 use Rattle.text.proofs.Scanning.{words-most}
 use Rattle.circuit.proofs.Base.{below-more}
 use Rattle.text.proofs.rules.lengths.Statement.{statement}
@@ -24,7 +25,7 @@ start c = c .before .before .before
 told : (c : tie.After-decide Inv-loop μ-loop)
     → (1 + c .decide .result .words ≡ suc (words (start c .args .d) (kindOf (c .before .before .loop .kind)))) × (c .decide .result .words ≤ 131073)
 told c =
-    let w = c .decide .ensures .1 .0 in
+    let w = ap (λ (x : Shape). x .words) (c .decide .ensures .0) in
     let h : start c .args .d < 65536 = search needs in
     (omega arith, omega (arith, words-most (start c .args .d) (kindOf (c .before .before .loop .kind))))
 

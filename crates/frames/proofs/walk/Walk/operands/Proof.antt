@@ -16,7 +16,7 @@ abbrev start : tie.After-decide → tie.Start
 start c = c .before .before .before .before
 
 words-are : (c : tie.After-decide) → let a = start c .args in c .decide .result .words ≡ words (a .self .d) (kindOf (nth (a .table .now) (a .self .at)))
-words-are c = c .decide .ensures .1 .0
+words-are c = ap (λ s. s .words) (c .decide .ensures .0)
 
 returns : tie.Need-returns
 returns c =
