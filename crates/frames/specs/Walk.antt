@@ -80,7 +80,7 @@ kindLine kind form n wires randoms inputs = record { kind = kind; form = form; w
 abbrev pub shapeCode : ℕ → Kind → ShapeCode
 shapeCode d kind = kindLine (kindCode kind) (formOf kind) (words d kind) (shape d kind .wires) (shape d kind .randoms) (shape d kind .inputs)
 
--- the same where a gadget is said to take so many random bits, which REF's wires begin with
+-- a number of AND, of REF, or of any other kind
 abbrev pub byGadget : Kind → (and ref other : ℕ) → ℕ
 byGadget HEAD a r x = x
 byGadget IN a r x = x
@@ -92,6 +92,7 @@ byGadget AND a r x = a
 byGadget REF a r x = r
 byGadget OUT a r x = x
 
+-- what a kind decides where a gadget is said to take so many random bits, each a wire of REF's
 abbrev pub shapeTaking : (randoms d : ℕ) → Kind → ShapeCode
 shapeTaking n d kind =
     let wires = shape d kind .wires in

@@ -67,9 +67,9 @@ fn kind_line(
     }
 }
 
-// The frame that a kind word begins, where a gadget of d shares takes so many random bits. A word past 8 is no kind and is
-// answered as HEAD. The kinds stand in three groups, so that a processor foresees each by its own branches: one jump for all of
-// them cost some tables of gates twice the time.
+// The frame that a kind word begins, where a gadget of d shares takes so many random bits; how many words follow the kind does
+// not depend on them. A word past 8 is no kind and is answered as HEAD. The kinds stand in three groups, so that a processor
+// foresees each by its own branches: one jump for all of them cost some tables of gates twice the time.
 pub fn decide(word: u16, d: u16, randoms: u16) -> Shape
     ensures shaped { λ r. ⌜ r ≡ shapeTaking randoms d (kindOf word) ⌝ }
     ensures formed { λ r. ⌜ Means d (r .form) (kindOf word) ⌝ }

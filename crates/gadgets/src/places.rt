@@ -2,7 +2,7 @@
 ghost use mathlib.Core.Path.{_≡_};
 ghost use Prim.Native.Nat.{_+_, _*_, _/_, _-_, _≤_, _<_};
 ghost use lib.ListN.{length};
-ghost use Rattle.gadgets.specs.Internal.Places.{wordA, wordB, rowStart, pairSite, slotOf, crossStart, pairAt, productAt, crossAt, outAt, maskAt, sumAt};
+ghost use Rattle.gadgets.specs.Internal.Places.{wordA, wordB, rowStart, pairSite, slotOf, crossStart, pairAt, productAt, crossAt, outAt, sumAt};
 ghost use Rattle.gadgets.specs.Internal.Frames.{Small};
 use frames::randoms::random_bits;
 

@@ -146,8 +146,8 @@ pub(crate) fn propagate_and(marks: &mut [u8], first: usize, d: usize, ops: &[u16
     propagate_products(marks, first, d, ops);
 }
 
-// Marks on REF's random bits of the share i and each other: those of lower shares stand in their rows, the next one a row less
-// one further on; those of higher shares follow each other.
+// Marks on REF's random bits of the share i and each other. That of a lower share stands in the lower share's row, just before
+// `at`; those of the higher shares are the row of i.
 fn mark_masks(marks: &mut [u8], first: usize, d: usize, i: usize)
     requires { ⌜ Small first d × (i < d) × (first + pairs d ≤ length (now marks)) ⌝ }
     ensures { λ _. ⌜ now (marks .exit) ≡ markAll (markAll (now (marks .entry)) (map (maskAt d first i) (range 0 (i - 0)))) (map (maskAt d first i) (range (i + 1) (d - (i + 1)))) ⌝ }

@@ -133,8 +133,8 @@ pub(crate) fn and(
     cross_all(values, first, d, ones, ops);
 }
 
-// The sum of a word and REF's random bits of the share i and each other: those of lower shares stand in their rows, the next
-// one a row less one further on; those of higher shares follow each other.
+// The sum of a word and REF's random bits of the share i and each other. That of a lower share stands in the lower share's row,
+// just before `at`; those of the higher shares are the row of i.
 fn add_masks(values: &[u8], first: usize, d: usize, i: usize, word: u8) -> u8
     requires { ⌜ Small first d × (i < d) × (first + pairs d ≤ length (now values)) ⌝ }
     ensures { λ r. ⌜ ((s : ℕ) × Sums d first i word 0 i (now (values .entry)) s × Sums d first i s (i + 1) d (now (values .entry)) r) ⌝ }
