@@ -6,7 +6,7 @@ use native.Mathlib.Omega.{arith}
 use borrow.Author.Tests.{lt-ltb, le-ltb}
 use Rattle.frames.proofs.RandomBits.{few-pairs}
 use Rattle.gadgets.specs.Internal.Places.{rowStart, maskAt}
-use Rattle.gadgets.proofs.Sites.{row-next, row-rest}
+use Rattle.gadgets.proofs.Sites.{row-next, row-few}
 
 -- one behind that of i and the lower share j, and that of i and the higher share j
 pub record BelowAt (d first i j at : ℕ) : Type 0 where
@@ -19,7 +19,7 @@ pub record AboveAt (d first i j at : ℕ) : Type 0 where
 
 -- the numbers are small
 few-before : (d i : ℕ) → i ≤ d → d ≤ 8 → rowStart d i ≤ 28
-few-before d i h few = omega (arith, row-rest d i h, few-pairs d few)
+few-before d i h few = omega (arith, row-few d i h, few-pairs d few)
 
 near : (x y first at : ℕ) → x ≤ 28 → y ≤ 8 → at ≡ first + (x + y) → at ≤ first + 36
 near x y first at h k e = omega arith

@@ -27,20 +27,6 @@ row-next d i l =
 pub row-last : (d : ℕ) → rowStart d d ≡ pairs d
 row-last d = let e : 2 * d - d - 1 ≡ d - 1 = omega arith in rw e
 
--- one share more makes a pair with each of the others; so the pairs from a row on are those of the shares from it on
-pairs-next : (n : ℕ) → pairs (suc n) ≡ pairs n + n
-pairs-next zero = refl
-pairs-next (suc n) = omega (arith, twice (suc n), twice n)
-  where
-    twice : (n : ℕ) → pairs (suc n) * 2 ≡ suc n * n
-    twice n = let e : suc n - 1 ≡ n = omega arith in pairs-twice (suc n) ∙ ap (λ m. suc n * m) e
-
-pub row-rest : (d i : ℕ) → i ≤ d → rowStart d i + pairs (d - i) ≡ pairs d
-row-rest d zero h = let none : rowStart d 0 ≡ 0 = omega arith in let all : d - 0 ≡ d = omega arith in rw (none, all) (omega arith)
-row-rest d (suc i) h =
-    let e : pairs (d - i) ≡ pairs (d - suc i) + (d - suc i) = ap pairs (omega arith) ∙ pairs-next (d - suc i) in
-    omega (arith, row-next d i h, e, row-rest d i (omega arith))
-
 -- twice the pairs before a row
 pub row-twice : (d i : ℕ) → i ≤ d → 2 * rowStart d i ≡ i * (2 * d - i - 1)
 row-twice d zero h = omega arith
@@ -53,6 +39,9 @@ row-twice d (suc i) h =
 row-most : (d i k : ℕ) → i + k ≤ d → rowStart d i ≤ rowStart d (i + k)
 row-most d i zero h = simp add-zero (omega arith)
 row-most d i (suc k) h = simp add-suc (omega (arith, row-next d (i + k) (omega arith), row-most d i k (omega arith)))
+
+pub row-few : (d i : ℕ) → i ≤ d → rowStart d i ≤ pairs d
+row-few d i h = let e : i + (d - i) ≡ d = omega arith in rw (e, row-last d) at (row-most d i (d - i) (omega arith))
 
 -- the place of a pair is one of all pairs
 pub pair-lt : (d i j : ℕ) → i < d → j < d → (j ≡ i → ⊥) → pairSite d i j < pairs d

@@ -67,7 +67,7 @@ fn write_frame(
     frame: Frame,
     ones: u8,
     d: usize,
-    randoms: usize,
+    randoms: u16,
     first: usize,
     from: usize,
     used: usize,
@@ -94,8 +94,8 @@ fn write_frame(
             Gate::Reg { wire } => register(values, first, wire),
             Gate::Out => {}
         },
-        Frame::And => gadget::and(values, first, d, randoms, ones, ops, tape, used),
-        Frame::Ref => gadget::refresh(values, first, d, randoms, ops, tape, used),
+        Frame::And => gadget::and(values, first, d, randoms as usize, ones, ops, tape, used),
+        Frame::Ref => gadget::refresh(values, first, d, randoms as usize, ops, tape, used),
     }
 }
 
@@ -124,7 +124,6 @@ pub fn fill_frames(
     let d = table[1];
     let n = d as usize;
     let randoms = random_bits(d);
-    let bits = randoms as usize;
     let mut walk = Walk { d, at: place.at };
     let mut first = place.first;
     let mut from = place.from;
@@ -143,7 +142,7 @@ pub fn fill_frames(
                     frame,
                     ones,
                     n,
-                    bits,
+                    randoms,
                     first,
                     from,
                     used,

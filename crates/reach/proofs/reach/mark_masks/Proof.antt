@@ -4,7 +4,6 @@ use mathlib.Core.List.{map}
 use Prim.Native.Nat.{ℕ, _+_, _-_, _≤_, _<_}
 use native.Mathlib.Omega.{arith}
 use lib.ListN.{length, length-set}
-use borrow.Author.Needs.{needs}
 use Rattle.circuit.specs.Lists.{range}
 use Rattle.reach.proofs.reach.mark_masks.Statement.{statement}
 use Rattle.reach.proofs.reach.mark_masks.Tie as tie

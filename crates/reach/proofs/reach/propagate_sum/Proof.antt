@@ -1,6 +1,5 @@
 -- A sum without a mark is left; another hands its mark to the share's wire and to its random bits, those of the shares below i and above.
 use mathlib.Core.Path.{_≡_, refl, _∙_}
-use borrow.Author.Needs.{needs}
 use native.Mathlib.Omega.{arith}
 use lib.ListN.{length, length-set}
 use borrow.Author.Tests.{lt-ltb}

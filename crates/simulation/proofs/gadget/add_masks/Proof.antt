@@ -1,8 +1,7 @@
 -- The loops' invariants: the random bits of the share i and each below j are added, and the next one's place is known.
 use mathlib.Core.Path.{_≡_}
-use Prim.Native.Nat.{ℕ, _+_, _-_, _≤_, _<_}
+use Prim.Native.Nat.{_+_, _-_}
 use native.Mathlib.Omega.{arith}
-use borrow.Author.Needs.{needs}
 use Rattle.simulation.proofs.gadget.add_masks.Statement.{statement}
 use Rattle.simulation.proofs.gadget.add_masks.Tie as tie
 use Rattle.gadgets.proofs.Slots.{mask-lt}

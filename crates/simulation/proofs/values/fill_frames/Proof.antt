@@ -17,10 +17,10 @@ use Rattle.simulation.specs.Internal.Walked.{FilledTo}
 use Rattle.simulation.proofs.Evaluating.{room-in, inputs-in, draws-in, FillingTo, filling-start, filling-answers, filling-next, filling-end, filling-done}
 
 abbrev Inv-loop : tie.InvT-loop
-Inv-loop table end ones shares tape values₀ d n randoms bits walk₀ first₀ from₀ used₀ values walk first from used = FillingTo table ones shares tape values₀ (walk₀ .at) first₀ from₀ used₀ end values walk first from used
+Inv-loop table end ones shares tape values₀ d n randoms walk₀ first₀ from₀ used₀ values walk first from used = FillingTo table ones shares tape values₀ (walk₀ .at) first₀ from₀ used₀ end values walk first from used
 
 abbrev μ-loop : tie.MeasureT-loop
-μ-loop table end ones shares tape values₀ d n randoms bits walk₀ first₀ from₀ used₀ values walk first from used = length table - walk .at
+μ-loop table end ones shares tape values₀ d n randoms walk₀ first₀ from₀ used₀ values walk first from used = length table - walk .at
 
 abbrev start : tie.At-loop Inv-loop μ-loop → tie.Start Inv-loop μ-loop
 start c = c .before .before .before .before .before .before .before
@@ -95,7 +95,6 @@ fill-frames-spec =
     (λ c. omega (arith, headed (c .before .before .before .before .before .pre .1 .evaluable .accepted)))
     (λ c. record { fits = omega (arith, second-word (c .before .before .before .before .before .pre .1 .evaluable .accepted)) })
     (λ c κs. search needs)
-    (λ c. record { fits = omega (arith, c .random-bits .ensures .1) })
     (λ c. filling-start _ _ _ _ _ _ _ _ _ _ refl)
     (λ c κs. search needs) (λ c. search needs) (λ c κs. search needs)
     write-frame-requires
