@@ -8,12 +8,15 @@
  * numbers *a, *b, *c, whose pointers must not be null:
  *
  *                                    *a              *b                            *c
- *   accepted                         wires           random bits                   latency: the highest stage of an OUT, or 0
+ *   accepted                         wires           random bits                   latency
  *   refused                          frame           word                          0
  *   masked_read_text, accepted       words written   0
  *   masked_read_text, refused        line            word
  *   masked_write_text, accepted      bytes written   0                             0
  *   masked_count, accepted           wires read      combinations of their values  pairs of sharing and tape of one set
+ *
+ * The latency is the highest stage of an OUT less the lowest of an IN; 0 without an OUT, without an IN, or where that OUT stage is
+ * below that IN stage.
  *
  * A frame is a line of the text, counted from 0 (HEAD), and word 0 is its kind. Rules 1 to 3, 15 to 17 and 23 to 25 are told at
  * frame 0, word 0; rule 4 at frame 0, word 1; rules 18 and 19 at frame 0, the word being the index of the byte (the tape's count on

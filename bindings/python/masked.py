@@ -66,7 +66,7 @@ class Rule(enum.IntEnum):
 
 
 class Accepted(NamedTuple):
-    """An accepted circuit: its wires, its random bits, and the highest stage of an OUT (0 without one)."""
+    """An accepted circuit: its wires, its random bits, and its latency, the clocks from its first input to its last output."""
 
     wires: int
     randoms: int

@@ -9,5 +9,6 @@ pub mod options;
 #[allow(clippy::too_many_arguments)]
 pub mod proved;
 pub mod reference;
+pub mod spans;
 pub mod tuned;
 pub mod verdict;

@@ -15,10 +15,11 @@ use Rattle.frames.specs.Walk.{shapeCode}
 use Rattle.checker.specs.declared.notes.Found.{Found}
 use Rattle.checker.specs.declared.notes.Made.{Made}
 use Rattle.checker.specs.declared.forms.Spot.{Spot}
+use Rattle.checker.specs.declared.span.Span.{Span}
 use Rattle.checker.specs.declared.frame.Tally.{Tally}
 use Rattle.checker.specs.declared.frame.Added.{Added}
 use Rattle.checker.specs.Internal.Notes.{noted, innerWords, namedWords}
-use Rattle.checker.specs.Internal.Adding.{none, orElse, _andThen_, brokenIn, wiresAt, madeIn, limitBroken, notesWith, Judges, numbersOf, addedBy, Bounded, Fitting, FrameOf, latencyIn, Adds}
+use Rattle.checker.specs.Internal.Adding.{none, orElse, _andThen_, brokenIn, wiresAt, madeIn, limitBroken, notesWith, Judges, numbersOf, addedBy, Bounded, Fitting, FrameOf, spanIn, Adds}
 use Rattle.checker.proofs.MadeNotes.{wordCount, numbersIn, Counts, counts}
 
 -- no rule is broken only where the new wires fit
@@ -65,13 +66,13 @@ module _ {sh : ShapeCode} {d : ℕ} {ops : List ℕ} (o : FrameOf sh d ops) {for
         let all : m .inner + m .named ≡ sh .wires = ap (λ x. x .inner + x .named) made-is ∙ made-all (noted old (tally .wires)) in
         rw numbers-all (record { wires = omega arith; randoms = omega arith; frames = b .frames; inputs = omega arith })
 
-    pub adds : {a : Added} {latency : ℕ} → a ≡ addedBy (r .rule) (r .word) tally (numbersIn form d sh) latency → latency ≡ latencyIn form (tally .latency) (m .stage) → Adds tally sh d ops old new a
-    adds {latency = latency} g l =
+    pub adds : {a : Added} {span : Span} → a ≡ addedBy (r .rule) (r .word) tally (numbersIn form d sh) span → span ≡ spanIn form (tally .span) (m .stage) → Adds tally sh d ops old new a
+    adds {span = span} g l =
         let M : Form → Made = λ f. madeIn f d (sh .wires - d) (noted old (tally .wires)) ops in
         let S : Form → Spot = λ f. brokenIn d (tally .randoms) (noted old (tally .wires)) ops f andThen limitBroken (M f) (tally .wires) in
         let m-is : m ≡ M (sh .form) = made-is ∙ ap M (sym e) in
         let r-is : r ≡ S (sh .form) = j .spot-is ∙ ap₂ (λ s x. s andThen limitBroken x (tally .wires)) broken-is made-is ∙ ap S (sym e) in
         record {
-          added-is = g ∙ ap (λ n. addedBy (r .rule) (r .word) tally n latency) numbers-all ∙ ap₂ (λ s n. addedBy (s .rule) (s .word) tally (numbersOf sh) n) r-is (l ∙ ap₂ (λ f x. latencyIn f (tally .latency) (x .stage)) (sym e) m-is);
+          added-is = g ∙ ap (λ n. addedBy (r .rule) (r .word) tally n span) numbers-all ∙ ap₂ (λ s n. addedBy (s .rule) (s .word) tally (numbersOf sh) n) r-is (l ∙ ap₂ (λ f x. spanIn f (tally .span) (x .stage)) (sym e) m-is);
           notes-are = j .notes-are ∙ ap₂ (λ s x. notesWith (s .rule) x (tally .wires) old) r-is m-is;
         }

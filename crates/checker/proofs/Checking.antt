@@ -8,7 +8,7 @@ use lib.Dec.{leb, ltb, eqb}
 use lib.ListN.{length, drop}
 use lib.Seq.{drop-cons}
 use borrow.Author.Tests.{leb-true, ltb-true, ltb-false}
-use Rattle.circuit.specs.Limits.{tableLimit, notesRoom, fewestShares, mostShares, wireLimit}
+use Rattle.circuit.specs.Limits.{tableLimit, notesRoom, fewestShares, mostShares, stageLimit, wireLimit}
 use Rattle.circuit.specs.Lists.{nth}
 use Rattle.circuit.specs.Kinds.{kindOf, words}
 use Rattle.circuit.specs.Circuit.{Circuit, size, empty}
@@ -25,7 +25,7 @@ use Rattle.frames.specs.declared.walk.Step.the-variants.{End, Next, Refused as 
 use Rattle.checker.specs.declared.frame.Tally.{Tally}
 use Rattle.checker.specs.Answers.{answerOf}
 use Rattle.frames.specs.Walk.{shapeCode, behind, stepAt}
-use Rattle.checker.specs.Internal.Adding.{headAlone, tallyOf, headNumber}
+use Rattle.checker.specs.Internal.Adding.{spanOf, headAlone, tallyOf, headNumber}
 use Rattle.checker.proofs.Spots.{judged, judged-refuse}
 use Rattle.checker.proofs.Represented.{Labelled}
 
@@ -58,6 +58,7 @@ pub record Walking (table notes₀ notes : List ℕ) (d : ℕ) (walk : Walk) (ta
   pub few : size k ≤ wireLimit
   pub used : k .randoms ≤ size k
   pub inputs : k .inputs ≤ tally .frames
+  pub highest : spanOf (k .frames) .highest ≤ stageLimit
   pub counted : tally .frames ≤ walk .at
   pub inside : walk .at ≤ length table
   pub short : length table ≤ tableLimit
@@ -85,6 +86,7 @@ start table notes e =
       few = omega arith;
       used = omega arith;
       inputs = omega arith;
+      highest = omega arith;
       counted = omega arith;
       inside = h .two;
       short = h .short;

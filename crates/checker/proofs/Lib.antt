@@ -7,6 +7,8 @@ pub mod Words
 -- Wires in the notes
 pub mod Stores
 pub mod MadeNotes
+-- The stages kept for the latency
+pub mod Spanning
 pub mod Represented
 -- One frame, then all
 pub mod Adding

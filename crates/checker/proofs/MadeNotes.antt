@@ -1,21 +1,18 @@
--- What a frame adds, as the code counts and writes it: the stage, the latency, the number of wires, and their words in the notes.
+-- What a frame adds, as the code counts and writes it: the stage, the number of wires, and their words in the notes.
 use mathlib.Core.Path.{_≡_, refl, sym, ap, ap₂, _∙_}
 use mathlib.Core.Bool.{Bool, true, false, cond}
-use mathlib.Core.List.{List, [], _∷_, _++_, map, append-assoc}
+use mathlib.Core.List.{List, [], _∷_, _++_, map}
 use Prim.Native.Nat.{ℕ, zero, suc, _+_, _*_, _-_, _≤_}
-use native.Mathlib.Nat.{max-eq-left, max-eq-right}
 use native.Mathlib.Omega.{arith}
-use lib.Dec.{ltb}
 use lib.ListN.{length}
-use borrow.Author.Tests.{ltb-true, ltb-false}
 use Rattle.circuit.specs.Limits.{registeredNote}
 use Rattle.circuit.specs.Lists.{range, nth}
 use Rattle.circuit.specs.Wires.{Gate, input, isStop, Wire, named, inner, _placed_}
 use Rattle.circuit.specs.Gadgets.{labels, Part, c, S, gate, delay, inAND, inREF, index, gadget}
 use Rattle.circuit.specs.Kinds.{Kind, HEAD, IN, CON, XOR, NOT, REG, AND, REF, OUT, pairs, shape, words}
-use Rattle.circuit.specs.Circuit.{Circuit, size, stageShown, newStage, made, latencyAfter, shownBy, lookUp}
+use Rattle.circuit.specs.Circuit.{Circuit, size, stageShown, newStage, made, shownBy, lookUp}
 use Rattle.circuit.specs.Answer.{note, notesOf}
-use Rattle.circuit.proofs.Base.{cases}
+use Rattle.circuit.proofs.Base.{concatMap-append}
 use Rattle.circuit.proofs.Sizes.{and-size, ref-size, words-AND, words-REF, words-OUT}
 use Rattle.checker.specs.declared.notes.Made.{Made}
 use Rattle.frames.specs.declared.kinds.Form.{Form}
@@ -24,7 +21,7 @@ use Rattle.frames.specs.declared.kinds.Shape.{Shape as ShapeCode}
 use Rattle.frames.specs.Walk.{formOf, shapeCode}
 use Rattle.checker.specs.declared.notes.Found.{Found}
 use Rattle.checker.specs.Internal.Notes.{foundOf, firstWord, innerWords, namedWords, madeWords}
-use Rattle.checker.specs.Internal.Adding.{Numbers, numbers, numbersOf, madeIn, latencyIn}
+use Rattle.checker.specs.Internal.Adding.{Numbers, numbers, numbersOf, madeIn}
 use Rattle.checker.proofs.Words.{label-found, stage-found}
 
 -- the wires that a kind's form makes, by what a circuit says of those it names
@@ -77,8 +74,7 @@ counts d OUT look ops = record { form-later = λ h e. let z : _≡_ {A = ℕ} 0 
 
 -- the words of wires in the notes
 pub notes-append : (xs ys : List Wire) → notesOf (xs ++ ys) ≡ notesOf xs ++ notesOf ys
-notes-append [] ys = refl
-notes-append (x ∷ xs) ys = ap (λ l. note (shownBy x) ++ l) (notes-append xs ys) ∙ sym (append-assoc (note (shownBy x)) (notesOf xs) (notesOf ys))
+notes-append xs ys = concatMap-append xs ys (λ wire. note (shownBy wire))
 
 row-notes : (g : ℕ → Gate) (registered : Bool) (t n count : ℕ) → ((i : ℕ) → isStop (g i) ≡ registered)
     → notesOf (map (λ i. g i placed named i t) (range n count)) ≡ namedWords (firstWord n registered) t count
@@ -131,16 +127,3 @@ module _ (k : Circuit) (ops : List ℕ) where
       ∙ sym (gadget-notes (k .d) (size k) (λ i. nth ops (1 + i)) (λ i. nth ops (1 + i)) (inREF (k .d)) S true (stageShown (lookUp k (nth ops 1))) (newStage k ops REF)
       (pairs (k .d) + 2 * k .d - k .d) (omega (arith, ref-size (k .d))) (λ wire i. refl))
   made-words OUT h = refl
-
-  pub made-latency : (kind : Kind) → (kind ≡ HEAD → ⊥) → latencyIn (formOf kind) (k .latency) (newStage k ops kind) ≡ latencyAfter k ops kind
-  made-latency HEAD h = absurd (h refl)
-  made-latency IN h = refl
-  made-latency CON h = refl
-  made-latency XOR h = refl
-  made-latency NOT h = refl
-  made-latency REG h = refl
-  made-latency AND h = refl
-  made-latency REF h = refl
-  made-latency OUT h = let t = newStage k ops OUT in cases (ltb (k .latency) t)
-      (λ e. rw e (sym (max-eq-right (omega (arith, ltb-true (k .latency) t e)))))
-      (λ e. rw e (sym (max-eq-left (ltb-false (k .latency) t e))))

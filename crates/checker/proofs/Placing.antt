@@ -19,14 +19,16 @@ use Rattle.frames.specs.declared.kinds.Shape.{Shape as ShapeCode}
 use Rattle.frames.specs.Walk.{formOf, shapeCode}
 use Rattle.frames.proofs.KindTable.{means}
 use Rattle.checker.specs.declared.forms.Spot.{Spot}
+use Rattle.checker.specs.declared.span.Span.{Span}
 use Rattle.checker.specs.declared.frame.Tally.{Tally}
 use Rattle.checker.specs.declared.frame.Added.{Added}
 use Rattle.checker.specs.declared.frame.Added.the-variants.{Next, Refused}
 use Rattle.checker.specs.Internal.Notes.{noted, foundOf, Represents, madeWords}
-use Rattle.checker.specs.Internal.Adding.{spot, none, _andThen_, brokenIn, madeIn, limitBroken, notesWith, tallyOf, numbersOf, withFrame, addedBy, latencyIn, madeNew, broken, Adds}
+use Rattle.checker.specs.Internal.Adding.{spot, none, _andThen_, brokenIn, madeIn, limitBroken, notesWith, tallyOf, numbersOf, withFrame, addedBy, spanOf, spanIn, madeNew, broken, Adds}
 use Rattle.checker.proofs.Spots.{judged, judgedAt, judged-then}
 use Rattle.checker.proofs.Words.{words-are}
-use Rattle.checker.proofs.MadeNotes.{madeBy, counts, made-stage, made-words, made-latency}
+use Rattle.checker.proofs.MadeNotes.{madeBy, counts, made-stage, made-words}
+use Rattle.checker.proofs.Spanning.{span-next}
 
 -- what an added frame says of the frame of number f
 abbrev pub judgementIn : ℕ → Added → Judgement
@@ -88,28 +90,28 @@ module _ {k : Circuit} {kind : Kind} {tally : Tally} {sh : ShapeCode} {d : ℕ} 
       ∙ ap₂ _then_ (words-judged f) (limits-judged f)
 
   -- the counts with the frame are those of the circuit with it
-  tally-next : withFrame tally (numbersOf sh) (latencyIn (sh .form) (tally .latency) (madeNew tally sh d ops old .stage)) ≡ tallyOf (tally .frames + 1) (extend k ops kind)
+  tally-next : withFrame tally (numbersOf sh) (spanIn (sh .form) (tally .span) (madeNew tally sh d ops old .stage)) ≡ tallyOf (tally .frames + 1) (extend k ops kind)
   tally-next =
-      ap₂ (λ t s. withFrame t (numbersOf s) (latencyIn (s .form) (t .latency) (madeNew tally sh d ops old .stage))) (p .tally-is) (p .shape-is)
-      ∙ ap₂ (λ n stage. withFrame (tallyOf (tally .frames) k) (numbersOf (shapeCode n kind)) (latencyIn (formOf kind) (k .latency) stage)) (sym (p .shares)) stage-is
-      ∙ ap₂ (λ wires latency. record { frames = tally .frames + 1; wires = wires; randoms = k .randoms + shape (k .d) kind .randoms; latency = latency; inputs = k .inputs + shape (k .d) kind .inputs })
-      (sym (size-extend k ops kind)) (made-latency k ops kind (p .later))
+      ap₂ (λ t s. withFrame t (numbersOf s) (spanIn (s .form) (t .span) (madeNew tally sh d ops old .stage))) (p .tally-is) (p .shape-is)
+      ∙ ap₂ (λ n stage. withFrame (tallyOf (tally .frames) k) (numbersOf (shapeCode n kind)) (spanIn (formOf kind) (spanOf (k .frames)) stage)) (sym (p .shares)) stage-is
+      ∙ ap₂ (λ wires span. record { frames = tally .frames + 1; wires = wires; randoms = k .randoms + shape (k .d) kind .randoms; span = span; inputs = k .inputs + shape (k .d) kind .inputs })
+      (sym (size-extend k ops kind)) (span-next (k .frames) kind (newStage k ops kind))
 
   -- what adding the frame answers
   module _ {new : List ℕ} {r : Added} (a : Adds tally sh d ops old new r) where
     pub judgement : judgementIn (tally .frames) r ≡ laterRule k (tally .frames) kind ops
     judgement = ap (judgementIn (tally .frames)) (a .added-is) ∙ by-rule (broken tally sh d ops old .rule) _ _ ∙ broken-judged (tally .frames)
       where
-        by-rule : (n w latency : ℕ) → judgementIn (tally .frames) (addedBy n w tally (numbersOf sh) latency) ≡ judged n (tally .frames) w
-        by-rule zero w latency = refl
-        by-rule (suc n) w latency = refl
+        by-rule : (n w : ℕ) (span : Span) → judgementIn (tally .frames) (addedBy n w tally (numbersOf sh) span) ≡ judged n (tally .frames) w
+        by-rule zero w span = refl
+        by-rule (suc n) w span = refl
 
     pub next : (t : Tally) → r ≡ Next t → t ≡ tallyOf (tally .frames + 1) (extend k ops kind)
     next t e = by-rule (broken tally sh d ops old .rule) _ _ (sym (a .added-is) ∙ e) ∙ tally-next
       where
-        by-rule : (n w latency : ℕ) → addedBy n w tally (numbersOf sh) latency ≡ Next t → t ≡ withFrame tally (numbersOf sh) latency
-        by-rule zero w latency e = cc
-        by-rule (suc n) w latency e = let z : _≡_ {A = ℕ} 0 1 = cc in absurd (omega arith)
+        by-rule : (n w : ℕ) (span : Span) → addedBy n w tally (numbersOf sh) span ≡ Next t → t ≡ withFrame tally (numbersOf sh) span
+        by-rule zero w span e = cc
+        by-rule (suc n) w span e = let z : _≡_ {A = ℕ} 0 1 = cc in absurd (omega arith)
 
     pub notes-next : new ≡ notesAdded (laterRule k (tally .frames) kind ops) old (size k) (made k ops kind)
     notes-next = a .notes-are ∙ by-rule (broken tally sh d ops old .rule) (broken tally sh d ops old .word) ∙ ap (λ j. notesAdded j old (size k) (made k ops kind)) (broken-judged (tally .frames))
@@ -125,6 +127,6 @@ module _ {k : Circuit} {kind : Kind} {tally : Tally} {sh : ShapeCode} {d : ℕ} 
 pub refused-rule : {tally : Tally} {sh : ShapeCode} {d : ℕ} {ops old new : List ℕ} {r : Added} → Adds tally sh d ops old new r → {s : Spot} → r ≡ Refused s → s .rule ≡ 0 → ⊥
 refused-rule {tally} {sh} {d} {ops} {old} a {s} e = by-rule (broken tally sh d ops old .rule) _ _ (sym (a .added-is) ∙ e)
   where
-    by-rule : (n w latency : ℕ) → addedBy n w tally (numbersOf sh) latency ≡ Refused s → s .rule ≡ 0 → ⊥
-    by-rule zero w latency e h = let z : _≡_ {A = ℕ} 0 1 = cc in omega arith
-    by-rule (suc n) w latency e h = let q : spot (suc n) w ≡ s = cc in omega (arith, ap (λ x. x .rule) q)
+    by-rule : (n w : ℕ) (span : Span) → addedBy n w tally (numbersOf sh) span ≡ Refused s → s .rule ≡ 0 → ⊥
+    by-rule zero w span e h = let z : _≡_ {A = ℕ} 0 1 = cc in omega arith
+    by-rule (suc n) w span e h = let q : spot (suc n) w ≡ s = cc in omega (arith, ap (λ x. x .rule) q)

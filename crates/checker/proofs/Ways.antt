@@ -7,11 +7,12 @@ use native.Mathlib.Omega.{arith}
 use lib.ListN.{length, take, drop, length-drop, drop-of-length-le}
 use lib.Seq.{sets, drop-drop, length-take-le}
 use borrow.Author.Tests.{le-leb}
+use Rattle.circuit.specs.Limits.{stageLimit}
 use Rattle.circuit.specs.Lists.{nth}
 use Rattle.circuit.specs.Kinds.{Kind, HEAD, kindOf, words}
-use Rattle.circuit.specs.Circuit.{Circuit, size, made, extend}
+use Rattle.circuit.specs.Circuit.{Circuit, size, newStage, made, extend}
 use Rattle.circuit.specs.Rules.{pass, refuse, frameRule, Checked, frames, checked}
-use Rattle.circuit.specs.Answer.{answer, verdictOf, notesOf, notesAfter}
+use Rattle.circuit.specs.Answer.{accepted, answer, verdictOf, notesOf, notesAfter}
 use Rattle.circuit.specs.Composition.{kindWord, Fits}
 use Rattle.circuit.proofs.Building.{size-extend}
 use Rattle.circuit.proofs.Steps.{frames-pass, frames-refuse}
@@ -30,9 +31,10 @@ use Rattle.frames.specs.Walk.{shapeCode, operandsAt, stepAt}
 use Rattle.checker.specs.declared.notes.Found.{Found}
 use Rattle.checker.specs.declared.forms.Spot.{Spot}
 use Rattle.checker.specs.Internal.Notes.{Represents}
-use Rattle.checker.specs.Internal.Adding.{tallyOf, Bounded, FrameOf, Adds}
+use Rattle.checker.specs.Internal.Adding.{latencyIn, tallyOf, Bounded, FrameOf, Adds}
 use Rattle.checker.proofs.MadeNotes.{counts}
 use Rattle.checker.proofs.Represented.{represents, notes-more, notes-same, label-step}
+use Rattle.checker.proofs.Spanning.{highest-next, latency-is}
 use Rattle.checker.proofs.Placing.{judgementIn, laterRule, notesAdded, Placed, judgement, next, notes-next}
 use Rattle.checker.proofs.Checking.{Walking, here, AtFrame, met}
 
@@ -48,10 +50,10 @@ module _ {table notes₀ notes : List ℕ} {d : ℕ} {walk : Walk} {tally : Tall
   ends c e s v a n = rw (w .rest, e) (a, (w .notes-is ∙ ap (λ k. notesAfter k notes₀) (sym s), n))
 
   -- the end of the table
-  pub way-end : step.End ≡ stepAt table (walk .d) (walk .at) → Promised table notes₀ notes (Accepted (tally .wires) (tally .randoms) (tally .latency) (tally .inputs))
+  pub way-end : step.End ≡ stepAt table (walk .d) (walk .at) → Promised table notes₀ notes (Accepted (tally .wires) (tally .randoms) (latencyIn (tally .span)) (tally .inputs))
   unfolding frames
   way-end e = ends (record { circuit = w .k; judgement = pass }) (ap (frames (w .k) (tally .frames) 0) (drop-of-length-le table {i = walk .at} (met table (walk .d) (walk .at) e))) refl
-      (Accepted (tally .wires) (tally .randoms) (tally .latency) (tally .inputs)) (ap (λ t. answerOf (Accepted (t .wires) (t .randoms) (t .latency) 0)) (w .tally-is)) (ap (λ t. t .inputs) (w .tally-is))
+      (Accepted (tally .wires) (tally .randoms) (latencyIn (tally .span)) (tally .inputs)) (ap (λ t. answerOf (Accepted (t .wires) (t .randoms) (latencyIn (t .span)) 0)) (w .tally-is) ∙ ap (accepted (size (w .k)) (w .k .randoms)) (latency-is (w .k) (w .highest))) (ap (λ t. t .inputs) (w .tally-is))
 
   -- a frame that is refused
   refused-at : (rule word : ℕ) → walk .at < length table → frameRule (w .k) (tally .frames) (nth table (walk .at)) (drop (walk .at + 1) table) ≡ refuse rule (tally .frames) word
@@ -138,6 +140,7 @@ module _ {table notes₀ notes : List ℕ} {d : ℕ} {walk : Walk} {tally : Tall
             few = omega (arith, size-extend (w .k) ops kind, passed .few);
             used = omega (arith, size-extend (w .k) ops kind, counts (w .k .d) kind (λ x. Found.Missing) ops .randoms-few, w .used);
             inputs = omega (arith, counts (w .k .d) kind (λ x. Found.Missing) ops .inputs-few, w .inputs);
+            highest = highest-next (w .k .frames) _ (subst (λ o. newStage (w .k) o kind ≤ stageLimit) (sym ops-is) (passed .stage)) (w .highest);
             counted = omega (arith, w .counted);
             inside = omega (arith, length-drop (walk .at + 1) table, frame-at .inside, whole);
             short = w .short;
@@ -172,7 +175,7 @@ bounded w = record {
 
 -- the answer by a spot: accepted where it names no rule
 abbrev pub verdictBy : (rule word : ℕ) → Tally → Verdict
-verdictBy zero w tally = Accepted (tally .wires) (tally .randoms) (tally .latency) (tally .inputs)
+verdictBy zero w tally = Accepted (tally .wires) (tally .randoms) (latencyIn (tally .span)) (tally .inputs)
 verdictBy (suc r) w tally = Refused (suc r) (tally .frames) w
 
 pub refused-by : (rule word : ℕ) (tally : Tally) → (rule ≡ 0 → ⊥) → verdictBy rule word tally ≡ Refused rule (tally .frames) word
@@ -198,5 +201,5 @@ module _ {table notes₀ notes : List ℕ} {d : ℕ} {walk : Walk} {tally : Tall
   pub refused-end : (broken .rule ≡ 0 → ⊥) → Promised table notes₀ notes (Refused (broken .rule) (tally .frames) (broken .word))
   refused-end h = subst (Promised table notes₀ notes) (refused-by (broken .rule) (broken .word) tally h) (l .promised end)
 
-  pub accepted-end : broken .rule ≡ 0 → Promised table notes₀ notes (Accepted (tally .wires) (tally .randoms) (tally .latency) (tally .inputs))
+  pub accepted-end : broken .rule ≡ 0 → Promised table notes₀ notes (Accepted (tally .wires) (tally .randoms) (latencyIn (tally .span)) (tally .inputs))
   accepted-end h = subst (λ n. Promised table notes₀ notes (verdictBy n (broken .word) tally)) h (l .promised end)

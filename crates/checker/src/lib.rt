@@ -5,11 +5,13 @@ ghost use lib.ListN.{length};
 ghost use Rattle.circuit.specs.Rules.{checked};
 ghost use Rattle.checker.specs.Answers.{answerOf, inputsAre};
 ghost use Rattle.circuit.specs.Answer.{verdictOf, notesAfter};
-ghost use Rattle.checker.specs.Internal.Adding.{headNumber};
+ghost use Rattle.checker.specs.Internal.Adding.{latencyIn, headNumber};
 
 mod forms;
 mod frame;
 mod notes;
+mod numbers;
+mod span;
 
 use forms::Spot;
 use frame::Added;
@@ -36,12 +38,12 @@ pub enum Verdict {
 
 // The answers, from the counts and from a rule's spot.
 fn accepted(tally: Tally) -> Verdict
-    ensures { λ r. ⌜ r ≡ Verdict.Accepted (tally .wires) (tally .randoms) (tally .latency) (tally .inputs) ⌝ }
+    ensures { λ r. ⌜ r ≡ Verdict.Accepted (tally .wires) (tally .randoms) (latencyIn (tally .span)) (tally .inputs) ⌝ }
 {
     Verdict::Accepted {
         wires: tally.wires,
         randoms: tally.randoms,
-        latency: tally.latency,
+        latency: tally.span.latency(),
         inputs: tally.inputs,
     }
 }

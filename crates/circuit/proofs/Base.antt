@@ -1,7 +1,7 @@
 -- Lemmas on tests, bits, numbers and lists.
 use mathlib.Core.Path.{_≡_, refl, sym, ap, subst, _∙_}
 use mathlib.Core.Bool.{Bool, true, false, _&&_, _||_, true≢false, false≢true}
-use mathlib.Core.List.{List, [], _∷_, _++_, map}
+use mathlib.Core.List.{List, [], _∷_, _++_, map, append-assoc}
 use mathlib.Core.Logic.{_⊎_, inl, inr}
 use Prim.Native.Nat.{ℕ, zero, suc, _+_, _≤_, _<_}
 use native.Mathlib.Omega.{arith}
@@ -136,6 +136,11 @@ filter-in f (x ∷ xs) i h = cases (f x)
     (λ e. (or-left (eqb i x) (mem i xs) e, rw (eqb-true i x e) z))
     (λ e. let (a, b) = filter-in f xs i e in (in-tail i x xs a, b)))
     (λ z. let (a, b) = filter-in f xs i (rw z at h) in (in-tail i x xs a, b))
+
+-- a list for each element of two lists
+pub concatMap-append : {A B : Type 0} (xs ys : List A) (f : A → List B) → concatMap (xs ++ ys) f ≡ concatMap xs f ++ concatMap ys f
+concatMap-append [] ys f = refl
+concatMap-append (x ∷ xs) ys f = rw (concatMap-append xs ys f, append-assoc)
 
 -- an element of a list
 abbrev pub Has : {A : Type 0} → A → List A → Type 0

@@ -97,6 +97,7 @@ pub record Passed (k : Circuit) (x : ℕ) (rest : List ℕ) : Type 0 where
   pub kind : kindWord (kindOf x) ≡ x
   pub whole : words (k .d) (kindOf x) ≤ length rest
   pub fits : Fits k (kindOf x) (take (words (k .d) (kindOf x)) rest)
+  pub stage : newStage k (take (words (k .d) (kindOf x)) rest) (kindOf x) ≤ stageLimit
   pub few : size k + shape (k .d) (kindOf x) .wires ≤ wireLimit
 
 pub frame-pass : (k : Circuit) (f x : ℕ) (rest : List ℕ) → fewestShares ≤ k .d → frameRule k f x rest ≡ pass → Passed k x rest
@@ -110,13 +111,15 @@ frame-pass k f x rest ge h =
     let (p13, h14) = need-then (leb (newStage k ops (kindOf x)) stageLimit) 13 f 0 _ h13 in
     let p14 = need-pass (leb (size k + shape (k .d) (kindOf x) .wires) wireLimit) 14 f 0 h14 in
     let whole = leb-true n (length rest) p6 in
+    let stage = leb-true (newStage k ops (kindOf x)) stageLimit p13 in
     let count = length-take-le n rest whole in
     let kind = known x (leb-true x 8 (and-right (leb 1 x) (leb x 8) p5)) in
     record {
       kind = kind;
       whole = whole;
       fits = meets-fit k ops (kindOf x) ge (subst (λ (w : ℕ). 1 ≤ w) (sym kind) (leb-true 1 x (and-left (leb 1 x) (leb x 8) p5))) count
-          (words-pass k f ops 1 0 (shape (k .d) (kindOf x) .rules) (omega arith) p7) (leb-true (newStage k ops (kindOf x)) stageLimit p13);
+          (words-pass k f ops 1 0 (shape (k .d) (kindOf x) .rules) (omega arith) p7) stage;
+      stage = stage;
       few = leb-true (size k + shape (k .d) (kindOf x) .wires) wireLimit p14;
     }
 

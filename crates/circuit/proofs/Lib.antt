@@ -14,5 +14,6 @@ pub mod Registered
 pub mod Judging
 pub mod Fitting
 pub mod Exact
+pub mod Latency
 -- What an answer tells of the judgement behind it
 pub mod Answers

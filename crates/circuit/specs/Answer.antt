@@ -6,6 +6,7 @@ use Rattle.circuit.specs.Limits.{registeredNote, innerNote}
 use Rattle.circuit.specs.Lists.{concatMap, overwrite}
 use Rattle.circuit.specs.Wires.{Wire}
 use Rattle.circuit.specs.Circuit.{Circuit, size, Lookup, found, hidden, shownBy}
+use Rattle.circuit.specs.Latency.{latency}
 use Rattle.circuit.specs.Rules.{Judgement, pass, refuse, Checked, checked}
 
 -- accepted: the numbers of wires and random bits, and the latency; refused: the rule's number, the frame and the word
@@ -15,7 +16,7 @@ pub data Answer : Type 0 where
 
 -- the answer to a judgement on a circuit
 abbrev pub answer : Circuit → Judgement → Answer
-answer k pass = accepted (size k) (k .randoms) (k .latency)
+answer k pass = accepted (size k) (k .randoms) (latency k)
 answer k (refuse rule frame word) = refused rule frame word
 
 -- the answer to a table, with notes of so many words

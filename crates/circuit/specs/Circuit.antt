@@ -1,27 +1,35 @@
 -- Document 01, "Frames": the circuit that frames make, frame by frame.
 use mathlib.Core.Bool.{Bool, true, false}
 use mathlib.Core.List.{List, [], _∷_, _++_, map}
-use Prim.Native.Nat.{ℕ, zero, suc, _+_, _*_, max}
+use Prim.Native.Nat.{ℕ, zero, suc, _+_, _*_}
 use lib.ListN.{length, getD}
 use Rattle.circuit.specs.Lists.{nth}
 use Rattle.circuit.specs.Wires.{input, constant, reg, inverse, sum, isStop, Place, named, inner, Wire, _placed_}
 use Rattle.circuit.specs.Gadgets.{labels, Part, inAND, inREF, gadget}
 use Rattle.circuit.specs.Kinds.{Kind, HEAD, IN, CON, XOR, NOT, REG, AND, REF, OUT, shape}
 
--- the number of shares; the wires in the order made; how many INs and random bits there are; the highest stage of an OUT
+-- a frame's kind and its stage: that of the wires it makes for others to name; of OUT, that of its wires
+pub record Staged : Type 0 where
+  pub kind : Kind
+  pub stage : ℕ
+
+abbrev pub staged : Kind → ℕ → Staged
+staged kind t = record { kind = kind; stage = t }
+
+-- the number of shares; the wires in the order made; how many INs and random bits there are; the frames after HEAD, each with its stage
 pub record Circuit : Type 0 where
   pub d : ℕ
   pub wires : List Wire
   pub inputs : ℕ
   pub randoms : ℕ
-  pub latency : ℕ
+  pub frames : List Staged
 
 abbrev pub size : Circuit → ℕ
 size k = length (k .wires)
 
 -- a HEAD alone
 abbrev pub empty : ℕ → Circuit
-empty d = record { d = d; wires = []; inputs = 0; randoms = 0; latency = 0 }
+empty d = record { d = d; wires = []; inputs = 0; randoms = 0; frames = [] }
 
 -- the wire of a number, an inner one where there is none; and its place
 abbrev pub wireAt : Circuit → ℕ → Wire
@@ -80,7 +88,7 @@ module _ (k : Circuit) (ops : List ℕ) where
   abbrev stage : ℕ → ℕ
   stage i = stageShown (lookUp k (nth ops i))
 
-  -- the stage of the wires that a frame makes for others to name; of OUT, that of its wires
+  -- the stage of a frame
   unfoldable pub newStage : Kind → ℕ
   newStage HEAD = 0
   newStage IN = nth ops 0
@@ -105,18 +113,6 @@ module _ (k : Circuit) (ops : List ℕ) where
   made REF = gadget (k .d) (size k) (λ i. nth ops (1 + i)) (λ i. nth ops (1 + i)) (inREF (k .d)) Part.S (stage 1) (newStage REF)
   made OUT = []
 
-  -- the latency after a frame: the highest stage of any OUT so far
-  abbrev pub latencyAfter : Kind → ℕ
-  latencyAfter HEAD = k .latency
-  latencyAfter IN = k .latency
-  latencyAfter CON = k .latency
-  latencyAfter XOR = k .latency
-  latencyAfter NOT = k .latency
-  latencyAfter REG = k .latency
-  latencyAfter AND = k .latency
-  latencyAfter REF = k .latency
-  latencyAfter OUT = max (k .latency) (newStage OUT)
-
   -- the circuit with the frame
   abbrev pub extend : Kind → Circuit
   extend kind = record {
@@ -124,5 +120,5 @@ module _ (k : Circuit) (ops : List ℕ) where
     wires = k .wires ++ made kind;
     inputs = k .inputs + shape (k .d) kind .inputs;
     randoms = k .randoms + shape (k .d) kind .randoms;
-    latency = latencyAfter kind;
+    frames = k .frames ++ (staged kind (newStage kind) ∷ []);
   }

@@ -5,6 +5,7 @@ pub mod Wires
 pub mod Gadgets
 pub mod Kinds
 pub mod Circuit
+pub mod Latency
 pub mod Rules
 pub mod Answer
 -- The same said a second way, for the theorem of exactness and for statements about frames.

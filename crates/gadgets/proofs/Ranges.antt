@@ -73,10 +73,6 @@ module _ {A : Type 0} (Q : ℕ → A → Type 0) where
   lies-each f start m zero h = record { all = tt; ends = simp add-zero }
   lies-each f start m (suc c) h = simp add-suc (lies-append (h m (omega arith) (omega arith)) (simp suc-add at (lies-each f start (suc m) c (λ i l u. h i (omega arith) (omega arith)))))
 
-pub concatMap-append : {A B : Type 0} (xs ys : List A) (f : A → List B) → concatMap (xs ++ ys) f ≡ concatMap xs f ++ concatMap ys f
-concatMap-append [] ys f = refl
-concatMap-append (x ∷ xs) ys f = rw (concatMap-append xs ys f, append-assoc)
-
 pub map-on : (f g : ℕ → ℕ) (xs : List ℕ) → ((i : ℕ) → In i xs → f i ≡ g i) → map f xs ≡ map g xs
 map-on f g [] h = refl
 map-on f g (x ∷ xs) h = rw (h x (in-head x xs), map-on f g xs (λ i k. h i (in-tail i x xs k)))

@@ -10,12 +10,12 @@ use borrow.Author.Tests.{lt-ltb, le-ltb, ltb-true, ltb-false}
 use Rattle.circuit.specs.Lists.{range, concatMap}
 use Rattle.circuit.specs.Gadgets.{Part, r, R, B, m, M, u, U, v, V′, w, W, c, s, S, labels, above, others, sorted, inAND, inREF, index}
 use Rattle.circuit.specs.Kinds.{pairs}
-use Rattle.circuit.proofs.Base.{cases, ltb-other}
+use Rattle.circuit.proofs.Base.{cases, ltb-other, concatMap-append}
 use Rattle.circuit.proofs.Numbered.{at-all}
 use Rattle.circuit.proofs.Parts.{index-at, Pair, other, InAND, is-r, is-R, and-has, InREF, fresh, ref-has, cell1, cell2, cell3}
 use Rattle.circuit.proofs.Sizes.{pairs-twice, labels-map}
 use Rattle.gadgets.specs.Internal.Places.{rowStart, pairSite, slotOf, crossStart}
-use Rattle.gadgets.proofs.Ranges.{above-is, others-is, Lies, lies-at, lies-append, lies-each, concatMap-append}
+use Rattle.gadgets.proofs.Ranges.{above-is, others-is, Lies, lies-at, lies-append, lies-each}
 
 -- the first pair of the next row, and the number of all pairs
 pub row-next : (d i : ℕ) → i < d → rowStart d i + (d - suc i) ≡ rowStart d (suc i)

@@ -1,5 +1,5 @@
 //! Random cases through the reference and the proved code: answers and every byte of every buffer. Each text that is written
-//! is read back, and each count is added up.
+//! is read back, each count is added up, and each latency is held to where INs and OUTs stand.
 use masked_tests::calls::{Answer, Calls, NAMES};
 use masked_tests::generate::case::{case, Case};
 use masked_tests::generate::counting::Counting;
@@ -8,6 +8,7 @@ use masked_tests::laws::{bytes_hex, hex, read_back, Counted};
 use masked_tests::options;
 use masked_tests::reference::write::frames;
 use masked_tests::reference::Reference;
+use masked_tests::spans::Spans;
 use std::process::exit;
 
 const CALLS: usize = NAMES.len();
@@ -161,10 +162,7 @@ struct Shapes {
 }
 
 impl Shapes {
-    fn note(&mut self, table: &[u16], answer: Answer) {
-        if answer.result != 0 {
-            return;
-        }
+    fn note(&mut self, table: &[u16], answer: &Answer) {
         self.by_shares[usize::from(table[1])] += 1;
         self.most_words = self.most_words.max(table.len());
         self.most_wires = self.most_wires.max(answer.numbers[0]);
@@ -202,12 +200,13 @@ fn other(_: Option<String>) -> (Box<dyn Calls>, &'static str) {
 struct Tally {
     met: [[u64; RULES]; CALLS],
     shapes: Shapes,
+    spans: Spans,
     read_back: u64,
     counted: Counted,
 }
 
 impl Tally {
-    /// Makes every call of a case on both sides, reads back what was written, and adds up what was counted.
+    /// Makes every call of a case on both sides, and tries what holds of accepted calls by itself.
     fn take(&mut self, other: &dyn Calls, case: &Case, random: &mut Random) -> Result<(), String> {
         let junk = Buffers::junk(random, case);
         let done = (0..CALLS)
@@ -222,7 +221,11 @@ impl Tally {
         if answer.result == 0 {
             self.counted.take(&case.counting, answer, &buffers.counts[GUARD..])?;
         }
-        self.shapes.note(&case.table, done[0].0);
+        let (answer, buffers) = &done[0];
+        if answer.result == 0 {
+            self.shapes.note(&case.table, answer);
+            self.spans.take(&case.table, &buffers.notes[GUARD..], answer.numbers[2])?;
+        }
         for (met, (answer, _)) in self.met.iter_mut().zip(&done) {
             met[answer.result as usize] += 1;
         }
@@ -250,11 +253,11 @@ fn main() {
         }
     }
     tally.shapes.print();
-    let missing = print_rules(&tally.met);
+    let missing = print_rules(&tally.met) + tally.spans.print();
     println!("texts written and read back: {}", tally.read_back);
     tally.counted.print();
     if missing > 0 && count > 1000 {
-        println!("compare: {missing} rules were never met by a call that has them");
+        println!("compare: {missing} rules or circuits for the latency were never met");
     }
     println!("compare: {} passed, {failed} failed", count - failed);
     if failed > 0 || (missing > 0 && count > 1000) {

@@ -1,6 +1,6 @@
 //! Counts all sharings and tapes of small circuits: equal for accepted ones, not for broken ones.
 use masked_tests::builder::Builder;
-use masked_tests::generate::circuit::{circuit, Shape};
+use masked_tests::generate::circuit::{circuit, Inputs, Shape};
 use masked_tests::generate::probes::probe_sets;
 use masked_tests::generate::random::Random;
 use masked_tests::options;
@@ -109,6 +109,7 @@ fn accepted(tally: &mut Tally, random: &mut Random, count: usize) {
             d: random.pick(&[2, 2, 2, 3, 3, 3, 4, 5, 6]),
             frames: random.within(4, 30),
             first_stage: random.below(2),
+            inputs: Inputs::Beside,
             most_free_bits: 12,
         };
         let builder = circuit(random, shape);
@@ -138,6 +139,7 @@ fn joined_at_random(tally: &mut Tally, random: &mut Random, count: usize) {
             d: random.within(2, 3),
             frames: random.within(4, 16),
             first_stage: 0,
+            inputs: Inputs::Beside,
             most_free_bits: 10,
         };
         let mut builder = circuit(random, shape);

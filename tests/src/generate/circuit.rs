@@ -60,13 +60,25 @@ impl Pool {
     }
 }
 
+/// Where the INs stand, so that the latency is met in all its cases.
+#[derive(Clone, Copy)]
+pub enum Inputs {
+    /// At the CONs' stages.
+    Beside,
+    /// So many stages later, with rows of CONs in between.
+    Later(usize),
+    /// Nowhere: rows of CONs in their place.
+    None,
+}
+
 /// What shapes a random circuit.
 #[derive(Clone, Copy)]
 pub struct Shape {
     pub d: usize,
     pub frames: usize,
-    /// INs and CONs stand at this stage or up to two later.
+    /// CONs stand at this stage or up to two later.
     pub first_stage: usize,
+    pub inputs: Inputs,
     /// Most of shares and random bits together.
     pub most_free_bits: usize,
 }
@@ -75,10 +87,16 @@ impl Shape {
     pub fn random(random: &mut Random, most_frames: usize) -> Shape {
         let first_stage =
             if random.once_in(6) { random.within(248, LAST_STAGE) } else { random.below(4) };
+        let inputs = match random.below(16) {
+            0 => Inputs::None,
+            1 | 2 => Inputs::Later(random.within(1, 12)),
+            _ => Inputs::Beside,
+        };
         Shape {
             d: random.within(2, 8),
             frames: random.below(most_frames + 1),
             first_stage,
+            inputs,
             most_free_bits: usize::MAX,
         }
     }
@@ -110,7 +128,7 @@ fn step(random: &mut Random, shape: Shape, builder: &mut Builder, pool: &Pool) -
     }
     let stage = (shape.first_stage + random.below(3)).min(LAST_STAGE);
     match kind {
-        1 => builder.input(stage),
+        1 => input(random, shape.inputs, builder, stage),
         2 => {
             let (label, value) = (random.below(shape.d), random.below(2) as u16);
             vec![builder.constant(label, value, stage)]
@@ -118,6 +136,19 @@ fn step(random: &mut Random, shape: Shape, builder: &mut Builder, pool: &Pool) -
         3..=5 => gate(random, kind, builder, pool),
         6 | 7 => gadget(random, kind, builder, pool),
         _ => end(random, builder, pool),
+    }
+}
+
+/// IN, or a row of CONs.
+fn input(random: &mut Random, inputs: Inputs, builder: &mut Builder, stage: usize) -> Vec<u16> {
+    match inputs {
+        Inputs::Beside => builder.input(stage),
+        Inputs::Later(clocks) if random.once_in(2) => {
+            builder.input((stage + clocks).min(LAST_STAGE))
+        }
+        _ => (0..builder.d)
+            .map(|label| builder.constant(label, random.below(2) as u16, stage))
+            .collect(),
     }
 }
 

@@ -1,6 +1,6 @@
 //! What a count is given: circuits whose pairs are soon gone through, and now and then one with as many as are counted.
 use super::case::{bits, lines, probes, sheet, spoiled};
-use super::circuit::{circuit, Shape};
+use super::circuit::{circuit, Inputs, Shape};
 use super::damage::noise;
 use super::random::Random;
 use crate::reference::check::{walk, Rules};
@@ -61,6 +61,7 @@ fn small(random: &mut Random, least: usize, most: usize) -> Vec<Vec<u16>> {
     let shape = Shape {
         d: random.pick(&[2, 2, 2, 2, 3, 3, 3, 4, 4, 5, 6, 7, 8]),
         most_free_bits: random.within(least, most),
+        inputs: Inputs::Beside,
         ..Shape::random(random, 40)
     };
     let builder = circuit(random, shape);

@@ -82,7 +82,27 @@ fn b_c_and_d() {
     assert_eq!(judge("0000 0002\n0001 00FF\n0005 0000\n"), "refused 13 frame 2 word 0");
     assert_eq!(judge("0000 0002\n0001 00FE\n0005 0000\n"), "accepted wires 3 random 0 latency 0");
     let d = "0000 0002\n0001 0003\n0008 0000 0001\n";
-    assert_eq!(judge(d), "accepted wires 2 random 0 latency 3");
+    assert_eq!(judge(d), "accepted wires 2 random 0 latency 0");
+}
+
+#[test]
+fn latency_from_the_first_input() {
+    let row = |stage| format!("0002 0000 0000 {stage}\n0002 0001 0000 {stage}\n");
+    let latency = |frames: String| {
+        let line = judge(&format!("0000 0002\n{frames}"));
+        line.rsplit(' ').next().expect("a line has words").to_string()
+    };
+    let out = "0008 0000 0001\n";
+    assert_eq!(latency("0001 0005\n".to_string()), "0", "no OUT");
+    assert_eq!(latency(row("0004") + out), "0", "no IN");
+    assert_eq!(latency(row("0004") + out + "0001 0005\n"), "0", "OUT below IN");
+    assert_eq!(latency(row("0004") + out + "0001 0003\n"), "1", "the IN after the OUT");
+    assert_eq!(latency(format!("0001 0007\n0001 0002\n0001 0009\n{out}")), "5", "the lowest IN");
+    assert_eq!(
+        latency(format!("0001 0001\n0001 0003\n0008 0002 0003\n{out}")),
+        "2",
+        "the highest OUT"
+    );
 }
 
 #[test]

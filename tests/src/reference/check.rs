@@ -80,6 +80,7 @@ pub fn walk(table: &[u16], rules: Rules) -> (Circuit, Option<Refusal>) {
         if let Err((rule, word)) = take_frame(&mut circuit, &rest[..length], rules) {
             return (circuit, Some(Refusal::new(rule, frame, word)));
         }
+        circuit.frames.push(rest[..length].to_vec());
         rest = &rest[length..];
         frame += 1;
     }
@@ -239,17 +240,15 @@ fn take_ref(circuit: &mut Circuit, words: &[u16]) -> Result<(), Fault> {
 }
 
 /// OUT: a row of registered wires, rule 22 behind each word's others.
-fn take_out(circuit: &mut Circuit, words: &[u16]) -> Result<(), Fault> {
-    let (mut wanted, mut latency) = (None, circuit.latency);
+fn take_out(circuit: &Circuit, words: &[u16]) -> Result<(), Fault> {
+    let mut wanted = None;
     for label in 0..circuit.d {
         let place = row_wire(circuit, words, 1 + label, label, wanted)?;
         if !place.registered {
             return Err((22, 1 + label));
         }
         wanted = Some(place.stage as i64);
-        latency = latency.max(place.stage);
     }
-    circuit.latency = latency;
     Ok(())
 }
 

@@ -52,19 +52,36 @@ pub struct Circuit {
     /// Number of IN frames.
     pub inputs: usize,
     pub randoms: usize,
-    pub latency: usize,
     pub wires: Vec<Wire>,
     /// How many wires there were before each frame, HEAD first.
     pub starts: Vec<usize>,
+    /// The words of each frame behind HEAD.
+    pub frames: Vec<Vec<u16>>,
 }
 
 impl Circuit {
     pub fn new(d: usize) -> Circuit {
-        Circuit { d, inputs: 0, randoms: 0, latency: 0, wires: Vec::new(), starts: vec![0] }
+        Circuit { d, inputs: 0, randoms: 0, wires: Vec::new(), starts: vec![0], frames: Vec::new() }
     }
 
     pub fn counts(&self) -> Counts {
-        Counts { wires: self.wires.len(), randoms: self.randoms, latency: self.latency }
+        Counts { wires: self.wires.len(), randoms: self.randoms, latency: self.latency() }
+    }
+
+    /// From the first input to the last output, over all frames: 0 where there is no such way.
+    fn latency(&self) -> usize {
+        let of_kind = |kind: u16| self.frames.iter().filter(move |words| words[0] == kind);
+        let first_input = of_kind(1).map(|words| usize::from(words[1])).min();
+        let last_output = of_kind(8).filter_map(|words| self.stage(words[1])).max();
+        match (first_input, last_output) {
+            (Some(from), Some(to)) if from < to => to - from,
+            _ => 0,
+        }
+    }
+
+    /// The stage of a wire that frames may name.
+    fn stage(&self, wire: u16) -> Option<usize> {
+        self.wires[usize::from(wire)].place.map(|place| place.stage)
     }
 }
 

@@ -11,6 +11,8 @@ struct Pass<'a> {
     pairs: usize,
     wires: usize,
     randoms: usize,
+    /// The lowest stage of an IN.
+    lowest: u16,
 }
 
 /// Rule and word inside a frame.
@@ -30,9 +32,10 @@ pub fn check(table: &[u16], notes: &mut [u16]) -> Result<Found, Refused> {
     if d.wrapping_sub(2) > 6 {
         return Err((4, 0, 1));
     }
-    let mut pass = Pass { notes, d, pairs: d * (d - 1) / 2, wires: 0, randoms: 0 };
+    let mut pass =
+        Pass { notes, d, pairs: d * (d - 1) / 2, wires: 0, randoms: 0, lowest: u16::MAX };
     let sizes = Sizes::new(d);
-    let (mut inputs, mut latency, mut frame) = (0, 0, 1);
+    let (mut inputs, mut highest, mut frame) = (0, 0, 1);
     let mut rest = &table[2..];
     while let [kind, ..] = *rest {
         let length = match sizes.words.get(usize::from(kind)) {
@@ -44,15 +47,16 @@ pub fn check(table: &[u16], notes: &mut [u16]) -> Result<Found, Refused> {
         };
         let made = usize::from(sizes.wires[usize::from(kind)]);
         match pass.frame(kind, words, made) {
-            Ok(stage) if kind == 8 => latency = stage.max(latency),
+            Ok(stage) if kind == 8 => highest = stage.max(highest),
             Ok(_) => inputs += usize::from(kind == 1),
             Err((rule, word)) => return Err((rule, frame, word)),
         }
         rest = after;
         frame += 1;
     }
-    let Pass { wires, randoms, .. } = pass;
-    Ok(Found { d, inputs, randoms, wires, latency: usize::from(latency) })
+    let Pass { wires, randoms, lowest, .. } = pass;
+    let latency = usize::from(highest.saturating_sub(lowest));
+    Ok(Found { d, inputs, randoms, wires, latency })
 }
 
 impl Pass<'_> {
@@ -161,6 +165,7 @@ impl Pass<'_> {
         }
         self.room(stage, self.d)?;
         self.open_row(stage, REGISTERED);
+        self.lowest = stage.min(self.lowest);
         Ok(0)
     }
 

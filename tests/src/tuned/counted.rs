@@ -9,7 +9,7 @@ use std::collections::BTreeSet;
 #[test]
 fn random_counts() {
     let mut met = BTreeSet::new();
-    for case in 0..4000 {
+    for case in 0..12_000 {
         let mut random = Random::of_case(3, case);
         let Counting { table, secrets, probes, counts } = counting(&mut random);
         let junk = (random.words(16384), random.numbers(counts));

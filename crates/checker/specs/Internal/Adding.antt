@@ -1,15 +1,16 @@
 -- A frame judged by its words, then by rules 13 and 14, and added to the circuit so far.
 use mathlib.Core.Path.{_≡_}
 use mathlib.Core.Bool.{Bool, true, false, cond, _&&_}
-use mathlib.Core.List.{List, [], _∷_}
-use Prim.Native.Nat.{ℕ, zero, suc, _+_, _*_, _-_, _≤_}
+use mathlib.Core.List.{List, [], _∷_, foldr}
+use Prim.Native.Nat.{ℕ, zero, suc, _+_, _*_, _-_, _≤_, min, max}
 use lib.Dec.{leb, ltb, eqb}
 use lib.ListN.{length, take, drop}
 use lib.Seq.{sets}
 use Rattle.circuit.specs.Limits.{tableLimit, notesRoom, fewestShares, mostShares, stageLimit, wireLimit}
 use Rattle.circuit.specs.Lists.{nth}
-use Rattle.circuit.specs.Kinds.{Kind, HEAD, words}
-use Rattle.circuit.specs.Circuit.{Circuit, size}
+use Rattle.circuit.specs.Kinds.{Kind, HEAD, IN, OUT, words}
+use Rattle.circuit.specs.Circuit.{Circuit, size, Staged}
+use Rattle.circuit.specs.Latency.{stagesOf}
 use Rattle.frames.specs.declared.kinds.Form.{Form}
 use Rattle.frames.specs.declared.kinds.Form.the-variants.{ShareCount, Stage, Constant, Sum, Copy, Product, Refresh, Row}
 use Rattle.frames.specs.declared.kinds.Shape.{Shape as ShapeCode}
@@ -17,6 +18,7 @@ use Rattle.frames.specs.Walk.{shapeCode}
 use Rattle.checker.specs.declared.notes.Found.{Found}
 use Rattle.checker.specs.declared.notes.Made.{Made}
 use Rattle.checker.specs.declared.forms.Spot.{Spot}
+use Rattle.checker.specs.declared.span.Span.{Span}
 use Rattle.checker.specs.declared.frame.Tally.{Tally}
 use Rattle.checker.specs.declared.frame.Added.{Added}
 use Rattle.checker.specs.declared.frame.Added.the-variants.{Next, Refused}
@@ -111,13 +113,30 @@ pub record Judges (words : Spot) (m : Made) (wires : ℕ) (old new : List ℕ) (
   pub spot-is : r ≡ (words andThen limitBroken m wires)
   pub notes-are : new ≡ notesWith (r .rule) m wires old
 
+-- the stages that the code keeps for the latency: at first, and with an IN or an OUT at a stage more
+abbrev pub noSpan : Span
+noSpan = record { lowest = suc stageLimit; highest = 0 }
+
+abbrev pub withInput : Span → ℕ → Span
+withInput s t = record { lowest = min (s .lowest) t; highest = s .highest }
+
+abbrev pub withOutput : Span → ℕ → Span
+withOutput s t = record { lowest = s .lowest; highest = max (s .highest) t }
+
+-- those of a circuit's frames, and the latency from them
+abbrev pub spanOf : List Staged → Span
+spanOf frames = record { lowest = foldr min (suc stageLimit) (stagesOf IN frames); highest = foldr max 0 (stagesOf OUT frames) }
+
+abbrev pub latencyIn : Span → ℕ
+latencyIn s = s .highest - s .lowest
+
 -- the circuit so far as the code counts it
 abbrev pub tallyOf : (frames : ℕ) → Circuit → Tally
-tallyOf f k = record { frames = f; wires = size k; randoms = k .randoms; latency = k .latency; inputs = k .inputs }
+tallyOf f k = record { frames = f; wires = size k; randoms = k .randoms; span = spanOf (k .frames); inputs = k .inputs }
 
 -- the counts of HEAD by itself
 abbrev pub headAlone : Tally
-headAlone = record { frames = 1; wires = 0; randoms = 0; latency = 0; inputs = 0 }
+headAlone = record { frames = 1; wires = 0; randoms = 0; span = noSpan; inputs = 0 }
 
 -- what a frame adds to the counts: wires, random bits, INs
 pub record Numbers : Type 0 where
@@ -131,18 +150,18 @@ numbers w r i = record { wires = w; randoms = r; inputs = i }
 abbrev pub numbersOf : ShapeCode → Numbers
 numbersOf sh = numbers (sh .wires) (sh .randoms) (sh .inputs)
 
-abbrev pub withFrame : Tally → Numbers → (latency : ℕ) → Tally
-withFrame tally n latency = record {
+abbrev pub withFrame : Tally → Numbers → Span → Tally
+withFrame tally n span = record {
   frames = tally .frames + 1;
   wires = tally .wires + n .wires;
   randoms = tally .randoms + n .randoms;
-  latency = latency;
+  span = span;
   inputs = tally .inputs + n .inputs;
 }
 
-abbrev pub addedBy : (rule word : ℕ) → Tally → Numbers → (latency : ℕ) → Added
-addedBy zero word tally n latency = Next (withFrame tally n latency)
-addedBy (suc rule) word tally n latency = Refused (spot (suc rule) word)
+abbrev pub addedBy : (rule word : ℕ) → Tally → Numbers → Span → Added
+addedBy zero word tally n span = Next (withFrame tally n span)
+addedBy (suc rule) word tally n span = Refused (spot (suc rule) word)
 
 -- counts to which a frame may be added, and counts that the frame leaves within bounds
 pub record Bounded (tally : Tally) (notes : List ℕ) : Type 0 where
@@ -167,19 +186,16 @@ pub record FrameOf (sh : ShapeCode) (d : ℕ) (ops : List ℕ) : Type 0 where
   pub least : fewestShares ≤ d
   pub most : d ≤ mostShares
 
--- the latency after a form at a stage
-abbrev pub larger : ℕ → ℕ → ℕ
-larger a b = cond (ltb a b) b a
-
-abbrev pub latencyIn : Form → (latency stage : ℕ) → ℕ
-latencyIn ShareCount latency t = latency
-latencyIn Stage latency t = latency
-latencyIn Constant latency t = latency
-latencyIn Sum latency t = latency
-latencyIn (Copy after) latency t = latency
-latencyIn Product latency t = latency
-latencyIn Refresh latency t = latency
-latencyIn Row latency t = larger latency t
+-- the stages kept for the latency, with a form at a stage
+abbrev pub spanIn : Form → Span → (stage : ℕ) → Span
+spanIn ShareCount span t = span
+spanIn Stage span t = withInput span t
+spanIn Constant span t = span
+spanIn Sum span t = span
+spanIn (Copy after) span t = span
+spanIn Product span t = span
+spanIn Refresh span t = span
+spanIn Row span t = withOutput span t
 
 -- a frame added, or refused at a spot; its wires are in the notes where it is added
 module _ (tally : Tally) (sh : ShapeCode) (d : ℕ) (ops old : List ℕ) where
@@ -190,7 +206,7 @@ module _ (tally : Tally) (sh : ShapeCode) (d : ℕ) (ops old : List ℕ) where
   broken = brokenIn d (tally .randoms) (noted old (tally .wires)) ops (sh .form) andThen limitBroken madeNew (tally .wires)
 
   pub record Adds (new : List ℕ) (r : Added) : Type 0 where
-    pub added-is : r ≡ addedBy (broken .rule) (broken .word) tally (numbersOf sh) (latencyIn (sh .form) (tally .latency) (madeNew .stage))
+    pub added-is : r ≡ addedBy (broken .rule) (broken .word) tally (numbersOf sh) (spanIn (sh .form) (tally .span) (madeNew .stage))
     pub notes-are : new ≡ notesWith (broken .rule) madeNew (tally .wires) old
 
 -- the number of the first of rules 1 to 4 that is broken, 0 for none

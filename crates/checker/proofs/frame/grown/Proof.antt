@@ -2,6 +2,7 @@
 use mathlib.Core.Path.{_≡_, refl}
 use Prim.Native.Nat.{ℕ, zero, suc}
 use native.Mathlib.Omega.{arith}
+use Rattle.checker.specs.declared.span.Span.{Span}
 use Rattle.checker.specs.declared.frame.Tally.{Tally}
 use Rattle.checker.specs.declared.frame.Added.the-variants.{Refused}
 use Rattle.checker.specs.Internal.Adding.{spot, Numbers, numbers, Fitting, addedBy}
@@ -11,9 +12,9 @@ use Rattle.checker.proofs.frame.grown.Tie as tie
 fits : (c : tie.Then1) → let a = c .before .before .args in Fitting (a .tally) (numbers (a .wires) (a .randoms) (a .inputs))
 fits c = c .before .before .pre (c .if1 .taken)
 
-refuses : (rule word : ℕ) (tally : Tally) (n : Numbers) (latency : ℕ) → (rule ≡ 0 → ⊥) → Refused (spot rule word) ≡ addedBy rule word tally n latency
-refuses zero word tally n latency h = absurd (h refl)
-refuses (suc rule) word tally n latency h = refl
+refuses : (rule word : ℕ) (tally : Tally) (n : Numbers) (span : Span) → (rule ≡ 0 → ⊥) → Refused (spot rule word) ≡ addedBy rule word tally n span
+refuses zero word tally n span h = absurd (h refl)
+refuses (suc rule) word tally n span h = refl
 
 pub grown-spec : {M : Type 1} → statement M
 grown-spec =
@@ -24,4 +25,4 @@ grown-spec =
     (λ c. record { fits = omega (arith, fits (c .before .before .before) .randoms) })
     (λ c. record { fits = omega (arith, fits (c .before .before .before .before) .inputs) })
     (λ c. rw (c .before .before .before .before .if1 .taken))
-    (λ c. let a = c .before .before .args in refuses (a .broken .rule) (a .broken .word) (a .tally) (numbers (a .wires) (a .randoms) (a .inputs)) (a .latency) (c .if1 .left)))
+    (λ c. let a = c .before .before .args in refuses (a .broken .rule) (a .broken .word) (a .tally) (numbers (a .wires) (a .randoms) (a .inputs)) (a .span) (c .if1 .left)))
