@@ -29,7 +29,7 @@ highest-behind : (xs ys : List ℕ) → foldr max 0 (xs ++ ys) ≡ max (foldr ma
 highest-behind [] ys = omega arith
 highest-behind (x ∷ xs) ys = omega (arith, highest-behind xs ys)
 
-abbrev span : (lowest highest : ℕ) → Span
+abbrev pub span : (lowest highest : ℕ) → Span
 span a b = record { lowest = a; highest = b }
 
 -- of one list of frames behind another

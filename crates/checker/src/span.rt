@@ -1,7 +1,7 @@
 // The stages that the latency is taken from.
 ghost use mathlib.Core.Path.{_≡_};
 ghost use Rattle.checker.specs.Internal.Adding.{noSpan, withInput, withOutput, latencyIn};
-use super::numbers;
+use super::numbers::less;
 
 // The lowest stage of an IN, one past the last stage where there is none; the highest stage of an OUT, 0 where there is none.
 pub struct Span {
@@ -24,9 +24,14 @@ impl Span {
     pub(crate) fn with_input(self, stage: u16) -> Span
         ensures { λ r. ⌜ r ≡ withInput self stage ⌝ }
     {
-        Span {
-            lowest: numbers::smaller(self.lowest, stage as usize),
-            highest: self.highest,
+        let lowest = stage as usize;
+        if lowest < self.lowest {
+            Span {
+                lowest,
+                highest: self.highest,
+            }
+        } else {
+            self
         }
     }
 
@@ -34,16 +39,20 @@ impl Span {
     pub(crate) fn with_output(self, stage: usize) -> Span
         ensures { λ r. ⌜ r ≡ withOutput self stage ⌝ }
     {
-        Span {
-            lowest: self.lowest,
-            highest: numbers::larger(self.highest, stage),
+        if self.highest < stage {
+            Span {
+                lowest: self.lowest,
+                highest: stage,
+            }
+        } else {
+            self
         }
     }
 
-    // The latency of all frames, taken once they are all known: an IN may come after an OUT.
+    // The latency of all frames, taken once they are all known, since an IN may come after an OUT.
     pub(crate) fn latency(self) -> usize
         ensures { λ r. ⌜ r ≡ latencyIn self ⌝ }
     {
-        numbers::less(self.highest, self.lowest)
+        less(self.highest, self.lowest)
     }
 }

@@ -1,4 +1,5 @@
--- Document 01, "Circuits to hold against it": the cases marked *, as document 02 changes them, and cases of rule 22, as one table.
+-- Document 01, "Circuits to hold against it": the cases marked *, as document 02 changes them, and cases of rule 22 and of the latency, as
+-- one table.
 use mathlib.Core.Path.{_≡_}
 use mathlib.Core.List.{List, [], _∷_, _++_}
 use Prim.Native.Nat.{ℕ}
@@ -48,7 +49,11 @@ sharesA = 1 ∷ 0 ∷ 1 ∷ 1 ∷ []
 abbrev tapeA : List ℕ
 tapeA = 1 ∷ []
 
--- the starred cases; and, of OUT, rule 22 and the rules before it
+-- two CONs at a stage, then OUT of them
+abbrev constants : ℕ → List ℕ
+constants t = 0 ∷ 2 ∷ 2 ∷ 0 ∷ 0 ∷ t ∷ 2 ∷ 1 ∷ 0 ∷ t ∷ 8 ∷ 0 ∷ 1 ∷ []
+
+-- the starred cases; of OUT, rule 22 and the rules before it; and the latency, by where INs and OUTs stand
 unfoldable pub cases : List Case
 cases = evaluates A sharesA tapeA ((1 ∷ 0 ∷ 1 ∷ 1 ∷ []) ++ (1 ∷ 1 ∷ []) ++ (1 ∷ 1 ∷ 1 ∷ 1 ∷ 0 ∷ 0 ∷ []) ++ (0 ∷ 0 ∷ 0 ∷ 0 ∷ 0 ∷ 0 ∷ []) ++ (1 ∷ 1 ∷ 0 ∷ 0 ∷ 0 ∷ 0 ∷ []) ++ (1 ∷ 1 ∷ []) ++ (1 ∷ 1 ∷ []))  -- A1
     ∷ reads A sharesA tapeA (24 ∷ []) (replicate 8 2 ++ (1 ∷ []) ++ replicate 4 2 ++ (0 ∷ []) ++ replicate 3 2 ++ (0 ∷ []) ++ replicate 8174 2)  -- A2
@@ -70,4 +75,8 @@ cases = evaluates A sharesA tapeA ((1 ∷ 0 ∷ 1 ∷ 1 ∷ []) ++ (1 ∷ 1 ∷ 
     ∷ judged (0 ∷ 2 ∷ 1 ∷ 0xFF ∷ 5 ∷ 0 ∷ []) (refused 13 2 0)  -- C
     ∷ judged (0 ∷ 2 ∷ 1 ∷ 0xFE ∷ 5 ∷ 0 ∷ []) (accepted 3 0 0)
     ∷ judged (0 ∷ 2 ∷ 1 ∷ 0 ∷ 7 ∷ 0 ∷ 0 ∷ 1 ∷ 8 ∷ 5 ∷ 6 ∷ []) (accepted 7 1 1)  -- a REF's outputs
+    ∷ judged (0 ∷ 2 ∷ 1 ∷ 3 ∷ 8 ∷ 0 ∷ 1 ∷ []) (accepted 2 0 0)  -- D
+    ∷ judged (constants 4) (accepted 2 0 0)  -- no IN
+    ∷ judged (constants 4 ++ (1 ∷ 5 ∷ [])) (accepted 4 0 0)  -- an OUT below the IN
+    ∷ judged (constants 4 ++ (1 ∷ 1 ∷ [])) (accepted 4 0 3)  -- the IN after the OUT
     ∷ []

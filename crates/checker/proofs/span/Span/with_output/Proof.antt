@@ -1,7 +1,13 @@
 -- `checker::span::Span::with_output` meets its contract.
-use borrow.Author.Needs.{needs}
+use mathlib.Core.Path.{ap}
+use native.Mathlib.Omega.{arith}
+use Rattle.checker.proofs.Spanning.{span}
 use Rattle.checker.proofs.span.Span.with_output.Statement.{statement}
 use Rattle.checker.proofs.span.Span.with_output.Tie as tie
 
 pub with-output-spec : {M : Type 1} → statement M
-with-output-spec = tie.close (tie.spec (λ c κs. search needs) (λ c. rw (c .larger .ensures)))
+with-output-spec =
+    tie.close
+    (tie.spec
+    (λ c. ap (span (c .before .before .args .self .lowest)) (omega (arith, c .if1 .taken)))
+    (λ c. ap (span (c .before .before .args .self .lowest)) (omega (arith, c .if1 .left))))
