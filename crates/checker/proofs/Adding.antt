@@ -19,7 +19,8 @@ use Rattle.checker.specs.declared.span.Span.{Span}
 use Rattle.checker.specs.declared.frame.Tally.{Tally}
 use Rattle.checker.specs.declared.frame.Added.{Added}
 use Rattle.checker.specs.Internal.Notes.{noted, innerWords, namedWords}
-use Rattle.checker.specs.Internal.Adding.{none, orElse, _andThen_, brokenIn, wiresAt, madeIn, limitBroken, notesWith, Judges, numbersOf, addedBy, Bounded, Fitting, FrameOf, spanIn, Adds}
+use Rattle.checker.specs.Internal.Spans.{spanIn}
+use Rattle.checker.specs.Internal.Adding.{none, orElse, _andThen_, brokenIn, wiresAt, madeIn, limitBroken, notesWith, Judges, numbersOf, addedBy, Bounded, Fitting, FrameOf, Adds}
 use Rattle.checker.proofs.MadeNotes.{wordCount, numbersIn, Counts, counts}
 
 -- no rule is broken only where the new wires fit

@@ -25,7 +25,8 @@ use Rattle.frames.specs.declared.walk.Step.the-variants.{End, Next, Refused as 
 use Rattle.checker.specs.declared.frame.Tally.{Tally}
 use Rattle.checker.specs.Answers.{answerOf}
 use Rattle.frames.specs.Walk.{shapeCode, behind, stepAt}
-use Rattle.checker.specs.Internal.Adding.{spanOf, headAlone, tallyOf, headNumber}
+use Rattle.checker.specs.Internal.Spans.{spanOf}
+use Rattle.checker.specs.Internal.Adding.{headAlone, tallyOf, headNumber}
 use Rattle.checker.proofs.Spots.{judged, judged-refuse}
 use Rattle.checker.proofs.Represented.{Labelled}
 

@@ -24,7 +24,8 @@ use Rattle.checker.specs.declared.frame.Tally.{Tally}
 use Rattle.checker.specs.declared.frame.Added.{Added}
 use Rattle.checker.specs.declared.frame.Added.the-variants.{Next, Refused}
 use Rattle.checker.specs.Internal.Notes.{noted, foundOf, Represents, madeWords}
-use Rattle.checker.specs.Internal.Adding.{spot, none, _andThen_, brokenIn, madeIn, limitBroken, notesWith, tallyOf, numbersOf, withFrame, addedBy, spanOf, spanIn, madeNew, broken, Adds}
+use Rattle.checker.specs.Internal.Spans.{spanOf, spanIn}
+use Rattle.checker.specs.Internal.Adding.{spot, none, _andThen_, brokenIn, madeIn, limitBroken, notesWith, tallyOf, numbersOf, withFrame, addedBy, madeNew, broken, Adds}
 use Rattle.checker.proofs.Spots.{judged, judgedAt, judged-then}
 use Rattle.checker.proofs.Words.{words-are}
 use Rattle.checker.proofs.MadeNotes.{madeBy, counts, made-stage, made-words}

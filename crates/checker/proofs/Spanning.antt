@@ -1,5 +1,5 @@
 -- The stages kept for the latency: with each frame they are those of all frames so far, and at the end they give the latency.
-use mathlib.Core.Path.{_≡_, refl, sym, ap, ap₂, _∙_}
+use mathlib.Core.Path.{_≡_, sym, ap, ap₂, _∙_}
 use mathlib.Core.List.{List, [], _∷_, _++_, foldr}
 use Prim.Native.Nat.{ℕ, suc, _-_, _≤_, min, max}
 use native.Mathlib.Omega.{arith}
@@ -10,7 +10,7 @@ use Rattle.circuit.specs.Latency.{stagesOf, latencyOf, latency}
 use Rattle.circuit.proofs.Base.{concatMap-append}
 use Rattle.frames.specs.Walk.{formOf}
 use Rattle.checker.specs.declared.span.Span.{Span}
-use Rattle.checker.specs.Internal.Adding.{noSpan, spanOf, latencyIn, spanIn}
+use Rattle.checker.specs.Internal.Spans.{span, noSpan, spanOf, spanIn, latencyIn}
 
 -- the lowest of numbers, from a number on: no higher than it; of one list behind another; and as the lowest of its own numbers
 lowest-start : (n : ℕ) (xs : List ℕ) → foldr min n xs ≤ n
@@ -28,9 +28,6 @@ lowest-own n s (x ∷ xs) = omega (arith, lowest-own n s xs)
 highest-behind : (xs ys : List ℕ) → foldr max 0 (xs ++ ys) ≡ max (foldr max 0 xs) (foldr max 0 ys)
 highest-behind [] ys = omega arith
 highest-behind (x ∷ xs) ys = omega (arith, highest-behind xs ys)
-
-abbrev pub span : (lowest highest : ℕ) → Span
-span a b = record { lowest = a; highest = b }
 
 -- of one list of frames behind another
 abbrev both : Span → Span → Span

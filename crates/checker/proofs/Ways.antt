@@ -31,7 +31,8 @@ use Rattle.frames.specs.Walk.{shapeCode, operandsAt, stepAt}
 use Rattle.checker.specs.declared.notes.Found.{Found}
 use Rattle.checker.specs.declared.forms.Spot.{Spot}
 use Rattle.checker.specs.Internal.Notes.{Represents}
-use Rattle.checker.specs.Internal.Adding.{latencyIn, tallyOf, Bounded, FrameOf, Adds}
+use Rattle.checker.specs.Internal.Spans.{latencyIn}
+use Rattle.checker.specs.Internal.Adding.{tallyOf, Bounded, FrameOf, Adds}
 use Rattle.checker.proofs.MadeNotes.{counts}
 use Rattle.checker.proofs.Represented.{represents, notes-more, notes-same, label-step}
 use Rattle.checker.proofs.Spanning.{highest-next, latency-is}

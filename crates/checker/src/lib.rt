@@ -5,7 +5,8 @@ ghost use lib.ListN.{length};
 ghost use Rattle.circuit.specs.Rules.{checked};
 ghost use Rattle.checker.specs.Answers.{answerOf, inputsAre};
 ghost use Rattle.circuit.specs.Answer.{verdictOf, notesAfter};
-ghost use Rattle.checker.specs.Internal.Adding.{latencyIn, headNumber};
+ghost use Rattle.checker.specs.Internal.Spans.{latencyIn};
+ghost use Rattle.checker.specs.Internal.Adding.{headNumber};
 
 mod forms;
 mod frame;

@@ -1,6 +1,6 @@
 // The stages that the latency is taken from.
 ghost use mathlib.Core.Path.{_≡_};
-ghost use Rattle.checker.specs.Internal.Adding.{noSpan, withInput, withOutput, latencyIn};
+ghost use Rattle.checker.specs.Internal.Spans.{noSpan, withInput, withOutput, latencyIn};
 use super::numbers::less;
 
 // The lowest stage of an IN, one past the last stage where there is none; the highest stage of an OUT, 0 where there is none.

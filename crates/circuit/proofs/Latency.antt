@@ -1,6 +1,6 @@
 -- The latency by the frames of a circuit: 0 without an IN, without an OUT, and where the highest OUT stands below the lowest IN;
 -- otherwise the clocks from the one to the other.
-use mathlib.Core.Path.{_≡_, refl, ap, ap₂, subst}
+use mathlib.Core.Path.{_≡_, refl, ap, ap₂}
 use mathlib.Core.List.{List, [], _∷_, _++_, foldr}
 use mathlib.Core.Logic.{inl, inr}
 use Prim.Native.Nat.{ℕ, _+_, _-_, _≤_, _<_, min, max}

@@ -7,7 +7,7 @@ use Rattle.circuit.specs.Lists.{concatMap, overwrite}
 use Rattle.circuit.specs.Wires.{Wire}
 use Rattle.circuit.specs.Circuit.{Circuit, size, Lookup, found, hidden, shownBy}
 use Rattle.circuit.specs.Latency.{latency}
-use Rattle.circuit.specs.Rules.{Judgement, pass, refuse, Checked, checked}
+use Rattle.circuit.specs.Rules.{Judgement, pass, refuse, checked}
 
 -- accepted: the numbers of wires and random bits, and the latency; refused: the rule's number, the frame and the word
 pub data Answer : Type 0 where

@@ -6,7 +6,7 @@ use Rattle.circuit.specs.Gadgets.{labels}
 
 pub data Kind : Type 0 where
   HEAD IN CON XOR NOT REG AND REF OUT : Kind
-  deriving Discrete as sameKind
+  deriving Discrete as sameKind  -- whether two kinds are the same
 
 -- the kinds by number; a word past 8 is no kind, which rule 5 tests before this is asked
 unfoldable pub kindOf : ℕ → Kind

@@ -1,16 +1,15 @@
 -- A frame judged by its words, then by rules 13 and 14, and added to the circuit so far.
 use mathlib.Core.Path.{_≡_}
 use mathlib.Core.Bool.{Bool, true, false, cond, _&&_}
-use mathlib.Core.List.{List, [], _∷_, foldr}
-use Prim.Native.Nat.{ℕ, zero, suc, _+_, _*_, _-_, _≤_, min, max}
+use mathlib.Core.List.{List, [], _∷_}
+use Prim.Native.Nat.{ℕ, zero, suc, _+_, _*_, _-_, _≤_}
 use lib.Dec.{leb, ltb, eqb}
 use lib.ListN.{length, take, drop}
 use lib.Seq.{sets}
 use Rattle.circuit.specs.Limits.{tableLimit, notesRoom, fewestShares, mostShares, stageLimit, wireLimit}
 use Rattle.circuit.specs.Lists.{nth}
-use Rattle.circuit.specs.Kinds.{Kind, HEAD, IN, OUT, words}
-use Rattle.circuit.specs.Circuit.{Circuit, size, Staged}
-use Rattle.circuit.specs.Latency.{stagesOf}
+use Rattle.circuit.specs.Kinds.{Kind, HEAD, words}
+use Rattle.circuit.specs.Circuit.{Circuit, size}
 use Rattle.frames.specs.declared.kinds.Form.{Form}
 use Rattle.frames.specs.declared.kinds.Form.the-variants.{ShareCount, Stage, Constant, Sum, Copy, Product, Refresh, Row}
 use Rattle.frames.specs.declared.kinds.Shape.{Shape as ShapeCode}
@@ -23,6 +22,7 @@ use Rattle.checker.specs.declared.frame.Tally.{Tally}
 use Rattle.checker.specs.declared.frame.Added.{Added}
 use Rattle.checker.specs.declared.frame.Added.the-variants.{Next, Refused}
 use Rattle.checker.specs.Internal.Notes.{noted, labelFound, stageFound, wireNumber, madeWords}
+use Rattle.checker.specs.Internal.Spans.{noSpan, spanOf, spanIn}
 
 -- a rule's number, 0 for none, at a word; the first of two spots that names a rule
 abbrev pub spot : (rule word : ℕ) → Spot
@@ -113,23 +113,6 @@ pub record Judges (words : Spot) (m : Made) (wires : ℕ) (old new : List ℕ) (
   pub spot-is : r ≡ (words andThen limitBroken m wires)
   pub notes-are : new ≡ notesWith (r .rule) m wires old
 
--- the stages that the code keeps for the latency: at first, and with an IN or an OUT at a stage more
-abbrev pub noSpan : Span
-noSpan = record { lowest = suc stageLimit; highest = 0 }
-
-abbrev pub withInput : Span → ℕ → Span
-withInput s t = record { lowest = min (s .lowest) t; highest = s .highest }
-
-abbrev pub withOutput : Span → ℕ → Span
-withOutput s t = record { lowest = s .lowest; highest = max (s .highest) t }
-
--- those of a circuit's frames, and the latency from them
-abbrev pub spanOf : List Staged → Span
-spanOf frames = record { lowest = foldr min (suc stageLimit) (stagesOf IN frames); highest = foldr max 0 (stagesOf OUT frames) }
-
-abbrev pub latencyIn : Span → ℕ
-latencyIn s = s .highest - s .lowest
-
 -- the circuit so far as the code counts it
 abbrev pub tallyOf : (frames : ℕ) → Circuit → Tally
 tallyOf f k = record { frames = f; wires = size k; randoms = k .randoms; span = spanOf (k .frames); inputs = k .inputs }
@@ -185,17 +168,6 @@ pub record FrameOf (sh : ShapeCode) (d : ℕ) (ops : List ℕ) : Type 0 where
   pub shape-is : sh ≡ shapeCode d kind
   pub least : fewestShares ≤ d
   pub most : d ≤ mostShares
-
--- the stages kept for the latency, with a form at a stage
-abbrev pub spanIn : Form → Span → (stage : ℕ) → Span
-spanIn ShareCount span t = span
-spanIn Stage span t = withInput span t
-spanIn Constant span t = span
-spanIn Sum span t = span
-spanIn (Copy after) span t = span
-spanIn Product span t = span
-spanIn Refresh span t = span
-spanIn Row span t = withOutput span t
 
 -- a frame added, or refused at a spot; its wires are in the notes where it is added
 module _ (tally : Tally) (sh : ShapeCode) (d : ℕ) (ops old : List ℕ) where

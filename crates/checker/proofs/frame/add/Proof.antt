@@ -12,6 +12,10 @@ use Rattle.checker.proofs.Adding.{nothing-made, asked, fits, adds}
 use Rattle.checker.proofs.frame.add.Statement.{statement}
 use Rattle.checker.proofs.frame.add.Tie as tie
 
+-- from behind the first reads, where the arms part, back to the start
+abbrev start : tie.After-span → tie.Start
+start c = c .before .before .before
+
 -- the wires of a gadget and the spot of a row, as the code has them
 module _ (s : tie.Start) where
   abbrev look : ℕ → Found
@@ -30,57 +34,57 @@ add-spec =
     tie.close
     (tie.spec
     (λ c. search needs)
-    (λ c κs. fits (c .before .before .before .before .before .pre .1) (c .enum-told .given .1) (nothing-made _ _ (c .before .before .before .before .before .pre .0 .wires)) refl refl (c .before .before .before .before .before .pre .0))
+    (λ c κs. fits (start (c .before .before) .pre .1) (c .enum-told .given .1) (nothing-made _ _ (start (c .before .before) .pre .0 .wires)) refl refl (start (c .before .before) .pre .0))
     (λ c. search needs)
-    (λ c. omega (arith, asked (c .before .before .before .before .before .before .pre .1) (c .before .enum-told2 .given .1)))
+    (λ c. omega (arith, asked (start (c .before .before .before) .pre .1) (c .before .enum-told2 .given .1)))
     (λ c κs. search needs)
     (λ c κs. search needs)
-    (λ c κs. let p = c .before .before .before in let s = p .before .before .before .before .before .before .before .before in fits (s .pre .1) (p .before .before .before .enum-told2 .given .1) (p .stage .ensures) refl refl (s .pre .0))
+    (λ c κs. let p = c .before .before .before in let s = start (p .before .before .before .before .before) in fits (s .pre .1) (p .before .before .before .enum-told2 .given .1) (p .stage .ensures) refl refl (s .pre .0))
     (λ c. search needs)
-    (λ c. omega (arith, asked (c .before .before .before .before .before .before .pre .1) (c .before .enum-told3 .given .1)))
-    (λ c. omega (arith, asked (c .before .before .before .before .before .before .before .pre .1) (c .before .before .enum-told3 .given .1)))
-    (λ c. omega (arith, asked (c .before .before .before .before .before .before .before .before .pre .1) (c .before .before .before .enum-told3 .given .1)))
+    (λ c. omega (arith, asked (start (c .before .before .before) .pre .1) (c .before .enum-told3 .given .1)))
+    (λ c. omega (arith, asked (start (c .before .before .before .before) .pre .1) (c .before .before .enum-told3 .given .1)))
+    (λ c. omega (arith, asked (start (c .before .before .before .before .before) .pre .1) (c .before .before .before .enum-told3 .given .1)))
     (λ c κs. search needs)
-    (λ c κs. let p = c .before .before in let s = p .before .before .before .before .before .before .before .before .before .before in fits (s .pre .1) (p .before .before .before .before .before .enum-told3 .given .1) (p .constant .ensures) refl refl (s .pre .0))
+    (λ c κs. let p = c .before .before in let s = start (p .before .before .before .before .before .before .before) in fits (s .pre .1) (p .before .before .before .before .before .enum-told3 .given .1) (p .constant .ensures) refl refl (s .pre .0))
     (λ c. search needs)
-    (λ c. omega (arith, asked (c .before .before .before .before .before .before .pre .1) (c .before .enum-told4 .given .1)))
-    (λ c. omega (arith, asked (c .before .before .before .before .before .before .before .pre .1) (c .before .before .enum-told4 .given .1)))
+    (λ c. omega (arith, asked (start (c .before .before .before) .pre .1) (c .before .enum-told4 .given .1)))
+    (λ c. omega (arith, asked (start (c .before .before .before .before) .pre .1) (c .before .before .enum-told4 .given .1)))
     (λ c κs. search needs)
-    (λ c κs. let p = c .before .before in let s = p .before .before .before .before .before .before .before .before .before in fits (s .pre .1) (p .before .before .before .before .enum-told4 .given .1) (p .sum .ensures) refl refl (s .pre .0))
+    (λ c κs. let p = c .before .before in let s = start (p .before .before .before .before .before .before) in fits (s .pre .1) (p .before .before .before .before .enum-told4 .given .1) (p .sum .ensures) refl refl (s .pre .0))
     (λ c. search needs)
-    (λ c. omega (arith, asked (c .before .before .before .before .before .before .before .pre .1) (c .before .before .form .given .1)))
+    (λ c. omega (arith, asked (start (c .before .before .before .before) .pre .1) (c .before .before .form .given .1)))
     (λ c. search needs) (λ c κs. search needs)
-    (λ c κs. let p = c .before .before in let s = p .before .before .before .before .before .before .before .before .before in fits (s .pre .1) (p .before .before .before .before .form .given .1) (p .copy .ensures) refl refl (s .pre .0))
+    (λ c κs. let p = c .before .before in let s = start (p .before .before .before .before .before .before) in fits (s .pre .1) (p .before .before .before .before .form .given .1) (p .copy .ensures) refl refl (s .pre .0))
     (λ c. search needs) (λ c κs. search needs)
-    (λ c κs. let s = c .before .before .before .before .before .before .before in (s .pre .0 .wires, omega (arith, s .pre .0 .room), omega (arith, s .pre .1 .least), s .pre .1 .most, asked (s .pre .1) (c .before .before .enum-told5 .given .1)))
-    (λ c κs. let p = c .before .before in let s = p .before .before .before .before .before .before .before .before in fits (s .pre .1) (p .before .before .before .enum-told5 .given .1) (p .product .ensures) refl (made-after s false (p .before .before .less .ensures)) (s .pre .0))
+    (λ c κs. let s = start (c .before .before .before .before) in (s .pre .0 .wires, omega (arith, s .pre .0 .room), omega (arith, s .pre .1 .least), s .pre .1 .most, asked (s .pre .1) (c .before .before .enum-told5 .given .1)))
+    (λ c κs. let p = c .before .before in let s = start (p .before .before .before .before .before) in fits (s .pre .1) (p .before .before .before .enum-told5 .given .1) (p .product .ensures) refl (made-after s false (p .before .before .less .ensures)) (s .pre .0))
     (λ c. search needs) (λ c κs. search needs)
-    (λ c κs. let s = c .before .before .before .before .before .before .before in (s .pre .0 .wires, omega (arith, s .pre .0 .room), omega (arith, s .pre .1 .least), s .pre .1 .most, asked (s .pre .1) (c .before .before .enum-told6 .given .1)))
-    (λ c κs. let p = c .before .before in let s = p .before .before .before .before .before .before .before .before in fits (s .pre .1) (p .before .before .before .enum-told6 .given .1) (p .refresh .ensures) refl (made-after s true (p .before .before .less2 .ensures)) (s .pre .0))
+    (λ c κs. let s = start (c .before .before .before .before) in (s .pre .0 .wires, omega (arith, s .pre .0 .room), omega (arith, s .pre .1 .least), s .pre .1 .most, asked (s .pre .1) (c .before .before .enum-told6 .given .1)))
+    (λ c κs. let p = c .before .before in let s = start (p .before .before .before .before .before) in fits (s .pre .1) (p .before .before .before .enum-told6 .given .1) (p .refresh .ensures) refl (made-after s true (p .before .before .less2 .ensures)) (s .pre .0))
     (λ c. search needs)
-    (λ c. omega (arith, asked (c .before .before .before .before .before .before .before .pre .1) (c .before .before .enum-told7 .given .1)))
+    (λ c. omega (arith, asked (start (c .before .before .before .before) .pre .1) (c .before .before .enum-told7 .given .1)))
     (λ c κs. search needs)
-    (λ c κs. let s = c .before .before .before .before .before .before .before .before .before in (s .pre .0 .wires, omega (arith, s .pre .0 .room), omega (arith, s .pre .1 .most, asked (s .pre .1) (c .before .before .before .before .enum-told7 .given .1))))
+    (λ c κs. let s = start (c .before .before .before .before .before .before) in (s .pre .0 .wires, omega (arith, s .pre .0 .room), omega (arith, s .pre .1 .most, asked (s .pre .1) (c .before .before .before .before .enum-told7 .given .1))))
     (λ c κs. search needs)
     (λ c κs.
     let p = c .before .before .before in
-    let s = p .before .before .before .before .before .before .before .before .before .before in
+    let s = start (p .before .before .before .before .before .before .before) in
     fits (s .pre .1) (p .before .before .before .before .before .enum-told7 .given .1) (p .row .ensures) (row-spot s (p .before .before .stage-shown .ensures .0)) (ap (λ t. wiresAt 0 0 t false) (p .before .before .stage-shown .ensures .0)) (s .pre .0))
-    (λ c. adds (c .before .before .before .before .before .before .pre .1) (c .before .enum-told .given .1) (nothing-made _ _ (c .before .before .before .before .before .before .pre .0 .wires)) refl refl (c .grown .ensures) refl)
+    (λ c. adds (start (c .before .before .before) .pre .1) (c .before .enum-told .given .1) (nothing-made _ _ (start (c .before .before .before) .pre .0 .wires)) refl refl (c .grown .ensures) refl)
     (λ c. search needs)
-    (λ c. let p = c .before .before .before .before in let s = p .before .before .before .before .before .before .before .before in adds (s .pre .1) (p .before .before .before .enum-told2 .given .1) (p .stage .ensures) refl refl (c .grown2 .ensures) (c .before .with-input .ensures))
+    (λ c. let p = c .before .before .before .before in let s = start (p .before .before .before .before .before) in adds (s .pre .1) (p .before .before .before .enum-told2 .given .1) (p .stage .ensures) refl refl (c .grown2 .ensures) (c .before .with-input .ensures))
     (λ c. search needs)
-    (λ c. let p = c .before .before .before in let s = p .before .before .before .before .before .before .before .before .before .before in adds (s .pre .1) (p .before .before .before .before .before .enum-told3 .given .1) (p .constant .ensures) refl refl (c .grown3 .ensures) refl)
+    (λ c. let p = c .before .before .before in let s = start (p .before .before .before .before .before .before .before) in adds (s .pre .1) (p .before .before .before .before .before .enum-told3 .given .1) (p .constant .ensures) refl refl (c .grown3 .ensures) refl)
     (λ c. search needs)
-    (λ c. let p = c .before .before .before in let s = p .before .before .before .before .before .before .before .before .before in adds (s .pre .1) (p .before .before .before .before .enum-told4 .given .1) (p .sum .ensures) refl refl (c .grown4 .ensures) refl)
+    (λ c. let p = c .before .before .before in let s = start (p .before .before .before .before .before .before) in adds (s .pre .1) (p .before .before .before .before .enum-told4 .given .1) (p .sum .ensures) refl refl (c .grown4 .ensures) refl)
     (λ c. search needs)
-    (λ c. let p = c .before .before .before in let s = p .before .before .before .before .before .before .before .before .before in adds (s .pre .1) (p .before .before .before .before .form .given .1) (p .copy .ensures) refl refl (c .grown5 .ensures) refl)
+    (λ c. let p = c .before .before .before in let s = start (p .before .before .before .before .before .before) in adds (s .pre .1) (p .before .before .before .before .form .given .1) (p .copy .ensures) refl refl (c .grown5 .ensures) refl)
     (λ c. search needs)
-    (λ c. let p = c .before .before .before in let s = p .before .before .before .before .before .before .before .before in adds (s .pre .1) (p .before .before .before .enum-told5 .given .1) (p .product .ensures) refl (made-after s false (p .before .before .less .ensures)) (c .grown6 .ensures) refl)
+    (λ c. let p = c .before .before .before in let s = start (p .before .before .before .before .before) in adds (s .pre .1) (p .before .before .before .enum-told5 .given .1) (p .product .ensures) refl (made-after s false (p .before .before .less .ensures)) (c .grown6 .ensures) refl)
     (λ c. search needs)
-    (λ c. let p = c .before .before .before in let s = p .before .before .before .before .before .before .before .before in adds (s .pre .1) (p .before .before .before .enum-told6 .given .1) (p .refresh .ensures) refl (made-after s true (p .before .before .less2 .ensures)) (c .grown7 .ensures) refl)
+    (λ c. let p = c .before .before .before in let s = start (p .before .before .before .before .before) in adds (s .pre .1) (p .before .before .before .enum-told6 .given .1) (p .refresh .ensures) refl (made-after s true (p .before .before .less2 .ensures)) (c .grown7 .ensures) refl)
     (λ c. search needs)
     (λ c.
     let p = c .before .before .before .before in
-    let s = p .before .before .before .before .before .before .before .before .before .before in
+    let s = start (p .before .before .before .before .before .before .before) in
     adds (s .pre .1) (p .before .before .before .before .before .enum-told7 .given .1) (p .row .ensures) (row-spot s (p .before .before .stage-shown .ensures .0)) (ap (λ t. wiresAt 0 0 t false) (p .before .before .stage-shown .ensures .0)) (c .grown8 .ensures) (c .before .with-output .ensures)))

@@ -1,7 +1,7 @@
 -- `checker::span::Span::with_input` meets its contract.
 use mathlib.Core.Path.{ap}
 use native.Mathlib.Omega.{arith}
-use Rattle.checker.proofs.Spanning.{span}
+use Rattle.checker.specs.Internal.Spans.{span}
 use Rattle.checker.proofs.span.Span.with_input.Statement.{statement}
 use Rattle.checker.proofs.span.Span.with_input.Tie as tie
 
