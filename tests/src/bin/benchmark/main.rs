@@ -148,6 +148,17 @@ fn refreshes(d: usize, wires: usize) -> Builder {
     builder
 }
 
+/// INs at stages up and down, then OUT of the last, up to a number of words and of wires.
+fn inputs(d: usize, words: usize) -> Builder {
+    let mut builder = Builder::new(d);
+    let mut row = builder.input(255);
+    while builder.table.len() + 3 + d < words && builder.wires() + d <= 8192 {
+        row = builder.input((builder.inputs * 97) % 256);
+    }
+    builder.output(&row);
+    builder
+}
+
 /// OUTs of one row that goes through registers in between, up to a number of words.
 fn outputs(d: usize, words: usize) -> Builder {
     let mut builder = Builder::new(d);
@@ -205,6 +216,8 @@ fn main() {
         ("AND chain, d 8".to_string(), products(8, 8192)),
         ("REF chain, d 2".to_string(), refreshes(2, 8192)),
         ("REF chain, d 8".to_string(), refreshes(8, 8192)),
+        ("IN rows, d 2".to_string(), inputs(2, 8192)),
+        ("IN rows, d 8".to_string(), inputs(8, 8192)),
         ("OUT rows, d 2".to_string(), outputs(2, 8192)),
         ("OUT rows, d 8".to_string(), outputs(8, 8192)),
     ];
