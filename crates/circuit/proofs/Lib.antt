@@ -14,6 +14,7 @@ pub mod Registered
 pub mod Judging
 pub mod Fitting
 pub mod Exact
+-- The latency in each of its cases
 pub mod Latency
 -- What an answer tells of the judgement behind it
 pub mod Answers

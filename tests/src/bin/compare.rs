@@ -257,7 +257,7 @@ fn main() {
     println!("texts written and read back: {}", tally.read_back);
     tally.counted.print();
     if missing > 0 && count > 1000 {
-        println!("compare: {missing} rules or circuits for the latency were never met");
+        println!("compare: {missing} rules, or cases of the latency, were never met");
     }
     println!("compare: {} passed, {failed} failed", count - failed);
     if failed > 0 || (missing > 0 && count > 1000) {

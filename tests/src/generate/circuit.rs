@@ -65,7 +65,7 @@ impl Pool {
 pub enum Inputs {
     /// At the CONs' stages.
     Beside,
-    /// So many stages later, with rows of CONs in between.
+    /// So many stages later, with rows of CONs among them.
     Later(usize),
     /// Nowhere: rows of CONs in their place.
     None,

@@ -68,7 +68,8 @@ impl Circuit {
         Counts { wires: self.wires.len(), randoms: self.randoms, latency: self.latency() }
     }
 
-    /// From the first input to the last output, over all frames: 0 where there is no such way.
+    /// The clocks from the first input to the last output, over all frames; 0 without either, or
+    /// where the output is not the later one.
     fn latency(&self) -> usize {
         let of_kind = |kind: u16| self.frames.iter().filter(move |words| words[0] == kind);
         let first_input = of_kind(1).map(|words| usize::from(words[1])).min();
