@@ -46,7 +46,7 @@ module _ {rule : ℕ → List ℕ → Judgement} {number : ℕ} {test : ℕ → 
   ask-end l n = rw (h n, drop-of-length-le xs l, asks .none (n + i), le-ltb i (length xs) l)
 
 -- bytes none of which is over 1 pass
-all-pass : (bytes : List ℕ) (i : ℕ) → ((x : ℕ) → x < length bytes → nth bytes x ≤ 1) → bytesRule i bytes ≡ pass
+pub all-pass : (bytes : List ℕ) (i : ℕ) → ((x : ℕ) → x < length bytes → nth bytes x ≤ 1) → bytesRule i bytes ≡ pass
 unfolding bytesRule
 all-pass [] i h = refl
 all-pass (b ∷ bs) i h = rw (le-leb b 1 (h 0 (omega arith))) (all-pass bs (suc i) (λ x l. h (suc x) (omega arith)))

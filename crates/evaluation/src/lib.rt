@@ -1,65 +1,17 @@
 // Evaluates accepted circuits, and reads what probes on their wires show.
 ghost use mathlib.Core.Path.{_≡_};
 ghost use mathlib.Core.List.{[], _∷_};
-ghost use Prim.Native.Nat.{_≤_, min};
-ghost use lib.ListN.{length};
 ghost use Rattle.checker.specs.Answers.{answerOf};
 ghost use Rattle.semantics.specs.Calls.{Accepts, circuitOf, written, callRule, callAnswer, callNotes, valueBytes, readingBytes};
 ghost use Rattle.semantics.specs.Values.{bits, valuesOf};
 ghost use Rattle.semantics.specs.Counts.{EqualCounts};
 ghost use Rattle.secrecy.specs.Gadgets.{Computes};
-ghost use Rattle.evaluation.specs.Internal.Calling.{Judged};
 use checker::Verdict;
 use circuit::WIRES;
 use reach::readings;
 use simulation::values;
 
 pub mod rules;
-
-// A call judged: by the checker, then by rules 15 to 19, the shortest buffer having so many bytes.
-fn judge(
-    table: &[u16],
-    notes: &mut [u16],
-    shares: &[u8],
-    tape: &[u8],
-    probes: &[u16],
-    room: usize,
-) -> Verdict
-    ensures { λ r. ⌜ Judged (now (table .entry)) (now (notes .entry)) (now (shares .entry)) (now (tape .entry)) (now (probes .entry)) room (now (notes .exit)) r ⌝ }
-{
-    let verdict = checker::check(table, notes);
-    let Verdict::Accepted {
-        wires,
-        randoms,
-        latency: _,
-        inputs,
-    } = verdict
-    else {
-        return verdict;
-    };
-    if shares.len() != inputs * table[1] as usize {
-        return rules::refusal(15, 0);
-    }
-    if tape.len() != randoms {
-        return rules::refusal(16, 0);
-    }
-    if room < WIRES {
-        return rules::refusal(17, 0);
-    }
-    let share = rules::first_over(shares);
-    if share < shares.len() {
-        return rules::refusal(18, share);
-    }
-    let drawn = rules::first_over(tape);
-    if drawn < tape.len() {
-        return rules::refusal(18, shares.len() + drawn);
-    }
-    let probe = rules::first_missing(probes, wires);
-    if probe < probes.len() {
-        return rules::refusal(19, probe);
-    }
-    verdict
-}
 
 // Writes the value of each wire of an accepted circuit, from its shares and its tape. A refusal leaves the values as found.
 pub fn evaluate(
@@ -78,7 +30,7 @@ pub fn evaluate(
 {
     let room = values.len();
     let none = &table[0..0];
-    let verdict = judge(table, notes, shares, tape, none, room);
+    let verdict = rules::judge(table, notes, shares, tape, none, room);
     let Verdict::Accepted {
         wires: _,
         randoms: _,
@@ -90,13 +42,6 @@ pub fn evaluate(
     };
     values::fill(table, 1, shares, tape, values);
     verdict
-}
-
-// The smaller of two numbers.
-fn smaller(one: usize, other: usize) -> usize
-    ensures { λ r. ⌜ r ≡ min one other ⌝ }
-{
-    if one <= other { one } else { other }
 }
 
 // Writes the value of each wire of an accepted circuit, and what the probes read. A refusal leaves both buffers as found.
@@ -118,8 +63,8 @@ pub fn read_probes(
     ensures secret { λ _. ⌜ (Accepts (now (table .entry)) (now (notes .entry))
         → EqualCounts (circuitOf (now (table .entry)) (now (notes .entry))) (now (probes .entry))) ⌝ }
 {
-    let room = smaller(values.len(), reading.len());
-    let verdict = judge(table, notes, shares, tape, probes, room);
+    let room = rules::smaller(values.len(), reading.len());
+    let verdict = rules::judge(table, notes, shares, tape, probes, room);
     let Verdict::Accepted {
         wires,
         randoms: _,

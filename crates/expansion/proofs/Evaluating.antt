@@ -16,7 +16,7 @@ use Rattle.semantics.proofs.Values.{values-length}
 use Rattle.frames.specs.declared.walk.Step.{Step}
 use Rattle.frames.specs.declared.walk.Step.the-variants.{Next, Refused, End}
 use Rattle.frames.specs.Walk.{stepAt}
-use Rattle.gadgets.specs.Internal.Gates.{gateAt}
+use Rattle.semantics.proofs.Solving.{gateAt}
 use Rattle.gadgets.specs.Internal.Accepting.{AcceptedTable, circuitIn}
 use Rattle.gadgets.proofs.Walking.{whole, whole-ordered, second-word, wires-grow, Answers, step-answers}
 use Rattle.simulation.specs.Internal.Filling.{Known, Fills}
@@ -171,11 +171,13 @@ module _ {table left right constants listed : List ℕ} {wires count : ℕ} {sha
     module _ {mid : List ℕ} (g : Runs left right constants w first values mid) where
       abbrev pub filled : FilledTo table 255 shares tape old mid place first from used
       filled = let v = run-evaluated a (t .all) gap first-made (g .fills frame-asks) (t .evaluated) in record {
-        evaluable = record { accepted = a; shared = t .evaluable .shared; drawn = t .evaluable .drawn; roomy = t .evaluable .roomy };
-        between = f .between;
-        wires-are = f .first-is;
-        from-are = f .from-is;
-        used-are = f .used-is;
+        walked = record {
+          evaluable = record { accepted = a; shared = t .evaluable .shared; drawn = t .evaluable .drawn; roomy = t .evaluable .roomy };
+          between = f .between;
+          wires-are = f .first-is;
+          from-are = f .from-is;
+          used-are = f .used-is;
+        };
         known = v .known;
         above = v .above;
         sized = v .sized;
@@ -197,5 +199,5 @@ module _ {table left right constants listed : List ℕ} {wires count : ℕ} {sha
             zero = t .zero;
             most = omega arith;
             end-is = r-is ∙ sym (ap (endOf table listed) (add-one i) ∙ ap (λ s. first + stepWires s) h);
-            evaluated = rw r-is (subst (λ (k : Circuit). EvaluatedTo (k .wires) shares tape old new (first + sh .wires)) (sym (v .evaluable .accepted .circuit-is) ∙ a .circuit-is) (record { known = v .known; above = v .above; sized = v .sized }));
+            evaluated = rw r-is (subst (λ (k : Circuit). EvaluatedTo (k .wires) shares tape old new (first + sh .wires)) (sym (v .walked .evaluable .accepted .circuit-is) ∙ a .circuit-is) (record { known = v .known; above = v .above; sized = v .sized }));
           }

@@ -23,7 +23,8 @@ use Rattle.gadgets.proofs.Walking.{second-word, whole-few, wires-grow, step-ans
 use Rattle.simulation.specs.declared.values.Place.{Place}
 use Rattle.simulation.specs.Internal.Filling.{Fills, Copied, FrameValues}
 use Rattle.simulation.specs.Internal.Walked.{FilledTo, FillsFrames}
-use Rattle.simulation.proofs.Evaluating.{room-in, inputs-in, frame-filled}
+use Rattle.simulation.proofs.Walked.{walked-answers, room-in, inputs-in}
+use Rattle.simulation.proofs.Evaluating.{frame-filled}
 
 -- the step at an IN
 in-step : (table : List ℕ) (d at : ℕ) → nth table at ≡ 1 → {fr : FrameCode} {sh : ShapeCode} {wk : Walk} → stepAt table d at ≡ Next fr sh wk
@@ -43,19 +44,19 @@ in-step table d at e {fr} {sh} {wk} h = cases (ltb at (length table))
 
 -- a frame is there
 module _ {table : List ℕ} {ones : ℕ} {shares tape old values : List ℕ} {at first from used : ℕ} (f : FilledTo table ones shares tape old values at first from used) where
-  pub answers : {s : Step} → stepAt table (nth table 1) at ≡ s → Answers (f .evaluable .accepted) (f .between) (nth table 1) first from s
-  answers = step-answers (f .evaluable .accepted) (f .between) (second-word (f .evaluable .accepted)) (f .wires-are) (f .from-are)
+  pub answers : {s : Step} → stepAt table (nth table 1) at ≡ s → Answers (f .walked .evaluable .accepted) (f .walked .between) (nth table 1) first from s
+  answers = walked-answers (f .walked)
 
   step-there : {A : Type 0} → at < length table → ((fr : FrameCode) (sh : ShapeCode) (wk : Walk) → stepAt table (nth table 1) at ≡ Next fr sh wk → A) → A
   step-there {A} l then = go (stepAt table (nth table 1) at) refl
     where
       go : (s : Step) → stepAt table (nth table 1) at ≡ s → A
       go (Refused rule) h = absurd (answers h)
-      go End h = absurd (omega (arith, length-drop at table, ap length (f .between .rest ∙ ap wordsOf (answers h))))
+      go End h = absurd (omega (arith, length-drop at table, ap length (f .walked .between .rest ∙ ap wordsOf (answers h))))
       go (Next fr sh wk) h = then fr sh wk h
 
   pub first-few : first ≤ wireLimit
-  first-few = let a = f .evaluable .accepted in omega (arith, f .wires-are, wires-grow a (f .between), whole-few a)
+  first-few = let a = f .walked .evaluable .accepted in omega (arith, f .walked .wires-are, wires-grow a (f .walked .between), whole-few a)
 
   -- an IN: room for its wires, and shares for them
   pub input-asks : at < length table → nth table at ≡ 1 → (first + nth table 1 ≤ length values) × (from + nth table 1 ≤ length shares)
@@ -63,8 +64,8 @@ module _ {table : List ℕ} {ones : ℕ} {shares tape old values : List ℕ} {at
   input-asks l e = step-there l (λ fr sh wk h.
       let d = nth table 1 in
       let (a, b) = in-step table d at e h in
-      let same = second-word (f .evaluable .accepted) in
-      (subst (λ (z : FrameCode). first + frameWires z d ≤ length values) a (room-in f same (answers h)), omega (arith, subst (λ (z : ShapeCode). from + d * z .inputs ≤ length shares) b (inputs-in f same (answers h)))))
+      let same = second-word (f .walked .evaluable .accepted) in
+      (subst (λ (z : FrameCode). first + frameWires z d ≤ length values) a (omega (arith, room-in (f .walked) same (answers h), f .sized)), omega (arith, subst (λ (z : ShapeCode). from + d * z .inputs ≤ length shares) b (inputs-in (f .walked) same (answers h)))))
 
   -- its shares copied
   pub input-filled : nth table at ≡ 1 → {new : List ℕ} → Fills (Copied shares from first (nth table 1)) first (first + nth table 1) values new → {fr : FrameCode} {sh : ShapeCode} {wk : Walk}
@@ -74,6 +75,6 @@ module _ {table : List ℕ} {ones : ℕ} {shares tape old values : List ℕ} {at
   input-filled e {new} g h =
       let d = nth table 1 in
       let (a, b) = in-step table d at e h in (
-        frame-filled f (second-word (f .evaluable .accepted)) (answers h) new (subst (λ (z : FrameCode). Fills (FrameValues z ones d first from used (operandsAt table d at) shares tape) first (first + frameWires z d) values new) (sym a) g),
+        frame-filled f (second-word (f .walked .evaluable .accepted)) (answers h) new (subst (λ (z : FrameCode). Fills (FrameValues z ones d first from used (operandsAt table d at) shares tape) first (first + frameWires z d) values new) (sym a) g),
         ap (λ (z : ShapeCode). first + z .wires) (sym b),
       )

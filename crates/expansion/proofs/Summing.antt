@@ -18,7 +18,8 @@ use Rattle.circuit.proofs.Sizes.{pairs-twice}
 use Rattle.frames.specs.declared.walk.Gate.the-variants as gate
 use Rattle.frames.specs.declared.walk.Frame.{Frame as FrameCode}
 use Rattle.frames.specs.declared.walk.Frame.the-variants as frame
-use Rattle.gadgets.specs.Internal.Gates.{gateAt, FrameGates}
+use Rattle.semantics.proofs.Solving.{gateAt}
+use Rattle.gadgets.specs.Internal.Gates.{FrameGates}
 use Rattle.gadgets.specs.Internal.Frames.{frameWires, FrameEarly, FrameSupplied}
 use Rattle.simulation.specs.Internal.Filling.{Values, Known, Fills}
 use Rattle.simulation.proofs.Filled.{known-all, fills-set}

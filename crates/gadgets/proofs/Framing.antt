@@ -17,7 +17,8 @@ use Rattle.circuit.proofs.Numbered.{all-at, get-all}
 use Rattle.circuit.proofs.Sizes.{made-size}
 use Rattle.frames.specs.Walk.{kindCode, frameCode}
 use Rattle.gadgets.specs.Internal.Places.{wordA, wordB}
-use Rattle.gadgets.specs.Internal.Gates.{nothing, gateAt, FrameGates}
+use Rattle.semantics.proofs.Solving.{nothing, gateAt}
+use Rattle.gadgets.specs.Internal.Gates.{FrameGates}
 use Rattle.gadgets.specs.Internal.Frames.{frameWires, FrameEarly, FrameSupplied}
 use Rattle.gadgets.proofs.Placed.{and-gates, ref-gates}
 

@@ -17,7 +17,8 @@ use Rattle.circuit.proofs.Parts.{index-lt, Pair, others-pair, InAND, is-r, is-R
 use Rattle.circuit.proofs.Sizes.{and-size, ref-size, gadget-size}
 use Rattle.circuit.proofs.Building.{part-at, output-at}
 use Rattle.gadgets.specs.Internal.Places.{rowStart, pairAt, productAt, crossAt, outAt, maskAt, sumAt, heldAt}
-use Rattle.gadgets.specs.Internal.Gates.{nothing, gateAt, AndGates, RefGates}
+use Rattle.semantics.proofs.Solving.{nothing, gateAt}
+use Rattle.gadgets.specs.Internal.Gates.{AndGates, RefGates}
 use Rattle.gadgets.proofs.Ranges.{map-on}
 use Rattle.gadgets.proofs.Sites.{row-next, row-last, site, and-site, r-site, R-site, ref-site, fresh-site}
 

@@ -28,7 +28,8 @@ use Rattle.frames.specs.declared.kinds.Shape.{Shape as ShapeCode}
 use Rattle.frames.specs.Randoms.{listedPairs}
 use Rattle.frames.specs.Walk.{kindCode, shapeCode, frameCode, operandsAt, behind, stepAt}
 use Rattle.frames.proofs.RandomBits.{listed-right}
-use Rattle.gadgets.specs.Internal.Gates.{gateAt, OrderedFrom, FrameGates}
+use Rattle.semantics.proofs.Solving.{gateAt, OrderedFrom}
+use Rattle.gadgets.specs.Internal.Gates.{FrameGates}
 use Rattle.gadgets.specs.Internal.Frames.{frameWires, Small, FrameEarly, FrameSupplied}
 use Rattle.gadgets.specs.Internal.Accepting.{AcceptedTable, circuitIn, Between}
 use Rattle.gadgets.proofs.Framing.{inputs-more, randoms-more, wires-same, frame-early, frame-supplied, frame-gates}

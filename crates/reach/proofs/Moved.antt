@@ -16,7 +16,8 @@ use Rattle.circuit.proofs.Base.{cases, or-cases, or-left, or-right, In}
 use Rattle.circuit.proofs.Sizes.{pairs-twice}
 use Rattle.semantics.specs.Probes.{operands}
 use Rattle.gadgets.specs.Internal.Places.{crossStart, pairAt, crossAt, productAt, outAt, maskAt, sumAt, heldAt}
-use Rattle.gadgets.specs.Internal.Gates.{gateAt, ProductGates, CrossGates, CrossRowGates, CrossAllGates, ProductsGates, OutGates, AndGates, RefGates}
+use Rattle.semantics.proofs.Solving.{gateAt}
+use Rattle.gadgets.specs.Internal.Gates.{ProductGates, CrossGates, CrossRowGates, CrossAllGates, ProductsGates, OutGates, AndGates, RefGates}
 use Rattle.gadgets.proofs.Bits.{set-low}
 use Rattle.gadgets.proofs.Ranges.{others-is, others-split}
 use Rattle.gadgets.proofs.Slots.{slot-low, slot-high, slot-next, slots-up, row-ends, row-room}

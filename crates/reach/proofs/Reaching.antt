@@ -14,7 +14,7 @@ use Rattle.circuit.proofs.Base.{cases, or-cases, lt-ne, In, in-head, in-each, e
 use Rattle.circuit.proofs.Numbered.{all-get}
 use Rattle.semantics.specs.Probes.{operands, stops}
 use Rattle.semantics.proofs.Reading.{same-test, concatMap-in, probe, stop-reads, gate-reads}
-use Rattle.gadgets.specs.Internal.Gates.{nothing, gateAt, OrderedFrom}
+use Rattle.semantics.proofs.Solving.{nothing, gateAt, OrderedFrom}
 use Rattle.gadgets.proofs.Bits.{set-low, set-high}
 use Rattle.reach.specs.Internal.Marks.{markAll, propagated, Marked, Source, Moving}
 use Rattle.reach.specs.Internal.Reading.{OnStops}

@@ -4,5 +4,11 @@ pub mod Values
 pub mod Randoms
 pub mod Stops
 pub mod Earlier
+pub mod Solving
 pub mod Stages
+pub mod Clocked
+pub mod Listed
+pub mod Inputs
+pub mod Pipeline
+pub mod Clocks
 pub mod Reading

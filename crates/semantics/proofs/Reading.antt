@@ -137,7 +137,7 @@ module _ (k : Circuit) (ops : List ℕ) (early : Lawful EarlyIn k) (fits : Fits 
       ap (λ ws. probe ws (size k + length (inAND d) + i)) e
       ∙ probe-kept behind more (size k + length (inAND d) + i) (omega (arith, behind-size)) ∙ and-reads i l
 
-first-fits : {k : Circuit} {f : Frame} {fs : List Frame} → AllFit k (f ∷ fs) → Fits k (f .kind) (f .ops)
+pub first-fits : {k : Circuit} {f : Frame} {fs : List Frame} → AllFit k (f ∷ fs) → Fits k (f .kind) (f .ops)
 first-fits (next fits few more) = fits
 
 -- a probe on an AND's output c(i) reads M(i), all U(i,j) and all W(i,j), each once, and nothing else

@@ -40,7 +40,7 @@ productA = 0 ∷ 0 ∷ 1 ∷ 2 ∷ 3 ∷ []
 abbrev heldA : List ℕ
 heldA = 0x1A ∷ 0x1B ∷ []
 
-abbrev A : List ℕ
+abbrev pub A : List ℕ
 A = circuitA 1 0 productA heldA
 
 abbrev sharesA : List ℕ

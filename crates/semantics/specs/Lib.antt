@@ -3,5 +3,7 @@ pub mod Values
 pub mod Probes
 pub mod Calls
 pub mod Counts
+-- Document 02's clock by clock
+pub mod Clock
 -- Document 01's starred cases.
 pub mod Cases

@@ -22,7 +22,8 @@ use Rattle.frames.specs.declared.walk.Gate.the-variants as gate
 use Rattle.frames.specs.declared.walk.Frame.{Frame as FrameCode}
 use Rattle.frames.specs.declared.walk.Frame.the-variants as frame
 use Rattle.gadgets.specs.Internal.Places.{wordA, wordB, pairSite, pairAt, productAt, crossAt, outAt, maskAt, sumAt, heldAt}
-use Rattle.gadgets.specs.Internal.Gates.{gateAt, OrderedFrom, AndGates, RefGates, FrameGates}
+use Rattle.semantics.proofs.Solving.{gateAt, OrderedFrom, solved}
+use Rattle.gadgets.specs.Internal.Gates.{AndGates, RefGates, FrameGates}
 use Rattle.gadgets.specs.Internal.Frames.{frameWires}
 use Rattle.gadgets.proofs.Sites.{pair-lt}
 use Rattle.gadgets.proofs.Slots.{product-early, cross-room}
@@ -31,7 +32,7 @@ use Rattle.simulation.specs.Internal.Walked.{valuesAt}
 use Rattle.simulation.specs.Internal.Evaluating.{packed, Packs}
 use Rattle.simulation.proofs.Adding.{wordSum-ext, wordSum-append, wordSum-map, wordSum-xor}
 use Rattle.simulation.proofs.Packing.{wordValue, packed-value}
-use Rattle.simulation.proofs.Solving.{solved, rank-next}
+use Rattle.simulation.proofs.Ranks.{pairs-rank, masks-rank}
 
 -- different shares, where the one is among the others of the other
 apart : (d i j : ℕ) → i < d → In j (others d i) → (j < d) × (j ≡ i → ⊥)
@@ -59,11 +60,7 @@ module _ (ws : List Wire) (early : OrderedFrom 0 ws) (ones : ℕ) (shares tape :
     pair-room q l = omega (arith, pairs-twice d)
 
     rank-at : (q : ℕ) → q ≤ pairs d → rank (first + 2 * q) ≡ used + q
-    rank-at zero l = simp add-zero start
-    rank-at (suc q) l =
-        let e : first + 2 * suc q ≡ first + 2 * q + 1 + 1 = omega arith in
-        ap rank e ∙ rank-next ws (first + 2 * q + 1) (pair-room q l) (gs .draws q l .1)
-        ∙ omega (arith, rank-next ws (first + 2 * q) (omega (arith, pair-room q l)) (gs .draws q l .0), rank-at q (omega arith))
+    rank-at = pairs-rank ws first used (pairs d) start (gs .draws) (omega (arith, pairs-twice d))
 
     hold-is : (q : ℕ) → q < pairs d → valued (first + 2 * q + 1) ≡ valued (first + 2 * q)
     hold-is q l = gate-value (first + 2 * q + 1) (reg (first + 2 * q)) (pair-room q l) (gs .draws q l .1)
@@ -117,10 +114,7 @@ module _ (ws : List Wire) (early : OrderedFrom 0 ws) (ones : ℕ) (shares tape :
   -- REF
   module _ (d first : ℕ) (a : ℕ → ℕ) (gs : RefGates (gateAt ws) d first a) (made : heldAt d first d ≤ length ws) (used : ℕ) (start : rank first ≡ used) where
     ref-rank : (q : ℕ) → q ≤ pairs d → rank (first + q) ≡ used + q
-    ref-rank zero l = simp add-zero start
-    ref-rank (suc q) l =
-        let e : first + suc q ≡ first + q + 1 = omega arith in
-        ap rank e ∙ omega (arith, rank-next ws (first + q) (omega arith) (gs .draws q l), ref-rank q (omega arith))
+    ref-rank = masks-rank ws first used (pairs d) start (gs .draws) (omega arith)
 
     ref-drawn : Copied tape used first (pairs d) valued
     ref-drawn q l = gate-value (first + q) random (omega arith) (gs .draws q l) ∙ ap (nth tape) (ref-rank q (omega arith))

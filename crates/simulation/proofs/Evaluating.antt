@@ -27,74 +27,39 @@ use Rattle.simulation.specs.Internal.Filling.{Known, Fills, FrameValues}
 use Rattle.simulation.specs.Internal.Evaluating.{packed, Packs, Evaluable, Evaluates}
 use Rattle.simulation.proofs.Filled.{known-all}
 use Rattle.simulation.specs.Internal.Walked.{valuesAt, FilledTo, FillsFrames}
+use Rattle.simulation.proofs.Walked.{walked-start, rank-is, walked-answers, frame-within, walked-next, walked-all}
 use Rattle.simulation.proofs.Equations.{frame-values}
 
 pub filled-start : {table shares tape old : List ℕ} (ones : ℕ) → Evaluable table shares tape (length old) → FilledTo table ones shares tape old old 2 0 0 0
-filled-start ones e = record {
-  evaluable = e;
-  between = between-start (e .accepted);
-  wires-are = refl;
-  from-are = omega arith;
-  used-are = refl;
-  known = λ n sharings tapes full shared drawn x l u. absurd (omega arith);
-  above = λ x l. refl;
-  sized = refl;
-}
+filled-start ones e = record { walked = walked-start e; known = λ n sharings tapes full shared drawn x l u. absurd (omega arith); above = λ x l. refl; sized = refl }
 
 module _ {table : List ℕ} {ones : ℕ} {shares tape old values : List ℕ} {place w from used : ℕ} (f : FilledTo table ones shares tape old values place w from used) where
   abbrev a : AcceptedTable table
-  a = f .evaluable .accepted
+  a = f .walked .evaluable .accepted
 
   abbrev ws : List Wire
   ws = whole a .wires
 
-  shares-are : length shares ≡ whole a .inputs * a .d
-  shares-are = f .evaluable .shared ∙ ap (λ (c : Circuit). c .inputs * c .d) (a .circuit-is) ∙ ap (λ n. whole a .inputs * n) (build-shares (empty (a .d)) (a .fs))
-
-  tape-is : length tape ≡ whole a .randoms
-  tape-is = f .evaluable .drawn ∙ ap (λ (c : Circuit). c .randoms) (a .circuit-is)
-
-  -- the random bits before the place
-  rank-is : randomsIn (take w ws) ≡ used
-  rank-is =
-      let k = so-far a (f .between) in
-      let (more, e) = wires-in a (f .between) in
-      ap randomsIn (ap₂ take (f .wires-are) e ∙ take-at (k .wires) more (size k) refl) ∙ build-randoms (empty (a .d)) (f .between .before) refl ∙ sym (f .used-are)
-
-  -- the frame that is met: it has its room and its bits, and behind it its values are filled in too
-  module _ {d : ℕ} {fr : FrameCode} {sh : ShapeCode} {wk : Walk} (same : d ≡ a .d) (m : Met a (f .between) d w from fr sh wk) where
-    pub room-in : w + frameWires fr d ≤ length values
-    room-in = omega (arith, m .as-many, m .wires-next, wires-grow a (m .onward), ap size (a .circuit-is), f .evaluable .roomy, f .sized)
-
-    pub inputs-in : from + d * sh .inputs ≤ length shares
-    inputs-in = rw same (omega (arith, f .from-are, shares-are, mul-le-mul-right (a .d) (rw (m .inputs-next) at (inputs-grow a (m .onward)))))
-
-    pub draws-in : used + sh .randoms ≤ length tape
-    draws-in = omega (arith, f .used-are, m .randoms-next, randoms-grow a (m .onward), tape-is)
-
+  -- behind the frame that is met, its values are filled in too
+  module _ {d : ℕ} {fr : FrameCode} {sh : ShapeCode} {wk : Walk} (same : d ≡ a .d) (m : Met a (f .walked .between) d w from fr sh wk) where
     pub frame-filled : (new : List ℕ) → Fills (FrameValues fr ones d w from used (operandsAt table d place) shares tape) w (w + frameWires fr d) values new
         → FilledTo table ones shares tape old new (wk .at) (w + sh .wires) (from + d * sh .inputs) (used + sh .randoms)
     frame-filled new g =
         let made : w + frameWires fr d ≡ w + sh .wires = ap (λ n. w + n) (m .as-many) in
         record {
-          evaluable = f .evaluable;
-          between = m .onward;
-          wires-are = sym (m .wires-next);
-          from-are = rw (m .inputs-next, same) (omega (arith, f .from-are));
-          used-are = omega (arith, f .used-are, m .randoms-next);
+          walked = walked-next (f .walked) same m;
           known = λ n sharings tapes full shared drawn.
               let v = valuesAt ws n sharings tapes in
-              let holds = frame-values ws (whole-ordered a) ones shares tape n sharings tapes full shared drawn fr d w from used (operandsAt table d place) (m .gates) (omega (arith, made, m .wires-next, wires-grow a (m .onward))) rank-is in
+              let holds = frame-values ws (whole-ordered a) ones shares tape n sharings tapes full shared drawn fr d w from used (operandsAt table d place) (m .gates) (frame-within (f .walked) same m) (rank-is (f .walked)) in
               subst (λ (k : ℕ). Known v 0 k new) made (known-all g v holds (f .known n sharings tapes full shared drawn));
           above = λ x l. g .above x (omega (arith, made)) ∙ f .above x (omega arith);
           sized = g .size ∙ f .sized;
         }
 
   -- all frames are filled in
-  pub all-filled : f .between .after ≡ [] → Evaluates table ones shares tape old values
+  pub all-filled : f .walked .between .after ≡ [] → Evaluates table ones shares tape old values
   all-filled none =
-      let all : whole a ≡ so-far a (f .between) = all-built a (f .between) ∙ ap (build (so-far a (f .between))) none in
-      let count : w ≡ size (circuitIn table) = f .wires-are ∙ ap size (sym (a .circuit-is ∙ all)) in
+      let count = walked-all (f .walked) none in
       record {
         known = λ n sharings tapes full shared drawn x l. rw (a .circuit-is) (f .known n sharings tapes full shared drawn x (omega arith) (omega (arith, count)));
         above = λ x l. f .above x (omega (arith, count));
@@ -129,15 +94,14 @@ module _ {table : List ℕ} {ones : ℕ} {shares tape before : List ℕ} {p w₀
     (t : FillingTo table ones shares tape before p w₀ f₀ u₀ end values walk first from used) where
   -- what the step says at the walk's place
   pub filling-answers : (old : List ℕ) (g : FilledTo table ones shares tape old before p w₀ f₀ u₀) {s : Step} → stepAt table (walk .d) (walk .at) ≡ s
-      → let f = t .filled old g in Answers (f .evaluable .accepted) (f .between) (nth table 1) first from s
-  filling-answers old g e = let f = t .filled old g in
-      step-answers (f .evaluable .accepted) (f .between) (second-word (f .evaluable .accepted)) (f .wires-are) (f .from-are) (ap (λ n. stepAt table n (walk .at)) (sym (t .d-is)) ∙ e)
+      → let f = t .filled old g .walked in Answers (f .evaluable .accepted) (f .between) (nth table 1) first from s
+  filling-answers old g e = walked-answers (t .filled old g .walked) (ap (λ n. stepAt table n (walk .at)) (sym (t .d-is)) ∙ e)
 
   -- one frame more
   module _ {fr : FrameCode} {sh : ShapeCode} {wk : Walk} (e : stepAt table (walk .d) (walk .at) ≡ Next fr sh wk) {new : List ℕ}
       (g : Fills (FrameValues fr ones (nth table 1) first from used (operandsAt table (nth table 1) (walk .at)) shares tape) first (first + frameWires fr (nth table 1)) values new) where
     next-filled : (old : List ℕ) → FilledTo table ones shares tape old before p w₀ f₀ u₀ → FilledTo table ones shares tape old new (wk .at) (first + sh .wires) (from + nth table 1 * sh .inputs) (used + sh .randoms)
-    next-filled old h = let f = t .filled old h in frame-filled f (second-word (f .evaluable .accepted)) (filling-answers old h e) new g
+    next-filled old h = let f = t .filled old h in frame-filled f (second-word (f .walked .evaluable .accepted)) (filling-answers old h e) new g
 
     pub filling-next : wk .d ≡ nth table 1 → walk .at + 2 ≤ wk .at → wk .at < end → FillingTo table ones shares tape before p w₀ f₀ u₀ end new wk (first + sh .wires) (from + nth table 1 * sh .inputs) (used + sh .randoms)
     filling-next same later l = record { d-is = same; filled = next-filled; none = λ z. absurd (omega (arith, t .none z .0)); size-is = g .size ∙ t .size-is }
@@ -148,7 +112,7 @@ module _ {table : List ℕ} {ones : ℕ} {shares tape before : List ℕ} {p w₀
       one = λ old h z e′. let (a, b, c, d) = t .none z in
           let (x, y) = same-step (sym e ∙ ap₂ (stepAt table) (t .d-is) a ∙ e′) in
           (rw (← ap (λ (k : Walk). k .at) y, ← ap₂ (λ (m : ℕ) (k : ShapeCode). m + k .wires) b x, ← ap₂ (λ (m : ℕ) (k : ShapeCode). m + nth table 1 * k .inputs) c x, ← ap₂ (λ (m : ℕ) (k : ShapeCode). m + k .randoms) d x) (next-filled old h), r-is ∙ ap₂ (λ (m : ℕ) (k : ShapeCode). m + k .wires) b x);
-      all = λ old h z. let f = next-filled old h in all-filled f (none-left (f .between) (omega arith));
+      all = λ old h z. let f = next-filled old h in all-filled f (none-left (f .walked .between) (omega arith));
       sized = g .size ∙ t .size-is;
     }
 

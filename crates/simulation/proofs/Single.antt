@@ -28,23 +28,26 @@ one f = zero-add (byte (f 0))
 packs : (values : List ℕ) → Bits values → Packs 1 (λ l. bits values) values
 packs values h i = set-byte (nth values i) (h i) ∙ ap byte (sym (bits-at values i)) ∙ sym (one (λ l. at (bits values) i))
 
--- a buffer that holds all values, the rest as it was
-all-known : (vs : List Bool) (old new : List ℕ) → length vs ≤ length old → ((x : ℕ) → x < length vs → nth new x ≡ byte (at vs x)) → ((x : ℕ) → length vs ≤ x → nth new x ≡ nth old x) → length new ≡ length old → new ≡ overwrite (bytes vs) old
-all-known vs old new room known rest size = ext-getD 0 new (overwrite (bytes vs) old) (size ∙ sym all) (λ x l. cases (ltb x (length vs)) (λ e. low x (ltb-true x (length vs) e)) (λ e. high x (ltb-false x (length vs) e)))
+-- a buffer over which a list is written, the rest as it was
+pub written-over : (list old new : List ℕ) → length list ≤ length old → ((x : ℕ) → x < length list → nth new x ≡ nth list x) → ((x : ℕ) → length list ≤ x → nth new x ≡ nth old x) → length new ≡ length old → new ≡ overwrite list old
+written-over list old new room known rest size = ext-getD 0 new (overwrite list old) (size ∙ sym all) (λ x l. cases (ltb x (length list)) (λ e. low x (ltb-true x (length list) e)) (λ e. high x (ltb-false x (length list) e)))
   where
-    count : length (bytes vs) ≡ length vs
-    count = length-map vs byte
+    all : length (overwrite list old) ≡ length old
+    all = length-append list (drop (length list) old) ∙ omega (arith, length-drop (length list) old)
 
-    all : length (overwrite (bytes vs) old) ≡ length old
-    all = length-append (bytes vs) (drop (length (bytes vs)) old) ∙ omega (arith, length-drop (length (bytes vs)) old, count)
+    low : (x : ℕ) → x < length list → nth new x ≡ nth (overwrite list old) x
+    low x l = known x l ∙ sym (List·getD-append list (drop (length list) old) 0 x l)
 
-    low : (x : ℕ) → x < length vs → nth new x ≡ nth (overwrite (bytes vs) old) x
-    low x l = known x l ∙ sym (List·getD-append (bytes vs) (drop (length (bytes vs)) old) 0 x (omega (arith, count)) ∙ List·getD-map byte vs x false)
-
-    high : (x : ℕ) → length vs ≤ x → nth new x ≡ nth (overwrite (bytes vs) old) x
+    high : (x : ℕ) → length list ≤ x → nth new x ≡ nth (overwrite list old) x
     high x l =
-        let e : x ≡ length (bytes vs) + (x - length (bytes vs)) = omega (arith, count) in
+        let e : x ≡ length list + (x - length list) = omega arith in
         rest x l ∙ rw e (simp (getD-append-add, getD-drop))
+
+-- one that holds all values
+pub all-known : (vs : List Bool) (old new : List ℕ) → length vs ≤ length old → ((x : ℕ) → x < length vs → nth new x ≡ byte (at vs x)) → ((x : ℕ) → length vs ≤ x → nth new x ≡ nth old x) → length new ≡ length old → new ≡ overwrite (bytes vs) old
+all-known vs old new room known rest size =
+    let count : length (bytes vs) ≡ length vs = length-map vs byte in
+    written-over (bytes vs) old new (omega arith) (λ x l. known x (omega arith) ∙ sym (List·getD-map byte vs x false)) (λ x l. rest x (omega arith)) size
 
 pub single : {table shares tape old new : List ℕ} → Evaluates table 1 shares tape old new → Bits shares → Bits tape → size (circuitIn table) ≤ length old
     → new ≡ overwrite (bytes (valuesOf (circuitIn table .wires) (bits shares) (bits tape))) old

@@ -157,7 +157,7 @@ fn add_masks(values: &[u8], first: usize, d: usize, i: usize, word: u8) -> u8
 }
 
 // REF's sums.
-fn sums(values: &mut [u8], first: usize, d: usize, randoms: usize, ops: &[u16])
+pub fn sums(values: &mut [u8], first: usize, d: usize, randoms: usize, ops: &[u16])
     requires { ⌜ Small first d × (1 + d ≤ length (now ops)) × RowBefore first d (wordA (now ops)) × (first + pairs d + d ≤ length (now values)) × (randoms ≡ pairs d) ⌝ }
     ensures { λ _. ⌜ Fills (Masked d first (wordA (now (ops .entry)))) (first + pairs d) (first + pairs d + d) (now (values .entry)) (now (values .exit)) ⌝ }
 {

@@ -26,7 +26,7 @@ pub fn bit(word: u16, ones: u8) -> u8
 }
 
 // The wire of a CON.
-fn constant(values: &mut [u8], first: usize, word: u16, ones: u8)
+pub fn constant(values: &mut [u8], first: usize, word: u16, ones: u8)
     requires { ⌜ first + 1 ≤ length (now values) ⌝ }
     ensures { λ _. ⌜ Fills (λ v. v first ≡ cond (isSet word) ones 0) first (first + 1) (now (values .entry)) (now (values .exit)) ⌝ }
 {
@@ -34,7 +34,7 @@ fn constant(values: &mut [u8], first: usize, word: u16, ones: u8)
 }
 
 // The wire of an XOR.
-fn sum(values: &mut [u8], first: usize, one: u16, other: u16)
+pub fn sum(values: &mut [u8], first: usize, one: u16, other: u16)
     requires { ⌜ (first + 1 ≤ length (now values)) × (one < first) × (other < first) ⌝ }
     ensures { λ _. ⌜ Fills (λ v. v first ≡ bitXor (v one) (v other)) first (first + 1) (now (values .entry)) (now (values .exit)) ⌝ }
 {
@@ -44,7 +44,7 @@ fn sum(values: &mut [u8], first: usize, one: u16, other: u16)
 }
 
 // The wire of a NOT.
-fn inverse(values: &mut [u8], first: usize, wire: u16, ones: u8)
+pub fn inverse(values: &mut [u8], first: usize, wire: u16, ones: u8)
     requires { ⌜ (first + 1 ≤ length (now values)) × (wire < first) ⌝ }
     ensures { λ _. ⌜ Fills (λ v. v first ≡ bitXor ones (v wire)) first (first + 1) (now (values .entry)) (now (values .exit)) ⌝ }
 {

@@ -15,7 +15,7 @@ use Rattle.frames.specs.declared.walk.Frame.the-variants as frame
 use Rattle.frames.specs.declared.walk.Step.{Step}
 use Rattle.frames.specs.declared.walk.Step.the-variants.{Next, Refused, End}
 use Rattle.frames.specs.Walk.{stepAt}
-use Rattle.gadgets.specs.Internal.Gates.{gateAt}
+use Rattle.semantics.proofs.Solving.{gateAt}
 use Rattle.gadgets.specs.Internal.Accepting.{AcceptedTable, Between}
 use Rattle.gadgets.proofs.Walking.{whole, so-far}
 use Rattle.simulation.specs.Internal.Filling.{Values, Fills}

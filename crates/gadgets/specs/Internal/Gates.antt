@@ -1,31 +1,16 @@
 -- The gates of a frame's wires, by the places of the wires.
 use mathlib.Core.Path.{_≡_}
-use mathlib.Core.Bool.{false}
 use mathlib.Core.List.{List, [], _∷_, _++_, map}
 use Prim.Native.Nat.{ℕ, _+_, _*_, _<_}
-use lib.ListN.{getD}
-use Rattle.circuit.specs.Wires.{Gate, input, constant, random, reg, inverse, sum, product, andNot, inner, Wire, _placed_}
+use Rattle.circuit.specs.Wires.{Gate, input, constant, random, reg, inverse, sum, product, andNot}
 use Rattle.circuit.specs.Gadgets.{others}
 use Rattle.circuit.specs.Kinds.{pairs}
 use Rattle.circuit.specs.Circuit.{isSet}
-use Rattle.circuit.proofs.Base.{AllFrom}
-use Rattle.semantics.proofs.Earlier.{OperandsBefore}
 use Rattle.frames.specs.declared.walk.Gate.{Gate as GateCode}
 use Rattle.frames.specs.declared.walk.Gate.the-variants as gate
 use Rattle.frames.specs.declared.walk.Frame.{Frame as FrameCode}
 use Rattle.frames.specs.declared.walk.Frame.the-variants as frame
 use Rattle.gadgets.specs.Internal.Places.{wordA, wordB, pairAt, productAt, crossAt, outAt, maskAt, sumAt, heldAt}
-
--- the gate of a wire; a constant, where there is no such wire
-abbrev pub nothing : Wire
-nothing = constant false placed inner 0
-
-abbrev pub gateAt : List Wire → ℕ → Gate
-gateAt ws x = getD ws x nothing .gate
-
--- from wire n on, every gate takes earlier wires
-abbrev pub OrderedFrom : ℕ → List Wire → Type 0
-OrderedFrom n ws = AllFrom (λ x wire. OperandsBefore x (wire .gate)) n ws
 
 -- B, m and M from a wire on, over a(i) and b(i)
 abbrev pub ProductGates : (x a b : ℕ) → (ℕ → Gate) → Type 0

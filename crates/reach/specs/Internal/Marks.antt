@@ -12,7 +12,7 @@ use Rattle.circuit.proofs.Base.{In}
 use Rattle.semantics.specs.Probes.{stops}
 use Rattle.semantics.proofs.Reading.{probe}
 use Rattle.gadgets.specs.Internal.Places.{crossStart, productAt}
-use Rattle.gadgets.specs.Internal.Gates.{gateAt, OrderedFrom}
+use Rattle.semantics.proofs.Solving.{gateAt, OrderedFrom}
 
 -- a mark on each wire of a list
 abbrev pub markAll : List ℕ → List ℕ → List ℕ

@@ -23,15 +23,19 @@ use Rattle.simulation.specs.Internal.Evaluating.{packed, Packs, Evaluabl
 abbrev pub valuesAt : (ws : List Wire) (n : ℕ) (sharings tapes : ℕ → List Bool) → Values
 valuesAt ws n sharings tapes x = packed n (λ l. at (valuesOf ws (sharings l) (tapes l)) x)
 
--- the values of the frames before the walk's place are filled in
-pub record FilledTo (table : List ℕ) (ones : ℕ) (shares tape old values : List ℕ) (place w from used : ℕ) : Type 0 where
-  pub evaluable : Evaluable table shares tape (length old)
+-- where a walk over an accepted table stands, and how many wires, shares and random bits come before it
+pub record WalkedTo (table shares tape : List ℕ) (room place w from used : ℕ) : Type 0 where
+  pub evaluable : Evaluable table shares tape room
   pub between : Between table (evaluable .accepted .fs) place
   pub wires-are : w ≡ size (so-far (evaluable .accepted) between)
   pub from-are : from ≡ so-far (evaluable .accepted) between .inputs * evaluable .accepted .d
   pub used-are : used ≡ so-far (evaluable .accepted) between .randoms
+
+-- the values of the frames before the walk's place are filled in
+pub record FilledTo (table : List ℕ) (ones : ℕ) (shares tape old values : List ℕ) (place w from used : ℕ) : Type 0 where
+  pub walked : WalkedTo table shares tape (length old) place w from used
   pub known : (n : ℕ) (sharings tapes : ℕ → List Bool) → ones ≡ packed n (λ l. true) → Packs n sharings shares → Packs n tapes tape
-      → Known (valuesAt (whole (evaluable .accepted) .wires) n sharings tapes) 0 w values
+      → Known (valuesAt (whole (walked .evaluable .accepted) .wires) n sharings tapes) 0 w values
   pub above : (x : ℕ) → w ≤ x → nth values x ≡ nth old x
   pub sized : length values ≡ length old
 

@@ -28,9 +28,9 @@ write-listed-spec =
     tie.close
     (tie.spec
     (λ c. search needs) (λ c. search needs) (λ c κs. search needs) (λ c. search needs) (λ c. search needs)
-    (λ c. omega (arith, headed (start c .pre .0 .1 .evaluable .accepted)))
-    (λ c. record { fits = omega (arith, second-word (start c .pre .0 .1 .evaluable .accepted), start c .pre .0 .1 .evaluable .accepted .most) })
+    (λ c. omega (arith, headed (start c .pre .0 .1 .walked .evaluable .accepted)))
+    (λ c. record { fits = omega (arith, second-word (start c .pre .0 .1 .walked .evaluable .accepted), start c .pre .0 .1 .walked .evaluable .accepted .most) })
     (λ c κs. let s = start (c .before) in input-asks (s .pre .0 .1) (s .pre .1) (c .before .before .if1 .left))
-    (λ c. let s = start (c .before .before .before .before .before) in let a = s .pre .0 .1 .evaluable .accepted in record { fits = omega (arith, first-few (s .pre .0 .1), second-word a, a .most) })
+    (λ c. let s = start (c .before .before .before .before .before) in let a = s .pre .0 .1 .walked .evaluable .accepted in record { fits = omega (arith, first-few (s .pre .0 .1), second-word a, a .most) })
     (λ c. search needs)
     returns-2)

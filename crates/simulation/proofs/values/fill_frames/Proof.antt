@@ -14,7 +14,8 @@ use Rattle.simulation.proofs.values.fill_frames.Statement.{statement}
 use Rattle.simulation.proofs.values.fill_frames.Tie as tie
 use Rattle.gadgets.proofs.Walking.{headed, second-word, given-bits, Met}
 use Rattle.simulation.specs.Internal.Walked.{FilledTo}
-use Rattle.simulation.proofs.Evaluating.{room-in, inputs-in, draws-in, FillingTo, filling-start, filling-answers, filling-next, filling-end, filling-done}
+use Rattle.simulation.proofs.Walked.{room-in, inputs-in, draws-in}
+use Rattle.simulation.proofs.Evaluating.{FillingTo, filling-start, filling-answers, filling-next, filling-end, filling-done}
 
 abbrev Inv-loop : tie.InvT-loop
 Inv-loop table end ones shares tape values₀ d n randoms walk₀ first₀ from₀ used₀ values walk first from used = FillingTo table ones shares tape values₀ (walk₀ .at) first₀ from₀ used₀ end values walk first from used
@@ -27,7 +28,7 @@ start c = c .before .before .before .before .before .before .before
 
 -- the random bits that the step is given are those of a gadget
 given : (c : tie.At-loop Inv-loop μ-loop) → c .before .random-bits .result ≡ pairs (c .loop .walk .d)
-given c = given-bits (start c .pre .1 .evaluable .accepted) (c .before .random-bits .ensures .0) (c .loop .inv .d-is)
+given c = given-bits (start c .pre .1 .walked .evaluable .accepted) (c .before .random-bits .ensures .0) (c .loop .inv .d-is)
 
 -- what the step answers
 answer : (c : tie.After-step Inv-loop μ-loop) → let h = c .before in c .step .result ≡ stepAt (start h .args .table .now) (h .loop .walk .d) (h .loop .walk .at)
@@ -41,7 +42,7 @@ so-far c = c .loop .inv .filled (start c .pre .0) (start c .pre .1)
 abbrev head : tie.After-step2 Inv-loop μ-loop → tie.At-loop Inv-loop μ-loop
 head c = c .before .before .before
 
-met : (c : tie.After-step2 Inv-loop μ-loop) → let h = head c in let f = so-far h in let g = c .step2 .given .0 in
+met : (c : tie.After-step2 Inv-loop μ-loop) → let h = head c in let f = so-far h .walked in let g = c .step2 .given .0 in
     Met (f .evaluable .accepted) (f .between) (nth (start h .args .table .now) 1) (h .loop .first) (h .loop .from) (g .0) (g .1 .0) (g .1 .1 .0)
 met c = let h = head c in filling-answers (h .loop .inv) (start h .pre .0) (start h .pre .1) (sym (answer (c .before .before)) ∙ c .step2 .given .1)
 
@@ -56,14 +57,14 @@ record Counts (c : tie.After-step2 Inv-loop μ-loop) : Type 0 where
   randoms : head c .loop .used + c .step2 .given .0 .1 .0 .randoms ≤ length (start (head c) .args .tape .now)
 
 counts : (c : tie.After-step2 Inv-loop μ-loop) → Counts c
-counts c = let f = so-far (head c) in record { wires = met c .few; shares = inputs-in f (second-word (f .evaluable .accepted)) (met c); randoms = draws-in f (second-word (f .evaluable .accepted)) (met c) }
+counts c = let f = so-far (head c) .walked in record { wires = met c .few; shares = inputs-in f (second-word (f .evaluable .accepted)) (met c); randoms = draws-in f (second-word (f .evaluable .accepted)) (met c) }
 
 write-frame-requires : tie.Need-write-frame-requires Inv-loop μ-loop
 write-frame-requires c κs =
     let t = c .before .before .before in
     let f = so-far (head t) in
     let m = met t in
-    (m .small, room-in f (second-word (f .evaluable .accepted)) m, rw (words (c .before)) (m .early), m .supplied _ _ _ (counts t .shares) (counts t .randoms), given (head t) ∙ ap pairs (head t .loop .inv .d-is))
+    (m .small, omega (arith, room-in (f .walked) (second-word (f .walked .evaluable .accepted)) m, f .sized), rw (words (c .before)) (m .early), m .supplied _ _ _ (counts t .shares) (counts t .randoms), given (head t) ∙ ap pairs (head t .loop .inv .d-is))
 
 abbrev turn : tie.After-struct-known3 Inv-loop μ-loop → tie.After-step2 Inv-loop μ-loop
 turn c = c .before .before .before .before .before .before .before .before .before
@@ -92,8 +93,8 @@ fill-frames-spec =
     (tie.spec
     Inv-loop
     μ-loop
-    (λ c. omega (arith, headed (c .before .before .before .before .before .pre .1 .evaluable .accepted)))
-    (λ c. record { fits = omega (arith, second-word (c .before .before .before .before .before .pre .1 .evaluable .accepted)) })
+    (λ c. omega (arith, headed (c .before .before .before .before .before .pre .1 .walked .evaluable .accepted)))
+    (λ c. record { fits = omega (arith, second-word (c .before .before .before .before .before .pre .1 .walked .evaluable .accepted)) })
     (λ c κs. search needs)
     (λ c. filling-start _ _ _ _ _ _ _ _ _ _ refl)
     (λ c κs. search needs) (λ c. search needs) (λ c κs. search needs)

@@ -7,22 +7,33 @@ use Prim.Native.Nat.{ℕ, zero, suc, _+_, _<_}
 use native.Mathlib.Nat.{zero-add}
 use native.Mathlib.Numerals.{add-one}
 use native.Mathlib.Omega.{arith}
-use lib.ListN.{length, take, drop, length-append, List·getD-append}
+use lib.ListN.{length, getD, take, drop, length-append, List·getD-append}
 use lib.Seq.{drop-drop, take-suc, getD-append-add}
 use Rattle.circuit.specs.Lists.{_⊕_}
-use Rattle.circuit.specs.Wires.{Gate, input, constant, random, reg, inverse, sum, product, andNot, Wire}
-use Rattle.circuit.proofs.Base.{Every, every-imp}
+use Rattle.circuit.specs.Wires.{Gate, input, constant, random, reg, inverse, sum, product, andNot, inner, Wire, _placed_}
+use Rattle.circuit.proofs.Base.{Every, every-imp, AllFrom}
 use Rattle.semantics.specs.Values.{at, xorSum, value, isRandom, valuesFrom, valuesOf}
 use Rattle.semantics.specs.Probes.{operands}
 use Rattle.semantics.proofs.Randoms.{randomsIn, randoms-append}
-use Rattle.gadgets.specs.Internal.Gates.{nothing, gateAt, OrderedFrom}
+use Rattle.semantics.proofs.Earlier.{OperandsBefore}
+
+-- the gate of a wire; a constant, where there is no such wire
+abbrev pub nothing : Wire
+nothing = constant false placed inner 0
+
+abbrev pub gateAt : List Wire → ℕ → Gate
+gateAt ws x = getD ws x nothing .gate
+
+-- from wire n on, every gate takes earlier wires
+abbrev pub OrderedFrom : ℕ → List Wire → Type 0
+OrderedFrom n ws = AllFrom (λ x wire. OperandsBefore x (wire .gate)) n ws
 
 -- a gate's value depends on the values of the wires it takes alone
 xorSum-same : (f g : ℕ → Bool) (xs : List ℕ) → Every (λ y. f y ≡ g y) xs → xorSum xs f ≡ xorSum xs g
 xorSum-same f g [] h = refl
 xorSum-same f g (x ∷ xs) h = ap₂ (λ p q. p ⊕ q) (h .0) (xorSum-same f g xs (h .1))
 
-value-same : (g : Gate) (f f′ : ℕ → Bool) (shares tape : List Bool) → Every (λ y. f y ≡ f′ y) (operands g) → value g f shares tape ≡ value g f′ shares tape
+pub value-same : (g : Gate) (f f′ : ℕ → Bool) (shares tape : List Bool) → Every (λ y. f y ≡ f′ y) (operands g) → value g f shares tape ≡ value g f′ shares tape
 value-same (input n) f f′ shares tape h = refl
 value-same (constant b) f f′ shares tape h = refl
 value-same random f f′ shares tape h = refl

@@ -19,8 +19,8 @@ use Rattle.checker.specs.Answers.{answerOf, inputsAre}
 use Rattle.gadgets.proofs.Walking.{headed}
 use Rattle.evaluation.specs.Internal.Calling.{Shortest, Judged}
 use Rattle.evaluation.specs.Internal.Refusing.{refusal}
-use Rattle.evaluation.proofs.judge.Statement.{statement}
-use Rattle.evaluation.proofs.judge.Tie as tie
+use Rattle.evaluation.proofs.rules.judge.Statement.{statement}
+use Rattle.evaluation.proofs.rules.judge.Tie as tie
 use Rattle.evaluation.proofs.Answering.{then-none, Taken, taken, refused-first, rules-left, kept, broken, none-found, first-found}
 
 -- behind the check: the table's circuit, and a judgement that the call comes to
