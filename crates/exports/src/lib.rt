@@ -8,6 +8,7 @@ ghost use lib.ListN.{length};
 ghost use Rattle.circuit.specs.Rules.{checked};
 ghost use Rattle.circuit.specs.Answer.{refused, verdictOf, notesAfter};
 ghost use Rattle.semantics.specs.Calls.{written, callRule, callAnswer, callNotes, valueBytes, readingBytes};
+ghost use Rattle.semantics.specs.Clock.{clockAnswer, valuesAfter, bankAfter};
 ghost use Rattle.text.specs.Reader.{readText};
 ghost use Rattle.text.specs.Answer.{textAnswer, textAnswerOf, tableAfter};
 ghost use Rattle.writer.specs.Writer.{writeAnswer, textAfter};
@@ -181,6 +182,28 @@ pub extern "C" fn masked_read_probes(
         (readingBytes (now (table .entry)) (now (notes .entry)) (now (shares .entry)) (now (tape .entry)) (now (probes .entry))) (now (reading .entry)) ⌝ }
 {
     let verdict = evaluation::read_probes(table, notes, shares, tape, values, probes, reading);
+    put(verdict, a, b, c)
+}
+
+// clock::step
+#[no_mangle]
+pub extern "C" fn masked_clock(
+    table: &[u16],
+    notes: &mut [u16],
+    shares: &[u8],
+    tape: &[u8],
+    values: &mut [u8],
+    bank: &mut [u8],
+    a: &mut u64,
+    b: &mut u64,
+    c: &mut u64,
+) -> u64
+    ensures answered { λ r. ⌜ AnswerIs (clockAnswer (now (table .entry)) (now (notes .entry)) (now (shares .entry)) (now (tape .entry)) (now (values .entry)) (now (bank .entry))) r (now (a .exit)) (now (b .exit)) (now (c .exit)) ⌝ }
+    ensures noted { λ _. ⌜ now (notes .exit) ≡ callNotes (now (table .entry)) (now (notes .entry)) (now (shares .entry)) (now (tape .entry)) ⌝ }
+    ensures valued { λ _. ⌜ now (values .exit) ≡ valuesAfter (now (table .entry)) (now (notes .entry)) (now (shares .entry)) (now (tape .entry)) (now (values .entry)) (now (bank .entry)) ⌝ }
+    ensures banked { λ _. ⌜ now (bank .exit) ≡ bankAfter (now (table .entry)) (now (notes .entry)) (now (shares .entry)) (now (tape .entry)) (now (values .entry)) (now (bank .entry)) ⌝ }
+{
+    let verdict = clock::step(table, notes, shares, tape, values, bank);
     put(verdict, a, b, c)
 }
 

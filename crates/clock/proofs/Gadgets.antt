@@ -1,0 +1,63 @@
+-- AND and REF on a clock, from their parts.
+use mathlib.Core.Path.{_≡_, sym, ap, subst, _∙_}
+use mathlib.Core.List.{List}
+use Prim.Native.Nat.{ℕ, _+_, _-_, _*_, _≤_, _<_}
+use native.Mathlib.Omega.{arith}
+use lib.Bits.{bitXor}
+use lib.ListN.{length}
+use Rattle.circuit.specs.Lists.{nth}
+use Rattle.circuit.specs.Gadgets.{others}
+use Rattle.circuit.specs.Kinds.{pairs}
+use Rattle.circuit.proofs.Sizes.{pairs-twice}
+use Rattle.semantics.specs.Clock.{isRegister}
+use Rattle.frames.specs.declared.walk.Frame.the-variants as frame
+use Rattle.gadgets.specs.Internal.Places.{wordA, wordB, productAt, crossStart, outAt, maskAt, sumAt, heldAt}
+use Rattle.simulation.specs.Internal.Filling.{Fills, Copied, Masked}
+use Rattle.simulation.proofs.Adding.{wordSum-map}
+use Rattle.clock.specs.Internal.Running.{Clock, Upto, Runs}
+use Rattle.clock.specs.Internal.Parts.{Draws, Products, Rows, Holds, Framed}
+use Rattle.clock.proofs.Wires.{met, fill, upto-at}
+
+-- AND: r and R, then B, m and M, then the rows and the outputs
+pub and-runs : (d first used randoms : ℕ) (ops tape : List ℕ) → randoms ≡ pairs d → {values bank one oneBank two twoBank new newBank : List ℕ}
+    → Runs (Draws tape used first randoms) first (first + 2 * randoms) values bank one oneBank
+    → Runs (Products d first (wordA ops) (wordB d ops)) (productAt d first 0) (productAt d first d) one oneBank two twoBank
+    → Runs (Rows d first (wordA ops) (wordB d ops)) (first + crossStart d 0) (outAt d first d) two twoBank new newBank
+    → Runs (Framed frame.And d first 0 used ops tape tape) first (first + (7 * (d * (d - 1)) + 4 * d)) values bank new newBank
+and-runs d first used randoms ops tape same draws products rows =
+    let twice = pairs-twice d in
+    record {
+      on = λ k g u.
+          let gates = g .1 in
+          let room : outAt d first d ≤ k .size = omega (arith, g .0) in
+          let drawn = draws .on k (omega (arith, twice), λ q l. let h : q < pairs d = omega arith in (gates .draws q h .0, gates .draws q h .1, g .2 q h)) u in
+          let multiplied = products .on k (omega arith, gates .products) (upto-at (omega (arith, twice)) drawn) in
+          upto-at (omega arith) (rows .on k (room, gates .crosses, gates .outs) (upto-at (omega arith) multiplied));
+      sized = rows .sized ∙ products .sized ∙ draws .sized;
+      held-sized = rows .held-sized ∙ products .held-sized ∙ draws .held-sized;
+    }
+
+-- REF: its random bits and its sums are filled in, then its outputs
+pub ref-runs : (d first used randoms : ℕ) (ops tape : List ℕ) → randoms ≡ pairs d → {values bank one two newBank : List ℕ}
+    → Fills (Copied tape used first randoms) first (first + randoms) values one
+    → Fills (Masked d first (wordA ops)) (first + pairs d) (first + pairs d + d) one two
+    → Runs (Holds d first) (heldAt d first 0) (heldAt d first d) two bank two newBank
+    → Runs (Framed frame.Ref d first 0 used ops tape tape) first (first + (pairs d + 2 * d)) values bank two newBank
+ref-runs d first used randoms ops tape same copied masked holds = record {
+  on = λ k g u.
+      let gates = g .1 in
+      let room : heldAt d first d ≤ k .size = omega (arith, g .0) in
+      let drawn = fill u copied (omega arith) (omega arith) (λ q l. g .2 q (omega arith)) (λ x l m.
+      let q = x - first in
+      let at : x ≡ first + q = omega arith in
+      ap (λ y. isRegister (k .gate y)) at ∙ ap isRegister (gates .draws q (omega arith))) in
+      let sums : (i : ℕ) → i < d → k .shows (sumAt d first i) ≡ bitXor (k .shows (wordA ops i)) _ = λ i l.
+      met k (sumAt d first i) (omega arith) (gates .sums i l) ∙ ap (bitXor (k .shows (wordA ops i))) (wordSum-map (k .shows) (λ j. maskAt d first i j) (others d i)) in
+      let added = fill (upto-at (omega arith) drawn) masked (omega arith) (omega arith) sums (λ x l m.
+      let i = x - (first + pairs d) in
+      let at : x ≡ sumAt d first i = omega arith in
+      ap (λ y. isRegister (k .gate y)) at ∙ ap isRegister (gates .sums i (omega arith))) in
+      upto-at (omega arith) (holds .on k (room, gates .holds) (upto-at (omega arith) added));
+  sized = masked .size ∙ copied .size;
+  held-sized = holds .held-sized;
+}
