@@ -8,6 +8,7 @@
 
 static uint16_t table[MASKED_MOST_WORDS], notes[MASKED_NOTES_WORDS + 2];
 static uint8_t values[MASKED_MOST_WIRES + 2], reading[MASKED_MOST_WIRES + 2], text[MASKED_TEXT_BYTES + 2];
+static uint8_t bank[MASKED_MOST_WIRES + 2];
 static uint32_t counts[MASKED_COUNTS_NUMBERS + 2];
 static uint64_t a, b, c;
 static int passed, failed;
@@ -88,6 +89,15 @@ static void empty_slices(void)
     answer("count, no secrets and probes",
            masked_count(table, words, notes, MASKED_NOTES_WORDS, NULL, 0, NULL, 0, counts, MASKED_COUNTS_NUMBERS, &a, &b, &c),
            MASKED_ACCEPTED, 0, 1, 1);
+    answer("clock, all null", masked_clock(NULL, 0, NULL, 0, NULL, 0, NULL, 0, NULL, 0, NULL, 0, &a, &b, &c),
+           MASKED_NOTES_TOO_SHORT, 0, 0, 0);
+    answer("clock, no bank",
+           masked_clock(table, words, notes, MASKED_NOTES_WORDS, NULL, 0, NULL, 0, values, MASKED_MOST_WIRES, NULL, 0, &a, &b, &c),
+           MASKED_BUFFER_TOO_SHORT, 0, 0, 0);
+    answer("clock, no shares and tape",
+           masked_clock(table, words, notes, MASKED_NOTES_WORDS, NULL, 0, NULL, 0, values, MASKED_MOST_WIRES, bank, MASKED_MOST_WIRES,
+                        &a, &b, &c),
+           MASKED_ACCEPTED, 0, 0, 0);
 }
 
 static void buffers(void)
@@ -207,12 +217,74 @@ static void counted(void)
     is("24 leaves the counts", kept(counts, 0, sizeof counts));
 }
 
+/* One clock of circuit A on shares and tape of the lengths told; the values are junk before it, the bank is as it is. */
+static uint64_t step(size_t words, const uint8_t *shares, size_t length, const uint8_t *tape, size_t bits, size_t room, size_t banked)
+{
+    junk();
+    return masked_clock(table, words, notes, MASKED_NOTES_WORDS, shares, length, tape, bits, values, room, bank, banked, &a, &b, &c);
+}
+
+/* The bank of circuit A before the first clock: 0 for the registers, junk for all others, also behind the last wire. */
+static const uint8_t registers[] = {5, 6, 8, 9, 11, 13, 15, 17, 19, 21, 23, 26, 27};
+
+static void empty_bank(void)
+{
+    memset(bank, JUNK, sizeof bank);
+    for (size_t i = 0; i < sizeof registers; i++)
+        bank[registers[i]] = 0;
+}
+
+/* The registers of the bank as digits, in rising order, and the other bytes as they were. */
+static int banked(const char *digits)
+{
+    size_t next = 0;
+    for (size_t wire = 0; wire < sizeof bank; wire++)
+        if (next < sizeof registers && wire == registers[next] ? bank[wire] != digits[next++] - '0' : bank[wire] != JUNK)
+            return 0;
+    return 1;
+}
+
+/* Four clocks on the bits of case A1: each wire of stage t has its value from clock t on. Then each rule of the call. */
+static void clocked(void)
+{
+    const uint8_t shares[] = {1, 0, 1, 1}, tape[] = {1}, two[] = {2}, wrong[] = {1, 0, 1, 2};
+    const char *banks[] = {"1101000000000", "1111000010000", "1111000010011", "1111000010011"};
+    const char *outputs[] = {"0000", "0000", "1100", "1111"};
+    size_t words = read_text(circuit_a);
+    empty_bank();
+    for (size_t k = 0; k < 4; k++) {
+        answer("a clock", step(words, shares, 4, tape, 1, sizeof values, k % 2 ? MASKED_MOST_WIRES : sizeof bank),
+               MASKED_ACCEPTED, 28, 1, 3);
+        for (size_t i = 0; i < 4; i++)
+            is("products and their registers", values[24 + i] == outputs[k][i] - '0');
+        is("inputs, and the values behind", values[0] == 1 && values[1] == 0 && values[4] == 1 && kept(values, 28, sizeof values));
+        is("the bank after it", banked(banks[k]));
+        is("its notes", noted());
+    }
+    answer("clock, rule 15", step(words, shares, 3, two, 2, 8191, 8191), MASKED_SHARES_LENGTH, 0, 0, 0);
+    answer("clock, rule 16", step(words, wrong, 4, two, 0, 8191, 8191), MASKED_TAPE_LENGTH, 0, 0, 0);
+    answer("clock, rule 17, values", step(words, wrong, 4, two, 1, 8191, 8192), MASKED_BUFFER_TOO_SHORT, 0, 0, 0);
+    answer("clock, rule 17, bank", step(words, wrong, 4, two, 1, 8192, 8191), MASKED_BUFFER_TOO_SHORT, 0, 0, 0);
+    answer("clock, rule 18, shares", step(words, wrong, 4, two, 1, 8192, 8192), MASKED_BYTE_NOT_A_BIT, 0, 3, 0);
+    answer("clock, rule 18, tape", step(words, shares, 4, two, 1, 8192, 8192), MASKED_BYTE_NOT_A_BIT, 0, 4, 0);
+    is("a refusal is no clock", banked(banks[3]) && kept(values, 0, sizeof values) && noted());
+    bank[27] = bank[8] = 2;
+    answer("clock, rule 18, bank", step(words, shares, 4, tape, 1, 8192, 8192), MASKED_BYTE_NOT_A_BIT, 0, 5 + 8, 0);
+    bank[8] = 1;
+    answer("clock, rule 18, the last register", step(words, shares, 4, tape, 1, 8192, 8192), MASKED_BYTE_NOT_A_BIT, 0, 5 + 27, 0);
+    is("18 leaves the bank", bank[27] == 2 && bank[8] == 1 && kept(values, 0, sizeof values));
+    table[words - 1] = 24;
+    answer("rule 10, clocked", step(words, wrong, 3, two, 2, 8191, 8191), MASKED_WRONG_LABEL, 6, 2, 0);
+    is("10 leaves bank and values", bank[27] == 2 && kept(values, 0, sizeof values));
+}
+
 int main(void)
 {
     empty_slices();
     buffers();
     texts();
     counted();
+    clocked();
     printf("calls.c: %d passed, %d failed\n", passed, failed);
     return failed != 0;
 }

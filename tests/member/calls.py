@@ -2,6 +2,7 @@
 from __future__ import annotations
 
 import ctypes
+import random
 import subprocess
 import sys
 import unittest
@@ -15,6 +16,7 @@ import masked
 
 TEXT = (ROOT / "examples" / "circuit-a.hex").read_bytes()
 TABLE = masked.read_text(TEXT)
+REGISTERS = (5, 6, 8, 9, 11, 13, 15, 17, 19, 21, 23, 26, 27)
 A1 = [1, 0, 1, 1, 1, 1, 1, 1, 1, 1, 0, 0, 0, 0, 0, 0, 0, 0, 1, 1, 0, 0, 0, 0, 1, 1, 1, 1]
 
 
@@ -52,6 +54,42 @@ class Functions(unittest.TestCase):
         self.refused(15, 0, 0, masked.evaluate, TABLE, [1, 0, 1], [1])
         self.refused(18, 0, 4, masked.evaluate, TABLE, [1, 0, 1, 1], [2])
         self.refused(17, 0, 0, masked.evaluate, TABLE, [1, 0, 1, 1], [1], bytearray(8191))
+
+    def test_clock(self) -> None:
+        """Case A1 on every clock: wires of stage t have its values from clock t on, and the bank those of registers alone."""
+        values, notes, bank = bytearray(b"\xa5" * masked.MOST_WIRES), words(masked.NOTES_WORDS), masked.new_bank()
+        self.assertEqual(bytearray(8192), bank)
+        bank[0] = bank[24] = bank[28] = 0xA5
+        for clock in range(4):
+            self.assertEqual((28, 1, 3), masked.clock(TABLE, [1, 0, 1, 1], [1], bank, values, notes))
+            self.assertEqual([int(clock >= 2)] * 2 + [int(clock >= 3)] * 2, list(values[24:28]))
+        self.assertEqual(A1, list(values[:28]))
+        self.assertEqual((0xA5, (1, 3, True)), (values[28], masked.place(notes, 27)))
+        self.assertEqual([A1[wire] if wire in REGISTERS else 0xA5 * (wire in (0, 24)) for wire in range(28)], list(bank[:28]))
+        before = bytes(bank)
+        self.refused(15, 0, 0, masked.clock, TABLE, [1, 0, 1], [2], bank)
+        self.refused(16, 0, 0, masked.clock, TABLE, [1, 0, 1, 2], [], bank, values)
+        self.refused(17, 0, 0, masked.clock, TABLE, [1, 0, 1, 2], [2], bank, bytearray(8191))
+        self.refused(18, 0, 4, masked.clock, TABLE, [1, 0, 1, 1], [2], bank, values)
+        self.refused(22, 6, 1, masked.clock, list(TABLE[:-2]) + [24, 25], [], [], bank, values)
+        self.assertEqual((before, A1), (bytes(bank), list(values[:28])))
+        self.refused(17, 0, 0, masked.clock, TABLE, [1, 0, 1, 2], [2], bytearray(8191))
+        bank[5] = 2
+        self.refused(18, 0, 4 + 1 + 5, masked.clock, TABLE, [1, 0, 1, 1], [1], bank, values)
+
+    def test_clock_after_clock(self) -> None:
+        """The OUT shows set j on clock j+3, from any bank; a refused call is no clock."""
+        draw, values = random.Random(1), bytearray(masked.MOST_WIRES)
+        for bank in (masked.new_bank(), bytearray(draw.getrandbits(1) for _ in range(8192))):
+            feed = [([draw.getrandbits(1) for _ in range(4)], [draw.getrandbits(1)]) for _ in range(20)]
+            shown = []
+            for shares, tape in feed:
+                masked.clock(TABLE, shares, tape, bank, values)
+                shown.append(values[26:28])
+                self.refused(15, 0, 0, masked.clock, TABLE, [], tape, bank, values)
+            for number in range(17):
+                masked.evaluate(TABLE, feed[number + 1][0][:2] + feed[number][0][2:], feed[number][1], values)
+                self.assertEqual(values[26:28], shown[number + 3])
 
     def test_read_probes(self) -> None:
         reading = bytearray(masked.MOST_WIRES)
@@ -109,6 +147,9 @@ class Functions(unittest.TestCase):
                 masked.check(TABLE, wrong)
         with self.assertRaises(TypeError):
             masked.evaluate(TABLE, [1, 0, 1, 1], [1], bytes(8192))
+        for wrong in (bytes(8192), words(4096), None):
+            with self.assertRaises(TypeError):
+                masked.clock(TABLE, [1, 0, 1, 1], [1], wrong)
         with self.assertRaises(TypeError):
             masked.write_text(TABLE, words(100))
         for wrong in (bytearray(1024), words(2048), array("Q", bytes(8192))):
@@ -118,9 +159,9 @@ class Functions(unittest.TestCase):
     def test_its_own_example(self) -> None:
         """The example of the module's first lines runs."""
         example = "".join(line[4:] + "\n" for line in masked.__doc__.splitlines() if line.startswith("    "))
-        script = f"import sys; sys.path.insert(0, 'bindings/python')\n{example}print(values[24], [reading[w] for w in (8, 13, 17)], len(text), counted.rows[0])"
+        script = f"import sys; sys.path.insert(0, 'bindings/python')\n{example}print(values[24], [reading[w] for w in (8, 13, 17)], list(values[26:28]), len(text), counted.rows[0])"
         done = subprocess.run([sys.executable, "-c", script], cwd=ROOT, capture_output=True, text=True, check=True)
-        self.assertEqual("1 [1, 0, 0] 95 (4, 0, 500, 0)\n", done.stdout)
+        self.assertEqual("1 [1, 0, 0] [1, 1] 95 (4, 0, 500, 0)\n", done.stdout)
 
 
 class Null(unittest.TestCase):
@@ -146,6 +187,9 @@ class Null(unittest.TestCase):
         self.assertEqual([17, 0, 0, 0], self.call("masked_evaluate", head, notes, None, None, None))
         self.assertEqual([0, 0, 0, 0], self.call("masked_read_probes", head, notes, None, None, values, None, reading))
         self.assertEqual({2}, set(reading))
+        self.assertEqual([0, 0, 0, 0], self.call("masked_clock", head, notes, None, None, values, bytearray(8192)))
+        self.assertEqual([17, 0, 0, 0], self.call("masked_clock", head, notes, None, None, values, None))
+        self.assertEqual([17, 0, 0, 0], self.call("masked_clock", head, notes, None, None, None, bytearray(8192)))
         self.assertEqual([3, 0, 0], self.call("masked_read_text", None, table, numbers=2))
         self.assertEqual([21, 0, 0], self.call("masked_read_text", bytearray(b"0000 0002\n"), None, numbers=2))
         self.assertEqual([3, 0, 0, 0], self.call("masked_write_text", None, notes, None))

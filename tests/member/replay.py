@@ -1,6 +1,6 @@
 """Replays transcripts: runs each command of a file and compares what it writes with what stands below it.
 
-    replay.py FILE..          compares; in a Markdown file, the commands ./judge and ./show of its code blocks
+    replay.py FILE..          compares; in a Markdown file, the commands ./judge, ./show and cat of its code blocks
     replay.py --write FILE    writes anew what stands below each command
 
 A command's line begins with `$ `; it is run by bash at the repository's top, both outputs together. Another exit status than 0 is
@@ -34,7 +34,7 @@ def steps_of(path: Path) -> list[tuple[str, str]]:
     if path.suffix != ".md":
         return steps(text)
     blocks = re.findall(r"^```\n(.*?)^```$", text, flags=re.MULTILINE | re.DOTALL)
-    return [step for block in blocks for step in steps(block) if step[0].startswith(("./judge", "./show"))]
+    return [step for block in blocks for step in steps(block) if step[0].startswith(("./judge", "./show", "cat "))]
 
 
 def main() -> int:

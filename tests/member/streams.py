@@ -60,6 +60,8 @@ def main() -> int:
          (2, "", "judge: standard input: not all of it could be read (Connection reset by peer)\n")),
         ("show, the same", of_a_reset(["./show", "wires", "-"]), (2, "", "show: standard input: Connection reset by peer\n")),
         ("show text, the same", of_a_reset(["./show", "text", "-"]), (2, "", "show: standard input: Connection reset by peer\n")),
+        ("show clocks, the same in its feed", of_a_reset(["./show", "clocks", "examples/circuit-a.hex", "--feed", "-"]),
+         (2, "", "show: standard input: Connection reset by peer\n")),
         ("judge at a terminal", at_a_terminal(),
          (0, accepted, "judge: reading the circuit from standard input; Ctrl-D ends it\n")),
     ]

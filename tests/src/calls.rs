@@ -1,8 +1,8 @@
 //! The open calls, so that one test can run any program behind them.
 
 /// The calls by their names, in the order of the trait.
-pub const NAMES: [&str; 6] =
-    ["check", "evaluate", "read_probes", "read_text", "write_text", "count"];
+pub const NAMES: [&str; 7] =
+    ["check", "evaluate", "read_probes", "read_text", "write_text", "count", "clock"];
 
 /// What a call gives back: 0 and its numbers, or the rule and its spot.
 #[derive(Clone, Copy, Debug, PartialEq, Eq)]
@@ -52,5 +52,15 @@ pub trait Calls {
         secrets: &[u8],
         probes: &[u16],
         counts: &mut [u32],
+    ) -> Answer;
+
+    fn clock(
+        &self,
+        table: &[u16],
+        notes: &mut [u16],
+        shares: &[u8],
+        tape: &[u8],
+        values: &mut [u8],
+        bank: &mut [u8],
     ) -> Answer;
 }

@@ -79,6 +79,23 @@ extern "C" {
         b: *mut u64,
         c: *mut u64,
     ) -> u64;
+    fn masked_clock(
+        table: *const u16,
+        table_len: usize,
+        notes: *mut u16,
+        notes_len: usize,
+        shares: *const u8,
+        shares_len: usize,
+        tape: *const u8,
+        tape_len: usize,
+        values: *mut u8,
+        values_len: usize,
+        bank: *mut u8,
+        bank_len: usize,
+        a: *mut u64,
+        b: *mut u64,
+        c: *mut u64,
+    ) -> u64;
 }
 
 /// What the numbers hold before a call: each must be written by it.
@@ -221,6 +238,38 @@ impl Calls for Proved {
                 probes.len(),
                 counts.as_mut_ptr(),
                 counts.len(),
+                &mut a,
+                &mut b,
+                &mut c,
+            )
+        };
+        Answer { result, numbers: [a, b, c] }
+    }
+
+    fn clock(
+        &self,
+        table: &[u16],
+        notes: &mut [u16],
+        shares: &[u8],
+        tape: &[u8],
+        values: &mut [u8],
+        bank: &mut [u8],
+    ) -> Answer {
+        let [mut a, mut b, mut c] = [JUNK; 3];
+        let result = unsafe {
+            masked_clock(
+                table.as_ptr(),
+                table.len(),
+                notes.as_mut_ptr(),
+                notes.len(),
+                shares.as_ptr(),
+                shares.len(),
+                tape.as_ptr(),
+                tape.len(),
+                values.as_mut_ptr(),
+                values.len(),
+                bank.as_mut_ptr(),
+                bank.len(),
                 &mut a,
                 &mut b,
                 &mut c,

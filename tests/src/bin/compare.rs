@@ -1,6 +1,8 @@
 //! Random cases through the reference and the proved code: answers and every byte of every buffer. Each text that is written
-//! is read back, each count is added up, and each latency is held to where INs and OUTs stand.
+//! is read back, each count is added up, each latency is held to where INs and OUTs stand, and clocks go in runs.
+use masked_tests::buffers::{difference, GUARD};
 use masked_tests::calls::{Answer, Calls, NAMES};
+use masked_tests::clocks::Clocks;
 use masked_tests::generate::case::{case, Case};
 use masked_tests::generate::counting::Counting;
 use masked_tests::generate::random::Random;
@@ -12,13 +14,12 @@ use masked_tests::spans::Spans;
 use std::process::exit;
 
 const CALLS: usize = NAMES.len();
-/// The numbers of write_text and count in NAMES.
+/// The numbers of write_text, count and clock in NAMES.
 const WRITE_TEXT: usize = 4;
 const COUNT: usize = 5;
+const CLOCK: usize = 6;
 /// The results that a call may have: accepted, and the rules' numbers.
 const RULES: usize = 26;
-/// Bytes or words of junk before and after each lent buffer.
-const GUARD: usize = 16;
 
 /// The buffers of one side, with guards around what is lent.
 #[derive(Clone, PartialEq)]
@@ -43,7 +44,7 @@ impl Buffers {
         }
     }
 
-    /// Makes the call with this number in NAMES.
+    /// Makes the call with this number in NAMES; clocks go in runs, with buffers of their own.
     fn call(&mut self, call: usize, calls: &dyn Calls, case: &Case) -> Answer {
         let notes = &mut self.notes[GUARD..GUARD + case.notes];
         let values = &mut self.values[GUARD..GUARD + case.values];
@@ -68,17 +69,12 @@ impl Buffers {
 
     /// Names the first place where two sides differ.
     fn difference(&self, other: &Buffers) -> String {
-        fn at<T: PartialEq + std::fmt::Debug>(name: &str, x: &[T], y: &[T]) -> Option<String> {
-            let at = (0..x.len()).find(|&at| x[at] != y[at])?;
-            let (place, x, y) = (at as i64 - GUARD as i64, &x[at], &y[at]);
-            Some(format!("{name}[{place}]: reference {x:?}, other {y:?}"))
-        }
-        at("notes", &self.notes, &other.notes)
-            .or_else(|| at("values", &self.values, &other.values))
-            .or_else(|| at("reading", &self.reading, &other.reading))
-            .or_else(|| at("table", &self.table, &other.table))
-            .or_else(|| at("text", &self.text, &other.text))
-            .or_else(|| at("counts", &self.counts, &other.counts))
+        difference("notes", &self.notes, &other.notes)
+            .or_else(|| difference("values", &self.values, &other.values))
+            .or_else(|| difference("reading", &self.reading, &other.reading))
+            .or_else(|| difference("table", &self.table, &other.table))
+            .or_else(|| difference("text", &self.text, &other.text))
+            .or_else(|| difference("counts", &self.counts, &other.counts))
             .unwrap_or_default()
     }
 }
@@ -122,7 +118,7 @@ fn print_failure(seed: u64, number: u64, case: &Case, what: &str) {
 fn wanted_rules(call: usize) -> Vec<usize> {
     match call {
         0 => (0..=14).chain([22]).collect(),
-        1 => (0..=18).chain([22]).collect(),
+        1 | CLOCK => (0..=18).chain([22]).collect(),
         2 => (0..=19).chain([22]).collect(),
         3 => vec![0, 3, 4, 5, 6, 20, 21],
         WRITE_TEXT => (0..=14).chain([22, 23]).collect(),
@@ -203,13 +199,14 @@ struct Tally {
     spans: Spans,
     read_back: u64,
     counted: Counted,
+    clocks: Clocks,
 }
 
 impl Tally {
     /// Makes every call of a case on both sides, and tries what holds of accepted calls by itself.
     fn take(&mut self, other: &dyn Calls, case: &Case, random: &mut Random) -> Result<(), String> {
         let junk = Buffers::junk(random, case);
-        let done = (0..CALLS)
+        let done = (0..CLOCK)
             .map(|call| agree(call, other, case, &junk))
             .collect::<Result<Vec<(Answer, Buffers)>, String>>()?;
         if let (Answer { result: 0, numbers: [bytes, ..] }, buffers) = &done[WRITE_TEXT] {
@@ -228,6 +225,10 @@ impl Tally {
         }
         for (met, (answer, _)) in self.met.iter_mut().zip(&done) {
             met[answer.result as usize] += 1;
+        }
+        let run = &case.clocking;
+        for answer in self.clocks.take(random, other, &case.table, &junk.notes, run)? {
+            self.met[CLOCK][answer.result as usize] += 1;
         }
         Ok(())
     }
@@ -253,11 +254,11 @@ fn main() {
         }
     }
     tally.shapes.print();
-    let missing = print_rules(&tally.met) + tally.spans.print();
+    let missing = print_rules(&tally.met) + tally.spans.print() + tally.clocks.print();
     println!("texts written and read back: {}", tally.read_back);
     tally.counted.print();
     if missing > 0 && count > 1000 {
-        println!("compare: {missing} rules, or cases of the latency, were never met");
+        println!("compare: {missing} rules, or cases of the latency or of clocks, were never met");
     }
     println!("compare: {} passed, {failed} failed", count - failed);
     if failed > 0 || (missing > 0 && count > 1000) {

@@ -5,34 +5,14 @@ use masked_tests::generate::random::Random;
 use masked_tests::mask::masking::{mask, Masked};
 use masked_tests::mask::sbox::{aes, high_first, number, present, Sbox};
 use masked_tests::options;
+use masked_tests::subject::subject;
 use std::path::Path;
 use std::process::exit;
-
-#[cfg(feature = "proved")]
-fn calls() -> (Box<dyn Calls>, &'static str) {
-    (Box::new(masked_tests::proved::Proved), "the proved code")
-}
-
-#[cfg(not(feature = "proved"))]
-fn calls() -> (Box<dyn Calls>, &'static str) {
-    (Box::new(masked_tests::reference::Reference), "the reference, NOT the proved code")
-}
-
-/// Splits each secret bit into d random shares whose sum it is.
-fn share(random: &mut Random, secrets: &[u8], d: usize) -> Vec<u8> {
-    let mut shares = Vec::new();
-    for secret in secrets {
-        let mut row = random.bits(d - 1);
-        row.push(row.iter().fold(*secret, |sum, share| sum ^ share));
-        shares.extend(row);
-    }
-    shares
-}
 
 /// Evaluates one input; true where the added outputs are the S-box's value.
 fn right(calls: &dyn Calls, random: &mut Random, sbox: &Sbox, masked: &Masked, x: usize) -> bool {
     let builder = &masked.builder;
-    let shares = share(random, &high_first(x, sbox.bits), builder.d);
+    let shares = random.sharing(&high_first(x, sbox.bits), builder.d);
     let tape = random.bits(builder.randoms);
     let (mut notes, mut values) = (vec![0; 16384], vec![9; 8192]);
     let answer = calls.evaluate(&builder.table, &mut notes, &shares, &tape, &mut values);
@@ -86,7 +66,7 @@ fn main() {
     }
     let random = &mut Random::new(options::number("seed", 1));
     let rounds = options::number("rounds", 8) as usize;
-    let (calls, name) = calls();
+    let (calls, name) = subject();
     println!("sboxes: through {name}");
     let (mut passed, mut failed) = (0, 0);
     for sbox in [present(), aes()] {

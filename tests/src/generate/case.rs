@@ -1,5 +1,6 @@
 //! One case: everything the calls are given, lengths of buffers included.
 use super::circuit::{circuit, Shape};
+use super::clocking::{clocking, Clocking};
 use super::counting::{counting, Counting};
 use super::damage::{damaged_lines, noise};
 use super::limits::limit;
@@ -24,13 +25,14 @@ pub struct Case {
     /// Length of the text lent to the text writer.
     pub written: usize,
     pub counting: Counting,
+    pub clocking: Clocking,
 }
 
 /// The case that the random numbers give.
 pub fn case(random: &mut Random) -> Case {
     let lines = lines(random);
     let table = if random.once_in(24) { noise(random) } else { lines.concat() };
-    let (made, _) = walk(&table, Rules::All);
+    let (made, refusal) = walk(&table, Rules::All);
     let text = random_text(random, &lines);
     let words = lines.iter().map(Vec::len).sum();
     Case {
@@ -43,6 +45,7 @@ pub fn case(random: &mut Random) -> Case {
         text_table: text_table(random, words),
         written: written(random, table.len()),
         counting: counting(random),
+        clocking: clocking(random, &made, refusal.is_none()),
         text,
         table,
     }

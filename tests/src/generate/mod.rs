@@ -1,6 +1,7 @@
 //! Random cases: circuits, damage to them, texts, and buffers right and wrong.
 pub mod case;
 pub mod circuit;
+pub mod clocking;
 pub mod counting;
 pub mod damage;
 pub mod limits;

@@ -62,6 +62,17 @@ impl Random {
         bytes.chunks(2).map(|pair| u16::from_le_bytes([pair[0], pair[1]])).collect()
     }
 
+    /// Splits each secret bit into d random shares whose sum it is.
+    pub fn sharing(&mut self, secrets: &[u8], d: usize) -> Vec<u8> {
+        let mut shares = Vec::new();
+        for secret in secrets {
+            let mut row = self.bits(d - 1);
+            row.push(row.iter().fold(*secret, |sum, share| sum ^ share));
+            shares.extend(row);
+        }
+        shares
+    }
+
     pub fn numbers(&mut self, count: usize) -> Vec<u32> {
         (0..count).map(|_| self.number() as u32).collect()
     }

@@ -50,19 +50,24 @@ pub fn are_bits<'a>(bytes: impl Iterator<Item = &'a u8>) -> Result<(), Refusal> 
 pub fn values(circuit: &Circuit, shares: &[u8], tape: &[u8]) -> Vec<u8> {
     let mut values: Vec<u8> = Vec::new();
     for wire in &circuit.wires {
-        let value = match &wire.source {
-            Source::Share(index) => shares[*index],
-            Source::Constant(value) => *value,
-            Source::Random(index) => tape[*index],
-            Source::Register(x) => values[*x],
-            Source::Not(x) => 1 - values[*x],
-            Source::Sum(terms) => terms.iter().fold(0, |sum, x| (sum + values[*x]) % 2),
-            Source::Product(x, y) => values[*x] * values[*y],
-            Source::NotProduct(x, y) => (1 - values[*x]) * values[*y],
-        };
-        values.push(value);
+        values.push(value(&wire.source, shares, tape, &values));
     }
     values
+}
+
+/// The value of one wire, from those of the wires before it.
+#[inline]
+pub fn value(source: &Source, shares: &[u8], tape: &[u8], values: &[u8]) -> u8 {
+    match source {
+        Source::Share(index) => shares[*index],
+        Source::Constant(value) => *value,
+        Source::Random(index) => tape[*index],
+        Source::Register(x) => values[*x],
+        Source::Not(x) => 1 - values[*x],
+        Source::Sum(terms) => terms.iter().fold(0, |sum, x| (sum + values[*x]) % 2),
+        Source::Product(x, y) => values[*x] * values[*y],
+        Source::NotProduct(x, y) => (1 - values[*x]) * values[*y],
+    }
 }
 
 /// Writes the values; the bytes past the last wire stay.

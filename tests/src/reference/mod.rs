@@ -1,6 +1,7 @@
 //! Document 01, and what has landed of 02, in the plainest Rust. It shares no code with the proved checker.
 pub mod check;
 pub mod circuit;
+pub mod clock;
 pub mod count;
 pub mod evaluate;
 pub mod form;
@@ -13,6 +14,8 @@ pub mod write;
 
 #[cfg(test)]
 mod cases;
+#[cfg(test)]
+mod clocked;
 #[cfg(test)]
 mod counted;
 #[cfg(test)]
@@ -130,5 +133,17 @@ impl Calls for Reference {
         counts: &mut [u32],
     ) -> Answer {
         numbers(count::count(table, notes, secrets, probes, counts))
+    }
+
+    fn clock(
+        &self,
+        table: &[u16],
+        notes: &mut [u16],
+        shares: &[u8],
+        tape: &[u8],
+        values: &mut [u8],
+        bank: &mut [u8],
+    ) -> Answer {
+        answer(clock::clock(table, notes, shares, tape, values, bank))
     }
 }

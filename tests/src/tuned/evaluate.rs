@@ -79,7 +79,7 @@ pub fn write(table: &[u16], found: &Found, shares: &[u8], tape: &[u8], values: &
 
 /// r(i,j) for both orders of each pair.
 #[inline(always)]
-fn matrix(d: usize, random: &[u8]) -> [[u8; 8]; 8] {
+pub fn matrix(d: usize, random: &[u8]) -> [[u8; 8]; 8] {
     let mut r = [[0; 8]; 8];
     let mut bits = random.iter();
     for i in 0..d {

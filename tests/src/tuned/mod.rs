@@ -1,5 +1,6 @@
 //! A tuned program for the same calls: single passes; only counts allocate. The benchmark's opponent.
 mod check;
+mod clock;
 mod count;
 mod evaluate;
 mod lanes;
@@ -9,6 +10,8 @@ mod text;
 mod wide;
 mod write;
 
+#[cfg(test)]
+mod clocked;
 #[cfg(test)]
 mod counted;
 
@@ -87,6 +90,18 @@ impl Calls for Tuned {
         counts: &mut [u32],
     ) -> Answer {
         numbers(count::count(table, notes, secrets, probes, counts))
+    }
+
+    fn clock(
+        &self,
+        table: &[u16],
+        notes: &mut [u16],
+        shares: &[u8],
+        tape: &[u8],
+        values: &mut [u8],
+        bank: &mut [u8],
+    ) -> Answer {
+        answer(clock::clock(table, notes, shares, tape, values, bank))
     }
 }
 

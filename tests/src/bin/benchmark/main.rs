@@ -7,22 +7,15 @@ use masked_tests::generate::random::Random;
 use masked_tests::mask::masking::mask;
 use masked_tests::mask::sbox::aes;
 use masked_tests::options;
+use masked_tests::subject::subject;
 use masked_tests::tuned::Tuned;
 use std::hint::black_box;
 use std::time::Instant;
 
+/// The number of clock in NAMES.
+const CLOCK: usize = 6;
 /// The calls that have a column for each circuit: all but count.
-const COLUMNS: usize = NAMES.len() - 1;
-
-#[cfg(feature = "proved")]
-fn subject() -> (Box<dyn Calls>, &'static str) {
-    (Box::new(masked_tests::proved::Proved), "the proved code")
-}
-
-#[cfg(not(feature = "proved"))]
-fn subject() -> (Box<dyn Calls>, &'static str) {
-    (Box::new(masked_tests::reference::Reference), "the reference, NOT the proved code")
-}
+const COLUMNS: [usize; 6] = [0, 1, 2, 3, 4, CLOCK];
 
 /// A circuit with all that its calls are given, and buffers for them.
 struct Load {
@@ -34,6 +27,8 @@ struct Load {
     notes: Vec<u16>,
     values: Vec<u8>,
     reading: Vec<u8>,
+    /// What the last clock left, of either program.
+    bank: Vec<u8>,
     table: Vec<u16>,
     written: Vec<u8>,
 }
@@ -51,6 +46,7 @@ impl Load {
             notes: vec![0; 16384],
             values: vec![0; 8192],
             reading: vec![0; 8192],
+            bank: vec![0; 8192],
             table: vec![0; 8192],
             written: vec![0; 40_960],
             builder,
@@ -59,13 +55,14 @@ impl Load {
 
     fn call(&mut self, call: usize, calls: &dyn Calls) -> Answer {
         let table = &self.builder.table;
-        let Load { shares, tape, probes, notes, values, reading, .. } = self;
+        let Load { shares, tape, probes, notes, values, reading, bank, .. } = self;
         match call {
             0 => calls.check(table, notes),
             1 => calls.evaluate(table, notes, shares, tape, values),
             2 => calls.read_probes(table, notes, shares, tape, values, probes, reading),
             3 => calls.read_text(self.text.as_bytes(), &mut self.table),
             4 => calls.write_text(table, notes, &mut self.written),
+            CLOCK => calls.clock(table, notes, shares, tape, values, bank),
             _ => unreachable!("{} is timed by itself", NAMES[call]),
         }
     }
@@ -183,7 +180,7 @@ fn print_lines(
     let mut loads: Vec<Load> =
         circuits.into_iter().map(|(_, builder)| Load::new(random, builder)).collect();
     let columns: Vec<_> =
-        (0..COLUMNS).map(|call| medians(&mut loads, call, subject, rounds)).collect();
+        COLUMNS.iter().map(|&call| medians(&mut loads, call, subject, rounds)).collect();
     for (i, (name, load)) in names.iter().zip(&loads).enumerate() {
         print!("{name:<22}{:>6}{:>6} ", load.builder.table.len(), load.builder.wires());
         for column in &columns {
@@ -191,6 +188,17 @@ fn print_lines(
             print!("{ours:>9.1}{theirs:>8.1}{:>6.2}", ours / theirs);
         }
         println!();
+    }
+}
+
+/// Clocks a second of the AES S-box, for both programs.
+fn print_clocks(random: &mut Random, subject: &dyn Calls, rounds: usize) {
+    println!("clocks a second: first program, opponent");
+    for d in [2, 3, 5] {
+        let mut loads = [Load::new(random, mask(&aes().netlist, d).builder)];
+        let (ours, theirs) = medians(&mut loads, CLOCK, subject, rounds)[0];
+        let wires = loads[0].builder.wires();
+        println!("AES S-box, d {d:<10}{wires:>12}{:>12.0}{:>12.0}", 1e6 / ours, 1e6 / theirs);
     }
 }
 
@@ -206,7 +214,7 @@ fn main() {
         "",
         "words",
         "wires",
-        NAMES[..COLUMNS].iter().map(|name| format!("{name:>23}")).collect::<String>()
+        COLUMNS.map(|call| format!("{:>23}", NAMES[call])).concat()
     );
     let largest = vec![
         ("AES S-box, d 5".to_string(), mask(&aes().netlist, 5).builder),
@@ -229,5 +237,6 @@ fn main() {
     print_lines(rows.into(), random, subject.as_ref(), rounds);
     let rows = sizes.map(|size| (format!("AND chain, d 3, 1/{}", part(size)), products(3, size)));
     print_lines(rows.into(), random, subject.as_ref(), rounds);
+    print_clocks(random, subject.as_ref(), rounds);
     counting::print(subject.as_ref(), rounds);
 }
