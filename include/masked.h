@@ -20,10 +20,11 @@
  *
  * A frame is a line of the text, counted from 0 (HEAD), and word 0 is its kind. Rules 1 to 3, 15 to 17 and 23 to 25 are told at
  * frame 0, word 0; rule 4 at frame 0, word 1; rules 18 and 19 at frame 0, the word being the index of the byte (the tape's count on
- * from the shares') or of the probe; rules 5, 6, 13, 14, 20 and 21 at word 0 of the frame or line; rules 7 to 12 and 22 at the word
- * that breaks it.
+ * from the shares', a register's byte of the bank is its wire's number counted on from the tape) or of the probe; rules 5, 6, 13,
+ * 14, 20 and 21 at word 0 of the frame or line; rules 7 to 12 and 22 at the word that breaks it.
  *
- * Every call ends on any input, keeps nothing, and leans on no earlier call. Calls with different buffers may run at one time. */
+ * Every call ends on any input, keeps nothing, and leans on no earlier call: what a run of masked_clock has in its registers is in the
+ * caller's bank. Calls with different buffers may run at one time. */
 #ifndef MASKED_H
 #define MASKED_H
 
@@ -36,7 +37,7 @@ extern "C" {
 
 enum {
     MASKED_MOST_WORDS = 8192,     /* words of a table */
-    MASKED_MOST_WIRES = 8192,     /* wires of a circuit, and least bytes of values and reading */
+    MASKED_MOST_WIRES = 8192,     /* wires of a circuit, and least bytes of values, reading and bank */
     MASKED_NOTES_WORDS = 16384,   /* least words of notes */
     MASKED_TEXT_BYTES = 40960,    /* bytes of text that any table fits: five for each word */
     MASKED_COUNTS_NUMBERS = 1024, /* least numbers of counts: four for each of 256 combinations */
@@ -65,9 +66,10 @@ enum masked_rule {
     MASKED_TOO_MANY_WIRES = 14,   /* there are at most 8,192 wires */
     MASKED_SHARES_LENGTH = 15,    /* the shares are d bytes for each IN; the secrets of a count are two bytes for each IN */
     MASKED_TAPE_LENGTH = 16,      /* the tape is one byte for each random bit */
-    MASKED_BUFFER_TOO_SHORT = 17, /* the buffers for values and for the reading have at least 8,192 bytes, the one for counts at
-                                     least 1,024 numbers */
-    MASKED_BYTE_NOT_A_BIT = 18,   /* every byte of the shares, of the tape and of the secrets is 0 or 1 */
+    MASKED_BUFFER_TOO_SHORT = 17, /* the buffers for values, for the reading and for the bank have at least 8,192 bytes, the one for
+                                     counts at least 1,024 numbers */
+    MASKED_BYTE_NOT_A_BIT = 18,   /* every byte of the shares, of the tape and of the secrets, and every register's byte of the bank,
+                                     is 0 or 1 */
     MASKED_NO_SUCH_PROBE = 19,    /* every probe names a wire of the circuit */
     MASKED_LINE_FORM = 20,        /* a line is words of four digits 0-9A-F, one space between, and a line feed behind the last */
     MASKED_NO_ROOM = 21,          /* the words of all lines fit a table of 8,192 words */
@@ -101,6 +103,29 @@ uint64_t masked_check(const uint16_t *table, size_t table_len, uint16_t *notes, 
 uint64_t masked_evaluate(const uint16_t *table, size_t table_len, uint16_t *notes, size_t notes_len,
                          const uint8_t *shares, size_t shares_len, const uint8_t *tape, size_t tape_len,
                          uint8_t *values, size_t values_len, uint64_t *a, uint64_t *b, uint64_t *c);
+
+/* Checks, then runs the circuit for one clock, as a pipeline that is fed new shares and random bits on every clock. Rules 1 to 14 and
+ * 22 as masked_check, then 15 to 18 (17 for values and for the bank, 18 for shares, tape, then the bank).
+ *
+ * shares, tape    the bits of this clock, in the order that masked_evaluate takes them
+ * notes   as masked_check leaves them; rules 15 to 18 leave them as accepted
+ * values  at least 8,192 bytes; byte w is wire w's value on this clock: every gate as in an evaluation, but a register shows its byte
+ *         of the bank.
+ *         accepted:        the bytes of all wires are written; those behind the last wire's are as they were
+ *         any refusal:     as they were
+ * bank    at least 8,192 bytes, all 0 before the first clock, lent again as they are for the next. Byte w is what register w holds.
+ *         The registers are the wire of REG, S of REF, and R, B, M, U, V, W of AND; IN, CON and random bits are none. Bytes of
+ *         other wires are neither read nor written.
+ *         accepted:        a register's byte is what its input showed on this clock; all others are as they were
+ *         any refusal:     as it was, so that a refused call is no clock
+ *
+ * With the same table and bank lent on clocks 0, 1, 2, .., the shares of an IN at stage s that are fed on clock k belong to set k-s;
+ * so do a gadget's random bits, s being the stage of an AND's row b, or of a REF's row. Then a wire of stage t shows on clock j+t what
+ * masked_evaluate gives for set j; so an OUT at stage s shows set j on clock j+s, and before clock s no set. That probes tell nothing
+ * of the secrets is proved of single evaluations only, not of what a probe sees over several clocks of a run. */
+uint64_t masked_clock(const uint16_t *table, size_t table_len, uint16_t *notes, size_t notes_len,
+                      const uint8_t *shares, size_t shares_len, const uint8_t *tape, size_t tape_len,
+                      uint8_t *values, size_t values_len, uint8_t *bank, size_t bank_len, uint64_t *a, uint64_t *b, uint64_t *c);
 
 /* Checks, evaluates, and tells what probes read. Rules 1 to 18 and 22 as masked_evaluate (17 for values and for the reading),
  * then 19.

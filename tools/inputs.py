@@ -56,22 +56,25 @@ def row_of(bits: list[int]) -> str:
 
 
 def finding(rule: int, word: int, circuit: Circuit, options: argparse.Namespace, inputs: Inputs) -> Finding:
-    """What was found and wanted where a call broke a rule from 15 to 19."""
+    """What was found and wanted where an evaluation or a reading broke a rule from 15 to 19."""
     if rule == 15 and options.secrets is not None:
         return Finding("{wanted:secret bit} wanted, one for each IN; {found} given",
                        {"wanted": circuit.inputs, "found": len(options.secrets)})
+    return no_such_wire(options.probe[word], circuit) if rule == 19 else of_bits(rule, word, circuit, inputs)
+
+
+def of_bits(rule: int, word: int, circuit: Circuit, inputs: Inputs) -> Finding:
+    """What was found and wanted where shares and tape broke rule 15, 16 or 18."""
     if rule == 15:
         return Finding("{wanted:share} wanted, {d} for each IN; {found} given",
                        {"wanted": circuit.d * circuit.inputs, "d": circuit.d, "found": len(inputs.shares)})
     if rule == 16:
         return Finding("{wanted:random bit} wanted; {found} given", {"wanted": circuit.randoms, "found": len(inputs.tape)})
-    if rule == 18:
-        shares = len(inputs.shares)
-        place = word if word < shares else word - shares
-        row = inputs.shares if word < shares else inputs.tape
-        return Finding("digit {place} of the " + ("shares" if word < shares else "tape") + " is {found}",
-                       {"place": place + 1, "found": row[place]})
-    return no_such_wire(options.probe[word], circuit)
+    shares = len(inputs.shares)
+    place = word if word < shares else word - shares
+    row = inputs.shares if word < shares else inputs.tape
+    return Finding("digit {place} of the " + ("shares" if word < shares else "tape") + " is {found}",
+                   {"place": place + 1, "found": row[place]})
 
 
 def no_such_wire(probe: int, circuit: Circuit) -> Finding:

@@ -1,8 +1,8 @@
-"""Shows what stands in a masked circuit: its wires, their values, what probes read and how often, and the text of a table.
-`./show --help` says more.
+"""Shows what stands in a masked circuit: its wires, their values, what probes read and how often, what its outputs give clock by clock,
+its Verilog, and the text of a table. `./show --help` says more.
 
-Verdicts, labels, stages, registers, values, readings, counts and texts are the proved calls' (bindings/python/masked.py); the names
-of wires are circuit.py's.
+Verdicts, labels, stages, registers, values, readings, counts, clocks and texts are the proved calls' (bindings/python/masked.py); the
+names of wires are circuit.py's, the Verilog is verilog.py's.
 """
 from __future__ import annotations
 
@@ -17,98 +17,19 @@ from pathlib import Path
 ROOT = Path(__file__).resolve().parents[1]
 sys.path.insert(0, str(ROOT / "bindings" / "python"))
 
+import clocks
 import counts
 import masked
 import tables
+import verilog
 from circuit import IN, JUDGED_BYTES, KINDS, OUT, Circuit, circuit_of, lines_of
-from explain import MEANINGS, Finding, explanation, shown
-from inputs import Inputs, digits, finding, inputs_of, wire
+from explain import explanation, shown
+from inputs import Inputs, finding, inputs_of
+from options import STDIN, options_of
+from outcomes import Refusal, Trouble, refusal
 from rows import PLACE, place, probed
 
-TROUBLE = 2
-STDIN = "standard input"
-EXAMPLES = """examples:
-  ./show wires examples/circuit-a.hex
-  ./show values examples/circuit-a.hex --shares 1011 --tape 1
-  ./show values examples/circuit-a.hex --secrets 11
-  ./show reading examples/circuit-a.hex --secrets 11 --probe 24 --probe 0x0E
-  ./show counts examples/circuit-a.hex --secrets 00 --secrets 11 --probe 24
-  ./show text examples/circuit-a.words
-
-FILE is a circuit's text, as docs/FORMAT.md describes it; - is standard input.
-For `text` it is a table, 16-bit words as a tool writes them.
-The proved library is built on first use, which takes three to five minutes
-and needs the Rattle toolchain (rt) and a C compiler (cc).
-Exit status: 0 shown, 1 refused, 2 trouble."""
-WIRES_HELP = ("the number (decimal, hexadecimal), line, name, label and stage of each wire, whether it is registered, "
-              "and whether a probe stops at it")
-VALUES_HELP = "the value of each wire, and the shares of each IN and OUT with their sum"
-READING_HELP = "the wires that the probes read together, with their values"
-COUNTS_HELP = ("under how many sharings and tapes of two sets of secret bits each combination of the wires that the probes read "
-               "arises")
-TEXT_HELP = "the text of a table that a tool has written, where it keeps the rules"
-
-
-class Trouble(Exception):
-    """Something that keeps the command from being done."""
-
-
-class Refusal(Exception):
-    """A rule that the circuit or the inputs broke, or a file that is no table, in plain words."""
-
-
-class Parser(argparse.ArgumentParser):
-    """Help that cannot be written is trouble; argparse would pass over it."""
-
-    def print_help(self, file=None) -> None:
-        sys.stdout.write(self.format_help())
-
-
-def options_of(words: list[str]) -> argparse.Namespace:
-    parser = Parser(prog="show", description="Shows what stands in a masked circuit.", epilog=EXAMPLES,
-                    formatter_class=argparse.RawDescriptionHelpFormatter)
-    commands = parser.add_subparsers(dest="command", metavar="COMMAND", required=True)
-    by_name = {}
-    for name, text in (("wires", WIRES_HELP), ("values", VALUES_HELP), ("reading", READING_HELP), ("counts", COUNTS_HELP),
-                       ("text", TEXT_HELP)):
-        command = by_name[name] = commands.add_parser(name, help=text, description=f"Shows {text}.")
-        kind = "a table, 16-bit words, little endian" if name == "text" else "a circuit's text"
-        command.add_argument("file", metavar="FILE", help=f"{kind}; - is standard input")
-    by_name["text"].add_argument("--big-endian", action="store_true", help="the high byte of each word comes first")
-    for command in (by_name["values"], by_name["reading"]):
-        add_inputs(command)
-    by_name["counts"].add_argument("--secrets", type=digits, action="append", required=True, metavar="BITS",
-                                   help="a digit 0 or 1 for each IN; given twice, a set each")
-    for command in (by_name["reading"], by_name["counts"]):
-        command.add_argument("--probe", type=wire, action="append", required=True, metavar="WIRE",
-                             help="a wire's number, decimal or as 0x..; may be given again")
-    options = parser.parse_args(words)
-    options.file = STDIN if options.file == "-" else options.file
-    if options.command in ("values", "reading"):
-        check_inputs(by_name[options.command], options)
-    if options.command == "counts" and len(options.secrets) != 2:
-        by_name["counts"].error("give --secrets twice, a set of secret bits each")
-    return options
-
-
-def add_inputs(command: argparse.ArgumentParser) -> None:
-    command.add_argument("--shares", type=digits, metavar="BITS", help="a digit 0 or 1 for each share, IN by IN, label by label")
-    command.add_argument("--tape", type=digits, metavar="BITS", help="a digit 0 or 1 for each random bit")
-    command.add_argument("--secrets", type=digits, metavar="BITS",
-                         help="a digit 0 or 1 for each IN: shares and tape are drawn, and told")
-    command.add_argument("--seed", type=int, metavar="N", help="what to draw by; the same number draws the same again")
-
-
-def check_inputs(parser: argparse.ArgumentParser, options: argparse.Namespace) -> None:
-    """Shares and tape, or secrets: one of the two."""
-    given = options.shares is not None or options.tape is not None
-    if given == (options.secrets is not None):
-        parser.error("give either --shares and --tape, or --secrets")
-    if options.seed is not None and given:
-        parser.error("--seed goes with --secrets")
-    for place, secret in enumerate(options.secrets or []):
-        if secret > 1:
-            raise refusal(18, Finding("digit {place} of the secrets is {found}", {"place": place + 1, "found": secret}))
+SHOWN, REFUSED, TROUBLE = range(3)
 
 
 def read(name: str, most: int = JUDGED_BYTES + 1) -> bytes:
@@ -201,10 +122,6 @@ def probes_of(options: argparse.Namespace) -> list[int]:
     return [min(probe, 0xFFFF) for probe in options.probe]
 
 
-def refusal(rule: int, found: Finding) -> Refusal:
-    return Refusal(f"refused {int(rule)}: {MEANINGS[rule]}\n  here: {found}")
-
-
 def counted(options: argparse.Namespace, circuit: Circuit, table: array) -> list[str]:
     """The counts of two sets, by the proved call; its refusal in plain words. Sets of different lengths are refused before: the call
     sees one list."""
@@ -232,22 +149,29 @@ def show_text(name: str, order: str) -> list[str]:
         raise Refusal(f"{name}: {refused}\n{tables.explanation(data, order, refused.rule, refused.frame, refused.word)}") from None
 
 
-def run(options: argparse.Namespace) -> list[str]:
+def run(options: argparse.Namespace) -> tuple[list[str], int]:
+    """What is shown, and the exit status."""
     if options.command == "text":
-        return show_text(options.file, "big" if options.big_endian else "little")
+        return show_text(options.file, "big" if options.big_endian else "little"), SHOWN
     text = read(options.file)
+    feed = clocks.feed_of(options.feed, read(options.feed, clocks.MOST_BYTES + 1)) if options.command == "clocks" else []
     build()
     notes = masked.words([0] * masked.NOTES_WORDS)
     table, answer = checked(options.file, text, notes)
     lines = lines_of(text)
     circuit = circuit_of(lines)
     if options.command == "wires":
-        return show_wires(circuit, lines, notes, answer)
+        return show_wires(circuit, lines, notes, answer), SHOWN
     if options.command == "counts":
-        return counted(options, circuit, table)
+        return counted(options, circuit, table), SHOWN
+    if options.command == "verilog":
+        return verilog.module(options.file, circuit, notes, answer), SHOWN
+    if options.command == "clocks":
+        clocked = clocks.Run(circuit, table, notes, options.wires)
+        return clocked.listing(feed), REFUSED if clocked.refused else SHOWN
     inputs = inputs_of(options, circuit)
     rows = evaluated(options, circuit, table, inputs)
-    return [inputs.drawn] + rows if inputs.drawn else rows
+    return [inputs.drawn] + rows if inputs.drawn else rows, SHOWN
 
 
 def say(text: str) -> None:
@@ -258,12 +182,12 @@ def say(text: str) -> None:
 def status_of() -> int:
     """Does what the command's words ask; the exit status."""
     try:
-        rows = run(options_of(sys.argv[1:]))
+        rows, status = run(options_of(sys.argv[1:]))
         sys.stdout.write("\n".join(rows) + "\n")
-        return 0
-    except Refusal as refusal:
-        say(str(refusal))
-        return 1
+        return status
+    except Refusal as refused:
+        say(str(refused))
+        return REFUSED
     except Trouble as trouble:
         say(str(trouble))
     except SystemExit as end:

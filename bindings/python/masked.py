@@ -7,13 +7,16 @@
     masked.evaluate(table, [1, 0, 1, 1], [1], values)          # values[24] is 1
     reading = bytearray(masked.MOST_WIRES)
     masked.read_probes(table, [1, 0, 1, 1], [1], [24], reading)   # reading[8], [13], [17] are 1, 0, 0; the rest is 2
+    bank = masked.new_bank()
+    for _ in range(4):                                         # clocks 0 to 3; the OUT, at stage 3, shows set 0 on clock 3:
+        masked.clock(table, [1, 0, 1, 1], [1], bank, values)   # values[26] and values[27] are 1, 1
     text = masked.write_text(table)                            # the bytes of examples/circuit-a.hex
     counted = masked.count(table, [0, 0, 1, 1], [26, 27])      # counted.rows[0] is (4, 0, 500, 0)
 
 A refusal is raised as Refused, with the rule's number and its spot. Buffers that a call fills are lent by the caller (a bytearray,
-an array of type code H for words, of I for counts); left out, one of the right size is made and thrown away. After a refusal they
-hold what include/masked.h says. The library is target/shared/libmasked.so of this repository, made by `tools/build library`, or what
-the environment variable MASKED_LIBRARY names.
+an array of type code H for words, of I for counts); left out, one of the right size is made and thrown away. The bank of a run is
+always lent. After a refusal they hold what include/masked.h says. The library is target/shared/libmasked.so of this repository, made
+by `tools/build library`, or what the environment variable MASKED_LIBRARY names.
 """
 from __future__ import annotations
 
@@ -114,6 +117,19 @@ def evaluate(table: Iterable[int], shares: Iterable[int], tape: Iterable[int], v
              notes: array.array | None = None) -> Accepted:
     """masked_evaluate: checks, then writes each wire's value. `values`: 8,192 bytes."""
     return _answer(_call("masked_evaluate", 3, words(table), _words_for(notes), bytes(shares), bytes(tape), _bytes_for(values)))
+
+
+def clock(table: Iterable[int], shares: Iterable[int], tape: Iterable[int], bank: bytearray, values: bytearray | None = None,
+          notes: array.array | None = None) -> Accepted:
+    """masked_clock: checks, then runs one clock on its shares and random bits, and writes each wire's value. `bank`: 8,192 bytes,
+    what the registers hold, moved on by the call; `new_bank()` before the first clock. A refusal is no clock."""
+    return _answer(_call("masked_clock", 3, words(table), _words_for(notes), bytes(shares), bytes(tape), _bytes_for(values),
+                         _writable(bank, 1)))
+
+
+def new_bank() -> bytearray:
+    """A bank whose registers all hold 0, for the first clock of a run."""
+    return bytearray(MOST_WIRES)
 
 
 def read_probes(table: Iterable[int], shares: Iterable[int], tape: Iterable[int], probes: Iterable[int],
