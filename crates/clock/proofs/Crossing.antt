@@ -23,31 +23,21 @@ pub product-gates : {at at′ x x′ y y′ : ℕ} (g : ℕ → Gate) → at ≡
 product-gates g at-is x-is y-is h = rw (at-is, x-is, y-is) h
 
 -- B, m and M over the wires x of a(i) and y of b(i)
-module _ {k : Clock} {values bank : List ℕ} (at x y : ℕ) (room : Room k at 3 values bank) (g : ProductGates at x y (k .gate)) (u : Upto k at values bank) (lx : x < at) (ly : y < at) where
-  abbrev m : ℕ
-  m = bitAnd (nth values x) (nth values at)
-
+module _ {k : Clock} {values bank : List ℕ} (at x y : ℕ) (room : Room k at 3 values bank) (g : ProductGates at x y (k .gate)) (u : Upto k at values bank) (lx : x < at) (ly : y < at)
+    (m : ℕ) (is : m ≡ bitAnd (nth values x) (nth values at)) where
   abbrev β : ℕ
   β = nth values y
 
   pub product-on : Upto k (at + 3) (set values (at + 1) m) (set (set bank at β) (at + 2) m)
   product-on =
       let B : Upto k (at + 1) values (set bank at β) = keep u β (omega (arith, room)) (g .0) (u .below y ly) in
-      let m-is : m ≡ k .shows (at + 1) = ap₂ bitAnd (u .below x lx) (B .below at (omega arith)) ∙ sym (met k (at + 1) (omega (arith, room)) (g .1)) in
+      let m-is : m ≡ k .shows (at + 1) = is ∙ ap₂ bitAnd (u .below x lx) (B .below at (omega arith)) ∙ sym (met k (at + 1) (omega (arith, room)) (g .1)) in
       let M : Upto k (at + 2) (set values (at + 1) m) (set bank at β) = upto-at (omega arith) (wrote B m (omega (arith, room)) (ap isRegister (g .1)) m-is) in
       upto-at (omega arith) (keep M m (rw length-set (omega (arith, room))) (g .2) m-is)
 
 -- u to W over the wires x of a(i), y of b(j) and z of r, whose words are given
-module _ (values bank : List ℕ) (at a b r held : ℕ) (long : at + 6 ≤ length values) (deep : at + 6 ≤ length bank) where
-  abbrev u : ℕ
-  u = bitAnd (bitXor 1 a) held
-
-  abbrev v : ℕ
-  v = bitXor b r
-
-  abbrev w : ℕ
-  w = bitAnd a (nth values (at + 3))
-
+module _ (values bank : List ℕ) (at a b r held u v w : ℕ) (u-gate : u ≡ bitAnd (bitXor 1 a) held) (v-gate : v ≡ bitXor b r) (w-gate : w ≡ bitAnd a (nth values (at + 3)))
+    (long : at + 6 ≤ length values) (deep : at + 6 ≤ length bank) where
   abbrev shown : List ℕ
   shown = set (set (set values at u) (at + 2) v) (at + 4) w
 
@@ -63,9 +53,9 @@ module _ (values bank : List ℕ) (at a b r held : ℕ) (long : at + 6 ≤ lengt
       six : (k : Clock) (x y z : ℕ) → at + 6 ≤ k .size → CrossGates at x y z (k .gate)
           → a ≡ k .shows x → b ≡ k .shows y → r ≡ k .shows z → held ≡ k .shows (z + 1) → Upto k at values bank → Upto k (at + 6) shown kept
       six k x y z few g a-is b-is r-is held-is c =
-          let u-is : u ≡ k .shows at = ap₂ (λ p q. bitAnd (bitXor 1 p) q) a-is held-is ∙ sym (met k at (omega arith) (g .0)) in
-          let v-is : v ≡ k .shows (at + 2) = ap₂ bitXor b-is (r-is ∙ sym (xor-zero-r (k .shows z))) ∙ sym (met k (at + 2) (omega arith) (g .2)) in
-          let w-is : w ≡ k .shows (at + 4) = ap₂ bitAnd a-is (c .registers (at + 3) (omega arith) (ap isRegister (g .3))) ∙ sym (met k (at + 4) (omega arith) (g .4)) in
+          let u-is : u ≡ k .shows at = u-gate ∙ ap₂ (λ p q. bitAnd (bitXor 1 p) q) a-is held-is ∙ sym (met k at (omega arith) (g .0)) in
+          let v-is : v ≡ k .shows (at + 2) = v-gate ∙ ap₂ bitXor b-is (r-is ∙ sym (xor-zero-r (k .shows z))) ∙ sym (met k (at + 2) (omega arith) (g .2)) in
+          let w-is : w ≡ k .shows (at + 4) = w-gate ∙ ap₂ bitAnd a-is (c .registers (at + 3) (omega arith) (ap isRegister (g .3))) ∙ sym (met k (at + 4) (omega arith) (g .4)) in
           let at1 = wrote c u (omega arith) (ap isRegister (g .0)) u-is in
           let at2 : Upto k (at + 2) _ _ = upto-at (omega arith) (keep at1 u (omega arith) (g .1) u-is) in
           let at3 : Upto k (at + 3) _ _ = upto-at (omega arith) (wrote at2 v (rw length-set (omega arith)) (ap isRegister (g .2)) v-is) in

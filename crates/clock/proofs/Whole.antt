@@ -16,6 +16,7 @@ use Rattle.semantics.specs.Values.{bits, byte, bytes, at, value}
 use Rattle.semantics.specs.Clock.{isRegister, heldBytes, registerBytes, shownOn}
 use Rattle.semantics.proofs.Solving.{gateAt}
 use Rattle.semantics.proofs.Clocked.{clock-same, clock-length, held-length, held-at, register-at}
+use Rattle.semantics.proofs.Banks.{byte-few}
 use Rattle.gadgets.specs.Internal.Accepting.{circuitIn}
 use Rattle.simulation.specs.Internal.Filling.{Fills, Copied}
 use Rattle.clock.specs.Internal.Whole.{wiresOf, AllBits, Clocked}
@@ -34,7 +35,7 @@ module _ {table shares tape values bank one new newBank : List ℕ} {wires : ℕ
   copied-at x l = f .filled (nth bank) (λ q h. refl) (λ y a b. absurd (omega arith)) x (omega arith) (omega arith)
 
   same-shown : shownOn (wiresOf table) one shares tape ≡ shownOn (wiresOf table) bank shares tape
-  same-shown = clock-same (wiresOf table) (bits one) (bits bank) (bits shares) (bits tape) (λ x l. List·getD-map isSet one x 0 ∙ ap isSet (copied-at x l) ∙ sym (List·getD-map isSet bank x 0))
+  same-shown = clock-same (wiresOf table) (bits one) (bits bank) (bits shares) (bits tape) (λ x l r. List·getD-map isSet one x 0 ∙ ap isSet (copied-at x l) ∙ sym (List·getD-map isSet bank x 0))
 
   as-copied : AllBits table shares tape bank → AllBits table shares tape one
   as-copied b = record { shareBits = b .shareBits; tapeBits = b .tapeBits; shownBits = λ x l h. rw (copied-at x l) (b .shownBits x l h) }
@@ -51,10 +52,6 @@ module _ {table shares tape values bank one new newBank : List ℕ} {wires : ℕ
 -- marks that no register has, and those that are left behind a clock
 module _ {table shares tape shown marks values newMarks : List ℕ} (r : Clocked table shares tape shown shown marks values newMarks) (b : AllBits table shares tape shown)
     (none : (x : ℕ) → x < size (circuitIn table) → 2 ≤ nth marks x) where
-  byte-few : (b : Bool) → byte b ≤ 1
-  byte-few true = omega arith
-  byte-few false = omega arith
-
   marked : (x : ℕ) → x < size (circuitIn table) → leb (nth newMarks x) 1 ≡ isRegister (gateAt (wiresOf table) x)
   marked x l =
       let ws = wiresOf table in

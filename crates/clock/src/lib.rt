@@ -2,7 +2,7 @@
 ghost use mathlib.Core.Path.{_≡_};
 ghost use Rattle.checker.specs.Answers.{answerOf};
 ghost use Rattle.semantics.specs.Calls.{Accepts, circuitOf, callNotes};
-ghost use Rattle.semantics.specs.Clock.{clockAnswer, valuesAfter, bankAfter, Pipelined};
+ghost use Rattle.semantics.specs.Clock.{clockAnswer, valuesAfter, bankAfter, Pipelined, RegistersAlone, BankStays};
 use checker::Verdict;
 use evaluation::rules;
 
@@ -24,6 +24,8 @@ pub fn step(
     ensures valued { λ _. ⌜ now (values .exit) ≡ valuesAfter (now (table .entry)) (now (notes .entry)) (now (shares .entry)) (now (tape .entry)) (now (values .entry)) (now (bank .entry)) ⌝ }
     ensures banked { λ _. ⌜ now (bank .exit) ≡ bankAfter (now (table .entry)) (now (notes .entry)) (now (shares .entry)) (now (tape .entry)) (now (values .entry)) (now (bank .entry)) ⌝ }
     ensures pipelined { λ _. ⌜ (Accepts (now (table .entry)) (now (notes .entry)) → Pipelined (now (table .entry)) (circuitOf (now (table .entry)) (now (notes .entry)))) ⌝ }
+    ensures registers_alone { λ _. ⌜ RegistersAlone (now (table .entry)) (now (notes .entry)) (now (shares .entry)) (now (tape .entry)) (now (values .entry)) (now (bank .entry)) ⌝ }
+    ensures bank_stays { λ _. ⌜ BankStays (now (table .entry)) (now (notes .entry)) (now (shares .entry)) (now (tape .entry)) (now (values .entry)) (now (bank .entry)) ⌝ }
 {
     let room = rules::smaller(values.len(), bank.len());
     let none = &table[0..0];

@@ -12,6 +12,7 @@ use Rattle.circuit.specs.Lists.{nth}
 use Rattle.circuit.specs.Circuit.{Circuit, size}
 use Rattle.circuit.specs.Rules.{Judgement, pass, refuse, need, _then_}
 use Rattle.semantics.specs.Calls.{bytesRule, probesRule}
+use Rattle.semantics.proofs.Banks.{bits-rule}
 use Rattle.evaluation.specs.Internal.Refusing.{refusal, OverFirst}
 use Rattle.reach.proofs.Marking.{drop-turn}
 
@@ -45,11 +46,6 @@ module _ {rule : ℕ → List ℕ → Judgement} {number : ℕ} {test : ℕ → 
   pub ask-end : length xs ≤ i → (n : ℕ) → rule n xs ≡ refusal number n xs i
   ask-end l n = rw (h n, drop-of-length-le xs l, asks .none (n + i), le-ltb i (length xs) l)
 
--- bytes none of which is over 1 pass
-pub all-pass : (bytes : List ℕ) (i : ℕ) → ((x : ℕ) → x < length bytes → nth bytes x ≤ 1) → bytesRule i bytes ≡ pass
-unfolding bytesRule
-all-pass [] i h = refl
-all-pass (b ∷ bs) i h = rw (le-leb b 1 (h 0 (omega arith))) (all-pass bs (suc i) (λ x l. h (suc x) (omega arith)))
-
+-- where no byte is over 1, the first is none
 pub overwrite-none : (bytes : List ℕ) → ((x : ℕ) → x < length bytes → nth bytes x ≤ 1) → OverFirst bytes (length bytes)
-overwrite-none bytes h = record { is = λ i. all-pass bytes i h ∙ sym (ap (λ b. cond b (refuse 18 0 (i + length bytes)) pass) (le-ltb (length bytes) (length bytes) (omega arith))) }
+overwrite-none bytes h = record { is = λ i. bits-rule bytes i h ∙ sym (ap (λ b. cond b (refuse 18 0 (i + length bytes)) pass) (le-ltb (length bytes) (length bytes) (omega arith))) }

@@ -1,7 +1,7 @@
 -- The values on a clock meet the clock's equations: a register shows its bit of the bank, and every other wire has the value of its gate, from
 -- the values of all and the tape from the random bits before it on.
 use mathlib.Core.Path.{_≡_, refl, sym, ap, ap₂, _∙_}
-use mathlib.Core.Bool.{Bool, false, cond}
+use mathlib.Core.Bool.{Bool, true, false, cond}
 use mathlib.Core.List.{List, [], _∷_}
 use Prim.Native.Nat.{ℕ, zero, suc, _+_, _<_}
 use native.Mathlib.Omega.{arith}
@@ -30,16 +30,19 @@ module _ {A B : Type 0} (none : A) (f : Wire → A → B) where
       let e : 1 + x ≡ suc x = omega arith in
       withBank-at ws (drop 1 bank) x z (omega arith) ∙ ap (f (getD ws x nothing)) (getD-drop 1 bank x none ∙ ap (λ n. getD bank n none) e)
 
-  -- no more of the bank counts
-  pub withBank-same : (ws : List Wire) (bank other : List A) → ((x : ℕ) → x < length ws → getD bank x none ≡ getD other x none) → withBank none f ws bank ≡ withBank none f ws other
+  -- of a bank counts what the wires make of it
+  pub withBank-same : (ws : List Wire) (bank other : List A) → ((x : ℕ) → x < length ws → f (getD ws x nothing) (getD bank x none) ≡ f (getD ws x nothing) (getD other x none))
+      → withBank none f ws bank ≡ withBank none f ws other
   withBank-same [] bank other h = refl
-  withBank-same (w ∷ ws) bank other h = ap₂ _∷_ (ap (f w) (h 0 (omega arith))) (withBank-same ws (drop 1 bank) (drop 1 other) (λ x l.
+  withBank-same (w ∷ ws) bank other h = ap₂ _∷_ (h 0 (omega arith)) (withBank-same ws (drop 1 bank) (drop 1 other) (λ x l.
       let e : 1 + x ≡ suc x = omega arith in
-      getD-drop 1 bank x none ∙ ap (λ n. getD bank n none) e ∙ h (suc x) (omega arith) ∙ ap (λ n. getD other n none) (sym e) ∙ sym (getD-drop 1 other x none)))
+      let behind : (b : List A) → getD (drop 1 b) x none ≡ getD b (suc x) none = λ b. getD-drop 1 b x none ∙ ap (λ n. getD b n none) e in
+      ap (f (getD ws x nothing)) (behind bank) ∙ h (suc x) (omega arith) ∙ ap (f (getD ws x nothing)) (sym (behind other))))
 
 -- as many values as wires on a clock, and as many bytes of the bank
-pub clock-same : (ws : List Wire) (bank other sh t : List Bool) → ((x : ℕ) → x < length ws → at bank x ≡ at other x) → clockValues ws bank sh t ≡ clockValues ws other sh t
-clock-same ws bank other sh t h = ap (λ us. valuesOf us sh t) (withBank-same false (λ w b. cond (isRegister (w .gate)) (constant b) (w .gate) placed w .place) ws bank other h)
+pub clock-same : (ws : List Wire) (bank other sh t : List Bool) → ((x : ℕ) → x < length ws → isRegister (gateAt ws x) ≡ true → at bank x ≡ at other x) → clockValues ws bank sh t ≡ clockValues ws other sh t
+clock-same ws bank other sh t h = ap (λ us. valuesOf us sh t) (withBank-same false (λ w b. cond (isRegister (w .gate)) (constant b) (w .gate) placed w .place) ws bank other (λ x l.
+    cases (isRegister (gateAt ws x)) (λ r. ap (λ b. cond (isRegister (gateAt ws x)) (constant b) (gateAt ws x) placed getD ws x nothing .place) (h x l r)) (λ r. rw r)))
 
 pub clock-length : (ws : List Wire) (bank sh t : List Bool) → length (clockValues ws bank sh t) ≡ length ws
 clock-length ws bank sh t = values-length sh t [] (onClock ws bank) ∙ omega (arith, withBank-length false (λ w b. cond (isRegister (w .gate)) (constant b) (w .gate) placed w .place) ws bank)
@@ -49,6 +52,9 @@ register-length ws bank = withBank-length 0 (λ w b. cond (isRegister (w .gate))
 
 pub register-at : (ws : List Wire) (bank : List ℕ) (x : ℕ) → x < length ws → nth (registerBytes ws bank) x ≡ cond (isRegister (gateAt ws x)) (nth bank x) 0
 register-at ws bank x l = withBank-at 0 (λ w b. cond (isRegister (w .gate)) b 0) ws bank x 0 l
+
+pub register-same : (ws : List Wire) (bank other : List ℕ) → ((x : ℕ) → x < length ws → isRegister (gateAt ws x) ≡ true → nth bank x ≡ nth other x) → registerBytes ws bank ≡ registerBytes ws other
+register-same ws bank other h = withBank-same 0 (λ w b. cond (isRegister (w .gate)) b 0) ws bank other (λ x l. cases (isRegister (gateAt ws x)) (λ r. rw r (h x l r)) (λ r. rw r))
 
 pub held-length : (ws : List Wire) (values : List Bool) (bank : List ℕ) → length (heldBytes ws values bank) ≡ length ws
 held-length ws values bank = withBank-length 0 (λ w b. cond (isRegister (w .gate)) (byte (value (w .gate) (at values) [] [])) b) ws bank

@@ -10,5 +10,6 @@ pub mod Clocked
 pub mod Listed
 pub mod Inputs
 pub mod Pipeline
+pub mod Banks
 pub mod Clocks
 pub mod Reading

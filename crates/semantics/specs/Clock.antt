@@ -9,7 +9,7 @@ use Rattle.circuit.specs.Lists.{range, concatMap, nth, overwrite}
 use Rattle.circuit.specs.Wires.{Gate, input, constant, random, reg, inverse, sum, product, andNot, Wire, _placed_}
 use Rattle.circuit.specs.Kinds.{OUT}
 use Rattle.circuit.specs.Circuit.{Circuit, size, empty, place, stageOf, newStage}
-use Rattle.circuit.specs.Rules.{Judgement, _then_}
+use Rattle.circuit.specs.Rules.{Judgement, pass, _then_}
 use Rattle.circuit.specs.Answer.{Answer, answer}
 use Rattle.circuit.specs.Composition.{Frame, frame, AllFit, build, wordsOf}
 use Rattle.semantics.specs.Values.{bits, byte, bytes, at, value, isRandom, valuesOf}
@@ -119,3 +119,17 @@ module _ (table notes shares tape values bank : List ℕ) where
 
   abbrev pub bankAfter : List ℕ
   bankAfter = written clockRule (heldAfter (k .wires) bank shares tape) bank
+
+-- only the registers' bytes of the bank are read: with any other bank of this length that has the same there, the answer, the values and the
+-- registers' bytes after it are the same
+abbrev pub RegistersAlone : (table notes shares tape values bank : List ℕ) → Type 0
+RegistersAlone table notes shares tape values bank = let ws = circuitOf table notes .wires in
+    (other : List ℕ) → length other ≡ length bank → registerBytes ws other ≡ registerBytes ws bank
+    → (clockAnswer table notes shares tape values other ≡ clockAnswer table notes shares tape values bank)
+    × (valuesAfter table notes shares tape values other ≡ valuesAfter table notes shares tape values bank)
+    × (registerBytes ws (bankAfter table notes shares tape values other) ≡ registerBytes ws (bankAfter table notes shares tape values bank))
+
+-- behind an accepted step, the bank is as long as it was, and none of its registers' bytes is over 1: no later step is refused for it
+abbrev pub BankStays : (table notes shares tape values bank : List ℕ) → Type 0
+BankStays table notes shares tape values bank = let new = bankAfter table notes shares tape values bank in
+    clockRule table notes shares tape values bank ≡ pass → (length new ≡ length bank) × ((i : ℕ) → bytesRule i (registerBytes (circuitOf table notes .wires) new) ≡ pass)

@@ -31,7 +31,7 @@ module _ {d first : ℕ} {a b : ℕ → ℕ} {old mid : List ℕ} {i : ℕ} (l :
   m-is v e k = ap₂ bitAnd (known-all f v e k (a i) (omega arith) (omega arith)) (b-is v e k)
 
   -- where the code finds B, a and b
-  pub products-turn : (p y z : ℕ) → p ≡ x → y ≡ a i → z ≡ b i
-      → Fills E (productAt d first 0) (productAt d first (i + 1)) old (set (set (set mid p (nth mid z)) (p + 1) (bitAnd (nth mid y) (nth mid z))) (p + 2) (bitAnd (nth mid y) (nth mid z)))
-  products-turn p y z p-is y-is z-is = rw (p-is, y-is, z-is) (fills-set both (omega arith) (λ v e k. rw (e i l .2) (m-is v e k))
+  pub products-turn : (p y z m : ℕ) → p ≡ x → y ≡ a i → z ≡ b i → m ≡ bitAnd (nth mid y) (nth mid z)
+      → Fills E (productAt d first 0) (productAt d first (i + 1)) old (set (set (set mid p (nth mid z)) (p + 1) m) (p + 2) m)
+  products-turn p y z m p-is y-is z-is is = rw (is, p-is, y-is, z-is) (fills-set both (omega arith) (λ v e k. rw (e i l .2) (m-is v e k))
       (fills-set both (omega arith) (λ v e k. rw (e i l .1) (m-is v e k)) (fills-set word (omega arith) (λ v e k. rw (e i l .0) (b-is v e k)) f)))

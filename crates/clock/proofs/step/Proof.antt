@@ -8,9 +8,10 @@ use lib.ListN.{length}
 use Rattle.circuit.specs.Limits.{wireLimit}
 use Rattle.circuit.specs.Circuit.{Circuit}
 use Rattle.circuit.specs.Answer.{answer}
-use Rattle.semantics.specs.Calls.{circuitOf, callRule}
-use Rattle.semantics.specs.Clock.{clockRule}
+use Rattle.semantics.specs.Calls.{Accepts, circuitOf}
+use Rattle.semantics.specs.Clock.{Pipelined, RegistersAlone, BankStays}
 use Rattle.semantics.proofs.Pipeline.{pipelined}
+use Rattle.semantics.proofs.Banks.{registers-alone, bank-stays}
 use Rattle.checker.specs.Answers.{answerOf}
 use Rattle.evaluation.specs.Internal.Calling.{Shortest}
 use Rattle.evaluation.proofs.Answering.{Passed, passed, evaluable, two-sheets}
@@ -27,6 +28,14 @@ sheets c = let a = start c .args in a .values .now ∷ a .bank .now ∷ []
 
 shorter : (c : tie.After-judge) → Shortest (c .before .before .before .smaller .result) (sheets c)
 shorter c = two-sheets _ _ _ (c .before .before .before .smaller .ensures)
+
+-- what holds of every step
+laws : (c : tie.After-judge) → let a = start c .args in (Accepts (a .table .now) (a .notes .now) → Pipelined (a .table .now) (circuitOf (a .table .now) (a .notes .now)))
+    × (RegistersAlone (a .table .now) (a .notes .now) (a .shares .now) (a .tape .now) (a .values .now) (a .bank .now) × BankStays (a .table .now) (a .notes .now) (a .shares .now) (a .tape .now) (a .values .now) (a .bank .now))
+laws c = let a = start c .args in (
+  pipelined (a .table .now) (a .notes .now),
+  (registers-alone (a .table .now) (a .notes .now) (a .shares .now) (a .tape .now) (a .values .now) (a .bank .now), bank-stays (a .table .now) (a .notes .now) (a .shares .now) (a .tape .now) (a .values .now) (a .bank .now)),
+)
 
 -- behind an accepting verdict
 abbrev judged : tie.After-verdict → tie.After-judge
@@ -51,7 +60,7 @@ returns c =
     let a = start g .args in
     let e = refused-before _ _ _ _ (a .values .now) (a .bank .now) (sym (ap answerOf (c .enum-told .given .1)) ∙ j .answers (sheets g) (shorter g)) in
     let same = left _ _ _ _ (a .values .now) (a .bank .now) e in
-    (ap answerOf (c .enum-told .given .1) ∙ e, (j .noted, (same _ _, (same _ _, pipelined (a .table .now) (a .notes .now)))))
+    (ap answerOf (c .enum-told .given .1) ∙ e, (j .noted, (same _ _, (same _ _, laws g))))
 
 abbrev told : tie.After-first-over → tie.After-verdict
 told c = c .before .before .before
@@ -65,7 +74,7 @@ returns-2 c =
     let broken = over-first _ _ _ _ (a .values .now) (a .bank .now) (passes v) (f .first-over .ensures) (c .before .if1 .taken) in
     let e = sym (ap (answer (circuitOf (a .table .now) (a .notes .now))) broken) in
     let same = left _ _ _ _ (a .values .now) (a .bank .now) e in
-    (c .refusal .ensures ∙ e, (g .judge .ensures .noted, (same _ _, (same _ _, pipelined (a .table .now) (a .notes .now)))))
+    (c .refusal .ensures ∙ e, (g .judge .ensures .noted, (same _ _, (same _ _, laws g))))
 
 abbrev ran : tie.After-slice-known6 → tie.After-run
 ran c = c .before .before .before .before
@@ -81,7 +90,7 @@ returns-3 c =
     let p = passes v in
     let all = passes-all _ _ _ _ (a .values .now) (a .bank .now) p (f .first-over .ensures) (l .if1 .left) in (
       sym (ap answerOf (v .verdict .given .1)) ∙ g .judge .ensures .answers (sheets g) (shorter g) ∙ ap (answer (circuitOf (a .table .now) (a .notes .now))) (p .passes ∙ sym all),
-      (g .judge .ensures .noted, (valued _ _ _ _ _ _ p (f .first-over .ensures) (l .if1 .left) (r .run .ensures), (banked _ _ _ _ _ _ p (f .first-over .ensures) (l .if1 .left) (r .run .ensures), pipelined (a .table .now) (a .notes .now)))),
+      (g .judge .ensures .noted, (valued _ _ _ _ _ _ p (f .first-over .ensures) (l .if1 .left) (r .run .ensures), (banked _ _ _ _ _ _ p (f .first-over .ensures) (l .if1 .left) (r .run .ensures), laws g))),
     )
 
 pub step-spec : {M : Type 1} → statement M

@@ -10,7 +10,8 @@ pub cross-spec : {M : Type 1} → statement M
 cross-spec =
     tie.close
     (tie.spec
-    (λ c. search needs) (λ c. search needs) (λ c. search needs) (λ c. search needs) (λ c. search needs) (λ c. search needs)
+    (λ c κs. search needs) (λ c κs. search needs) (λ c. search needs) (λ c. search needs) (λ c κs. search needs)
+    (λ c. search needs) (λ c. search needs) (λ c. search needs) (λ c. search needs)
     (λ c. rw length-set (omega arith))
     (λ c. search needs)
     (λ c. rw length-set (omega arith))
@@ -23,4 +24,9 @@ cross-spec =
     (λ c. search needs)
     (λ c. rw (length-set, length-set, length-set) (omega arith))
     (λ c. search needs) (λ c. search needs)
-    (λ c. let s = c .before .before .before in crosses (s .args .values .now) (s .args .bank .now) (s .args .at) (s .args .a) (s .args .b) (s .args .r) (s .args .held) (s .pre .0) (s .pre .1)))
+    (λ c. let w = c .before .before in
+    let v = w .before .before in
+    let u = v .before in
+    let s = u .before .before .before in
+    let a = s .args in
+    crosses (a .values .now) (a .bank .now) (a .at) (a .a) (a .b) (a .r) (a .held) _ _ _ (u .u .ensures) (v .v .ensures) (w .w .ensures) (s .pre .0) (s .pre .1)))

@@ -53,12 +53,13 @@ turn c =
 
 loop-again : tie.Need-loop-again Inv-loop μ-loop
 loop-again c =
-    let p = c .before .before .before in
+    let m = c .before in
+    let p = m .before .before .before in
     let t = turn p in
     let h = place p in (
       omega arith,
       runs-next (h .before .loop .inv .1)
-          (λ k g u. upto-at (omega (arith, t .at-is)) (product-on _ _ _ (omega (arith, g .0, t .at-is, t .room, t .held-room)) (product-gates (k .gate) (t .at-is) (t .x-is) (t .y-is) (g .1 (h .before .loop .i) (h .loop-test .taken))) (upto-at (omega (arith, t .at-is)) u) (t .a-early) (t .b-early)))
+          (λ k g u. upto-at (omega (arith, t .at-is)) (product-on _ _ _ (omega (arith, g .0, t .at-is, t .room, t .held-room)) (product-gates (k .gate) (t .at-is) (t .x-is) (t .y-is) (g .1 (h .before .loop .i) (h .loop-test .taken))) (upto-at (omega (arith, t .at-is)) u) (t .a-early) (t .b-early) _ (m .m .ensures)))
           (rw length-set refl) (rw (length-set, length-set) refl),
     )
 
@@ -73,12 +74,13 @@ share-products-spec =
     (λ c κs. (start (c .before .before) .pre .0, omega arith))
     (λ c. omega (arith, turn (c .before)))
     (λ c. omega (arith, turn (c .before .before)))
-    (λ c. omega (arith, turn (c .before .before .before)))
-    (λ c. omega (arith, turn (c .before .before .before)))
+    (λ c κs. search needs)
+    (λ c. omega (arith, turn (c .before .before .before .before)))
+    (λ c. omega (arith, turn (c .before .before .before .before)))
     (λ c. search needs)
-    (λ c. omega (arith, turn (c .before .before .before)))
+    (λ c. omega (arith, turn (c .before .before .before .before)))
     (λ c. search needs)
-    (λ c. rw length-set (omega (arith, turn (c .before .before .before))))
+    (λ c. rw length-set (omega (arith, turn (c .before .before .before .before))))
     (λ c. search needs) (λ c. omega arith)
     loop-again
     (λ c. c .before .loop .inv .1 .sized)

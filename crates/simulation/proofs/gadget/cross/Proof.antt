@@ -10,6 +10,7 @@ pub cross-spec : {M : Type 1} → statement M
 cross-spec =
     tie.close
     (tie.spec
+    (λ c κs. search needs) (λ c κs. search needs) (λ c κs. search needs)
     (λ c. omega arith) (λ c. search needs)
     (λ c. rw (length-set) (omega arith))
     (λ c. search needs)
@@ -21,4 +22,5 @@ cross-spec =
     (λ c. search needs)
     (λ c. rw (length-set, length-set, length-set, length-set, length-set) (omega arith))
     (λ c. search needs)
-    (λ c. crosses (c .args .ones) (c .args .at) (c .args .a) (c .args .b) (c .args .r) (c .args .values .now) (c .pre)))
+    (λ c. let s = c .before .before .before .before in
+    crosses (s .args .ones) (s .args .at) (s .args .a) (s .args .b) (s .args .r) _ _ _ (c .before .before .u .ensures) (c .before .v .ensures) (c .w .ensures) (s .args .values .now) (s .pre)))

@@ -29,9 +29,14 @@ room c = omega (arith, start c .pre .4, c .before .loop .inv .1 .size)
 
 loop-again : tie.Need-loop-again Inv-loop μ-loop
 loop-again c =
-    let w = c .before .before .before .before in
+    let m = c .before in
+    let b = m .before .before .before in
+    let w = b .before in
     let t = w .before in
-    (omega arith, products-turn (t .loop-test .taken) (omega (arith, start t .pre .4)) (early t .0) (early t .1) (t .before .loop .inv .1) _ _ _ (c .product-at .ensures .0) (w .word-a .ensures) (c .before .before .before .word-b .ensures))
+    (omega arith, products-turn (t .loop-test .taken) (omega (arith, start t .pre .4)) (early t .0) (early t .1) (t .before .loop .inv .1) _ _ _ _ (c .product-at .ensures .0) (w .word-a .ensures) (b .word-b .ensures) (m .m .ensures))
+
+abbrev turn : tie.After-product-at Inv-loop μ-loop → tie.In-loop Inv-loop μ-loop
+turn c = c .before .before .before .before .before .before
 
 pub share-products-spec : {M : Type 1} → statement M
 share-products-spec =
@@ -43,12 +48,13 @@ share-products-spec =
     (λ c κs. omega arith) (λ c κs. omega arith)
     (λ c. omega (arith, early (c .before .before .before), c .before .word-b .ensures, c .before .before .before .before .loop .inv .1 .size))
     (λ c. omega (arith, early (c .before .before .before .before), c .before .before .before .word-a .ensures, c .before .before .before .before .before .loop .inv .1 .size))
-    (λ c κs. (start (c .before .before .before .before) .pre .0, omega arith))
-    (λ c. omega (arith, room (c .before .before .before .before .before), c .product-at .ensures .0))
+    (λ c κs. search needs)
+    (λ c κs. (start (c .before .before .before .before .before) .pre .0, omega arith))
+    (λ c. omega (arith, room (turn c), c .product-at .ensures .0))
     (λ c. search needs)
-    (λ c. rw (length-set) (omega (arith, room (c .before .before .before .before .before), c .product-at .ensures .0)))
+    (λ c. rw (length-set) (omega (arith, room (turn c), c .product-at .ensures .0)))
     (λ c. search needs)
-    (λ c. rw (length-set, length-set) (omega (arith, room (c .before .before .before .before .before), c .product-at .ensures .0)))
+    (λ c. rw (length-set, length-set) (omega (arith, room (turn c), c .product-at .ensures .0)))
     (λ c. search needs) (λ c. omega arith)
     loop-again
     (λ c. c .before .loop .inv .1 .size)
