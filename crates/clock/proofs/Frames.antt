@@ -25,28 +25,28 @@ filled-runs l f h = record { on = λ k g u. let (few, e, plain) = h k g in fill 
 one : (k : Clock) (first : ℕ) → isRegister (k .gate first) ≡ false → (x : ℕ) → first ≤ x → x < first + 1 → isRegister (k .gate x) ≡ false
 one k first h x l m = let e : x ≡ first = omega arith in ap (λ y. isRegister (k .gate y)) e ∙ h
 
-module _ (d first from used : ℕ) (ops shares tape : List ℕ) where
-  pub in-runs : (t : ℕ) {values new bank : List ℕ} → Fills (Copied shares from first d) first (first + d) values new → Runs (Framed (frame.Gate (gate.In t)) d first from used ops shares tape) first (first + d) values bank new bank
-  in-runs t f = filled-runs (omega arith) f (λ k g. (
-    g .0,
-    g .2,
+module _ {d first from used : ℕ} {ops shares tape : List ℕ} where
+  pub in-runs : {t : ℕ} {values new bank : List ℕ} → Fills (Copied shares from first d) first (first + d) values new → Runs (Framed (frame.Gate (gate.In t)) d first from used ops shares tape) first (first + d) values bank new bank
+  in-runs f = filled-runs (omega arith) f (λ k g. (
+    g .within,
+    g .fed,
     λ x l m.
         let q = x - first in
         let e : x ≡ first + q = omega arith in
-        ap (λ y. isRegister (k .gate y)) e ∙ ap isRegister (g .1 q (omega arith)),
+        ap (λ y. isRegister (k .gate y)) e ∙ ap isRegister (g .gates q (omega arith)),
   ))
 
-  pub con-runs : (l b t : ℕ) {values new bank : List ℕ} → Fills (λ v. v first ≡ cond (isSet b) 1 0) first (first + 1) values new → Runs (Framed (frame.Gate (gate.Con l b t)) d first from used ops shares tape) first (first + 1) values bank new bank
-  con-runs l b t f = filled-runs (omega arith) f (λ k g. (g .0, met k first (omega (arith, g .0)) (g .1), one k first (ap isRegister (g .1))))
+  pub con-runs : {l b t : ℕ} {values new bank : List ℕ} → Fills (λ v. v first ≡ cond (isSet b) 1 0) first (first + 1) values new → Runs (Framed (frame.Gate (gate.Con l b t)) d first from used ops shares tape) first (first + 1) values bank new bank
+  con-runs f = filled-runs (omega arith) f (λ k g. (g .within, met k first (omega (arith, g .within)) (g .gates), one k first (ap isRegister (g .gates))))
 
-  pub xor-runs : (x y : ℕ) {values new bank : List ℕ} → Fills (λ v. v first ≡ bitXor (v x) (v y)) first (first + 1) values new → Runs (Framed (frame.Gate (gate.Xor x y)) d first from used ops shares tape) first (first + 1) values bank new bank
-  xor-runs x y f = filled-runs (omega arith) f (λ k g. (g .0, met k first (omega (arith, g .0)) (g .1) ∙ ap (bitXor (k .shows x)) (xor-zero-r (k .shows y)), one k first (ap isRegister (g .1))))
+  pub xor-runs : {x y : ℕ} {values new bank : List ℕ} → Fills (λ v. v first ≡ bitXor (v x) (v y)) first (first + 1) values new → Runs (Framed (frame.Gate (gate.Xor x y)) d first from used ops shares tape) first (first + 1) values bank new bank
+  xor-runs {x} {y} f = filled-runs (omega arith) f (λ k g. (g .within, met k first (omega (arith, g .within)) (g .gates) ∙ ap (bitXor (k .shows x)) (xor-zero-r (k .shows y)), one k first (ap isRegister (g .gates))))
 
-  pub not-runs : (x : ℕ) {values new bank : List ℕ} → Fills (λ v. v first ≡ bitXor 1 (v x)) first (first + 1) values new → Runs (Framed (frame.Gate (gate.Not x)) d first from used ops shares tape) first (first + 1) values bank new bank
-  not-runs x f = filled-runs (omega arith) f (λ k g. (g .0, met k first (omega (arith, g .0)) (g .1), one k first (ap isRegister (g .1))))
+  pub not-runs : {x : ℕ} {values new bank : List ℕ} → Fills (λ v. v first ≡ bitXor 1 (v x)) first (first + 1) values new → Runs (Framed (frame.Gate (gate.Not x)) d first from used ops shares tape) first (first + 1) values bank new bank
+  not-runs f = filled-runs (omega arith) f (λ k g. (g .within, met k first (omega (arith, g .within)) (g .gates), one k first (ap isRegister (g .gates))))
 
-  pub out-runs : (values bank : List ℕ) → Runs (Framed (frame.Gate gate.Out) d first from used ops shares tape) first (first + 0) values bank values bank
-  out-runs values bank = runs-at refl (omega arith) (runs-none first values bank)
+  pub out-runs : {values bank : List ℕ} → Runs (Framed (frame.Gate gate.Out) d first from used ops shares tape) first (first + 0) values bank values bank
+  out-runs {values} {bank} = runs-at refl (omega arith) (runs-none first values bank)
 
-  pub reg-runs : (x : ℕ) {values bank newBank : List ℕ} → Runs (λ k. (first + 1 ≤ k .size) × (k .gate first ≡ reg x)) first (first + 1) values bank values newBank → Runs (Framed (frame.Gate (gate.Reg x)) d first from used ops shares tape) first (first + 1) values bank values newBank
-  reg-runs x r = record { on = λ k g u. r .on k (g .0, g .1) u; sized = refl; held-sized = r .held-sized }
+  pub reg-runs : {x : ℕ} {values bank newBank : List ℕ} → Runs (λ k. (first + 1 ≤ k .size) × (k .gate first ≡ reg x)) first (first + 1) values bank values newBank → Runs (Framed (frame.Gate (gate.Reg x)) d first from used ops shares tape) first (first + 1) values bank values newBank
+  reg-runs r = record { on = λ k g u. r .on k (g .within, g .gates) u; sized = refl; held-sized = r .held-sized }

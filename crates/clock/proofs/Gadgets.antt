@@ -18,19 +18,19 @@ use Rattle.clock.specs.Internal.Running.{Clock, Upto, Runs}
 use Rattle.clock.specs.Internal.Parts.{Draws, Products, Rows, Holds, Framed}
 use Rattle.clock.proofs.Wires.{met, fill, upto-at}
 
--- AND: r and R, then B, m and M, then the rows and the outputs
+-- AND: r and R, then B, m and M, then the rows and the outputs. It takes no shares
 pub and-runs : (d first used randoms : ℕ) (ops tape : List ℕ) → randoms ≡ pairs d → {values bank one oneBank two twoBank new newBank : List ℕ}
     → Runs (Draws tape used first randoms) first (first + 2 * randoms) values bank one oneBank
     → Runs (Products d first (wordA ops) (wordB d ops)) (productAt d first 0) (productAt d first d) one oneBank two twoBank
     → Runs (Rows d first (wordA ops) (wordB d ops)) (first + crossStart d 0) (outAt d first d) two twoBank new newBank
-    → Runs (Framed frame.And d first 0 used ops tape tape) first (first + (7 * (d * (d - 1)) + 4 * d)) values bank new newBank
-and-runs d first used randoms ops tape same draws products rows =
+    → (from : ℕ) (shares : List ℕ) → Runs (Framed frame.And d first from used ops shares tape) first (first + (7 * (d * (d - 1)) + 4 * d)) values bank new newBank
+and-runs d first used randoms ops tape same draws products rows from shares =
     let twice = pairs-twice d in
     record {
       on = λ k g u.
-          let gates = g .1 in
-          let room : outAt d first d ≤ k .size = omega (arith, g .0) in
-          let drawn = draws .on k (omega (arith, twice), λ q l. let h : q < pairs d = omega arith in (gates .draws q h .0, gates .draws q h .1, g .2 q h)) u in
+          let gates = g .gates in
+          let room : outAt d first d ≤ k .size = omega (arith, g .within) in
+          let drawn = draws .on k (omega (arith, twice), λ q l. let h : q < pairs d = omega arith in (gates .draws q h .0, gates .draws q h .1, g .fed q h)) u in
           let multiplied = products .on k (omega arith, gates .products) (upto-at (omega (arith, twice)) drawn) in
           upto-at (omega arith) (rows .on k (room, gates .crosses, gates .outs) (upto-at (omega arith) multiplied));
       sized = rows .sized ∙ products .sized ∙ draws .sized;
@@ -42,12 +42,12 @@ pub ref-runs : (d first used randoms : ℕ) (ops tape : List ℕ) → randoms �
     → Fills (Copied tape used first randoms) first (first + randoms) values one
     → Fills (Masked d first (wordA ops)) (first + pairs d) (first + pairs d + d) one two
     → Runs (Holds d first) (heldAt d first 0) (heldAt d first d) two bank two newBank
-    → Runs (Framed frame.Ref d first 0 used ops tape tape) first (first + (pairs d + 2 * d)) values bank two newBank
-ref-runs d first used randoms ops tape same copied masked holds = record {
+    → (from : ℕ) (shares : List ℕ) → Runs (Framed frame.Ref d first from used ops shares tape) first (first + (pairs d + 2 * d)) values bank two newBank
+ref-runs d first used randoms ops tape same copied masked holds from shares = record {
   on = λ k g u.
-      let gates = g .1 in
-      let room : heldAt d first d ≤ k .size = omega (arith, g .0) in
-      let drawn = fill u copied (omega arith) (omega arith) (λ q l. g .2 q (omega arith)) (λ x l m.
+      let gates = g .gates in
+      let room : heldAt d first d ≤ k .size = omega (arith, g .within) in
+      let drawn = fill u copied (omega arith) (omega arith) (λ q l. g .fed q (omega arith)) (λ x l m.
       let q = x - first in
       let at : x ≡ first + q = omega arith in
       ap (λ y. isRegister (k .gate y)) at ∙ ap isRegister (gates .draws q (omega arith))) in

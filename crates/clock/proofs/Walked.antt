@@ -71,16 +71,21 @@ module _ {table shares tape values₀ bank₀ values bank : List ℕ} {place w f
     pub held-room : w + frameWires fr d ≤ length bank
     held-room = omega (arith, frame-within (t .walked) same m, ap size (a .circuit-is), t .few, t .held-sized)
 
+    framed : AllBits table shares tape values₀ → Framed fr d w from used (operandsAt table d place) shares tape (clockOf a shares tape values₀ bank₀)
+    framed b =
+        let inside = frame-within (t .walked) same m in
+        record {
+          within = inside;
+          gates = m .gates;
+          fed = frame-fed (whole a .wires) (whole-ordered a) values₀ shares tape (b .shareBits) (b .tapeBits) fr d w from used (operandsAt table d place) (m .gates) inside (rank-is (t .walked));
+        }
+
     pub clocking-next : {new newBank : List ℕ} → Runs (Framed fr d w from used (operandsAt table d place) shares tape) w (w + frameWires fr d) values bank new newBank
         → ClockingTo table shares tape values₀ bank₀ new newBank (wk .at) (w + sh .wires) (from + d * sh .inputs) (used + sh .randoms)
     clocking-next r = record {
       walked = walked-next (t .walked) same m;
       few = t .few;
-      on = λ b. upto-at (ap (λ n. w + n) (m .as-many)) (r .on (clockOf a shares tape values₀ bank₀) (
-        frame-within (t .walked) same m,
-        m .gates,
-        frame-fed (whole a .wires) (whole-ordered a) values₀ shares tape (b .shareBits) (b .tapeBits) fr d w from used (operandsAt table d place) (m .gates) (frame-within (t .walked) same m) (rank-is (t .walked)),
-      ) (t .on b));
+      on = λ b. upto-at (ap (λ n. w + n) (m .as-many)) (r .on (clockOf a shares tape values₀ bank₀) (framed b) (t .on b));
       sized = r .sized ∙ t .sized;
       held-sized = r .held-sized ∙ t .held-sized;
     }
@@ -88,8 +93,8 @@ module _ {table shares tape values₀ bank₀ values bank : List ℕ} {place w f
   -- no frame is left
   pub clocking-done : t .walked .between .after ≡ [] → Clocked table shares tape values₀ values₀ bank₀ values bank
   clocking-done none = record {
-    valued = λ b. subst (λ (k : Circuit). values ≡ overwrite (bytes (shownOn (k .wires) values₀ shares tape)) values₀) (sym (a .circuit-is)) (all-known vs values₀ values (omega (arith, vs-length, t .walked .evaluable .roomy, whole-is)) (λ x l. t .on b .below x (omega (arith, vs-length, count, whole-is))) (λ x l. t .on b .above x (omega (arith, vs-length))) (t .sized));
-    banked = λ b. subst (λ (k : Circuit). bank ≡ overwrite (heldBytes (k .wires) (shownOn (k .wires) values₀ shares tape) bank₀) bank₀) (sym (a .circuit-is)) (written-over new bank₀ bank (omega (arith, new-length, whole-is, t .few)) (λ x l. t .on b .held-below x (omega (arith, new-length, count, whole-is)) ∙ next-byte (gateAt ws x) (nth bank₀ x) ∙ sym (held-at ws vs bank₀ x (omega (arith, new-length)))) (λ x l. t .on b .held-above x (omega (arith, new-length, count, whole-is))) (t .held-sized));
+    valued = λ b. subst (λ (k : Circuit). values ≡ overwrite (bytes (shownOn (k .wires) values₀ shares tape)) values₀) (sym (a .circuit-is)) (shown (t .on b));
+    banked = λ b. subst (λ (k : Circuit). bank ≡ overwrite (heldBytes (k .wires) (shownOn (k .wires) values₀ shares tape) bank₀) bank₀) (sym (a .circuit-is)) (kept (t .on b));
   }
     where
       ws : List Wire
@@ -123,3 +128,12 @@ module _ {table shares tape values₀ bank₀ values bank : List ℕ} {place w f
       next-byte (sum ys) b = refl
       next-byte (product y z) b = refl
       next-byte (andNot y z) b = refl
+
+      shown : Upto (clockOf a shares tape values₀ bank₀) w values bank → values ≡ overwrite (bytes vs) values₀
+      shown u = all-known vs values₀ values (omega (arith, vs-length, t .walked .evaluable .roomy, whole-is))
+          (λ x l. u .below x (omega (arith, vs-length, count, whole-is))) (λ x l. u .above x (omega (arith, vs-length))) (t .sized)
+
+      kept : Upto (clockOf a shares tape values₀ bank₀) w values bank → bank ≡ overwrite new bank₀
+      kept u = written-over new bank₀ bank (omega (arith, new-length, whole-is, t .few))
+          (λ x l. u .held-below x (omega (arith, new-length, count, whole-is)) ∙ next-byte (gateAt ws x) (nth bank₀ x) ∙ sym (held-at ws vs bank₀ x (omega (arith, new-length))))
+          (λ x l. u .held-above x (omega (arith, new-length, count, whole-is))) (t .held-sized)

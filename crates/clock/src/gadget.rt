@@ -1,6 +1,7 @@
 // AND and REF on one clock. The buffer of values holds what every register shows; the bank gets what each shows on the next clock, which is
 // what its operand shows on this one. Capital letters are registers, as in document 01.
 ghost use mathlib.Core.Path.{_≡_};
+ghost use mathlib.Core.List.{List};
 ghost use Prim.Native.Nat.{ℕ, _+_, _-_, _*_, _≤_, _<_};
 ghost use lib.ListN.{length};
 ghost use Rattle.circuit.specs.Kinds.{pairs};
@@ -131,7 +132,7 @@ pub(crate) fn and(
     used: usize,
 )
     requires { ⌜ Small first d × (length (now ops) ≡ 1 + d + d) × RowBefore first d (wordA (now ops)) × RowBefore first d (wordB d (now ops)) × Roomy d first (now values) × Roomy d first (now bank) × (used + pairs d ≤ length (now tape)) × (randoms ≡ pairs d) ⌝ }
-    ensures { λ _. ⌜ Runs (Framed frame.And d first 0 used (now (ops .entry)) (now (tape .entry)) (now (tape .entry))) first (first + (7 * (d * (d - 1)) + 4 * d)) (now (values .entry)) (now (bank .entry)) (now (values .exit)) (now (bank .exit)) ⌝ }
+    ensures { λ _. ⌜ ((from : ℕ) (shares : List ℕ) → Runs (Framed frame.And d first from used (now (ops .entry)) shares (now (tape .entry))) first (first + (7 * (d * (d - 1)) + 4 * d)) (now (values .entry)) (now (bank .entry)) (now (values .exit)) (now (bank .exit))) ⌝ }
 {
     draws(values, bank, first, tape, used, randoms);
     share_products(values, bank, first, d, ops);
@@ -163,7 +164,7 @@ pub(crate) fn refresh(
     used: usize,
 )
     requires { ⌜ Small first d × (1 + d ≤ length (now ops)) × RowBefore first d (wordA (now ops)) × (heldAt d first d ≤ length (now values)) × (heldAt d first d ≤ length (now bank)) × (used + pairs d ≤ length (now tape)) × (randoms ≡ pairs d) ⌝ }
-    ensures { λ _. ⌜ Runs (Framed frame.Ref d first 0 used (now (ops .entry)) (now (tape .entry)) (now (tape .entry))) first (first + (pairs d + 2 * d)) (now (values .entry)) (now (bank .entry)) (now (values .exit)) (now (bank .exit)) ⌝ }
+    ensures { λ _. ⌜ ((from : ℕ) (shares : List ℕ) → Runs (Framed frame.Ref d first from used (now (ops .entry)) shares (now (tape .entry))) first (first + (pairs d + 2 * d)) (now (values .entry)) (now (bank .entry)) (now (values .exit)) (now (bank .exit))) ⌝ }
 {
     copy(values, first, tape, used, randoms);
     sums(values, first, d, randoms, ops);

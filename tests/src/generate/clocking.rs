@@ -34,9 +34,10 @@ pub fn clocking(random: &mut Random, made: &Circuit, accepted: bool) -> Clocking
         (0..made.wires.len()).filter(|wire| registers.binary_search(wire).is_err()).collect();
     let mut over = Vec::new();
     let bank = bank(random, &registers, &mut over);
-    // fewer where the circuit is large, since the reference takes long
+    // at times many; fewer where the circuit is large, since the reference takes long
     let steps = match made.wires.len() {
         _ if !accepted => 1,
+        0..=299 if random.once_in(64) => random.within(20, 60),
         0..=299 => random.within(1, 6),
         300..=999 => random.within(1, 3),
         _ => random.within(1, 2),

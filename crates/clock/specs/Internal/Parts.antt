@@ -60,5 +60,7 @@ FrameFed (frame.Gate gate.Out) d first from used shares tape v = Unit {0}
 FrameFed frame.And d first from used shares tape v = (q : ℕ) → q < pairs d → v (first + 2 * q) ≡ nth tape (used + q)
 FrameFed frame.Ref d first from used shares tape v = Copied tape used first (pairs d) v
 
-abbrev pub Framed : FrameCode → (d first from used : ℕ) (ops shares tape : List ℕ) → Clock → Type 0
-Framed fr d first from used ops shares tape k = (first + frameWires fr d ≤ k .size) × FrameGates fr d first from ops (k .gate) × FrameFed fr d first from used shares tape (k .shows)
+pub record Framed (fr : FrameCode) (d first from used : ℕ) (ops shares tape : List ℕ) (k : Clock) : Type 0 where
+  pub within : first + frameWires fr d ≤ k .size
+  pub gates : FrameGates fr d first from ops (k .gate)
+  pub fed : FrameFed fr d first from used shares tape (k .shows)

@@ -1,5 +1,6 @@
 -- Each arm's callee asks and ensures what the contract says of its frame.
 use mathlib.Core.Path.{_≡_, refl, ap, subst, _∙_}
+use mathlib.Core.List.{[]}
 use Prim.Native.Nat.{_+_, _≤_}
 use native.Mathlib.Omega.{arith}
 use lib.ListN.{length}
@@ -50,20 +51,20 @@ run-frame-spec =
     (λ c κs. let s = c .before .before .before .before .before .before .before .before .before in let q = asked s (c .before .before .enum-told4 .given .1) in
     (s .pre .0, q .2 .0, q .2 .1, omega (arith, q .0), omega (arith, q .1), q .3, s .pre .5))
     (λ c. c .before .before .copy .ensures .size)
-    (λ c. rw (c .before .before .before .before .before .before .before .frame .given .1, c .before .before .before .before .enum-told .given .1) (let a = entry (c .before .before .before .before .before .before) .args in in-runs (a .d) (a .first) (a .from) (a .used) (a .ops .now) (a .shares .now) (a .tape .now) 0 (c .before .before .copy .ensures)))
+    (λ c. rw (c .before .before .before .before .before .before .before .frame .given .1, c .before .before .before .before .enum-told .given .1) (in-runs (c .before .before .copy .ensures)))
     (λ c. c .before .before .constant .ensures .size)
-    (λ c. rw (c .before .before .before .before .before .before .before .before .frame .given .1, c .before .before .before .before .before .gate .given .1) (let a = entry (c .before .before .before .before .before .before .before) .args in con-runs (a .d) (a .first) (a .from) (a .used) (a .ops .now) (a .shares .now) (a .tape .now) 0 (c .before .before .before .before .before .gate .given .0 .1 .0) 0 (c .before .before .constant .ensures)))
+    (λ c. rw (c .before .before .before .before .before .before .before .before .frame .given .1, c .before .before .before .before .before .gate .given .1) (con-runs (c .before .before .constant .ensures)))
     (λ c. c .before .before .sum .ensures .size)
-    (λ c. rw (c .before .before .before .before .before .before .before .before .frame .given .1, c .before .before .before .before .before .gate2 .given .1) (let a = entry (c .before .before .before .before .before .before .before) .args in xor-runs (a .d) (a .first) (a .from) (a .used) (a .ops .now) (a .shares .now) (a .tape .now) _ _ (c .before .before .sum .ensures)))
+    (λ c. rw (c .before .before .before .before .before .before .before .before .frame .given .1, c .before .before .before .before .before .gate2 .given .1) (xor-runs (c .before .before .sum .ensures)))
     (λ c. c .before .before .inverse .ensures .size)
-    (λ c. rw (c .before .before .before .before .before .before .before .before .frame .given .1, c .before .before .before .before .before .gate3 .given .1) (let a = entry (c .before .before .before .before .before .before .before) .args in not-runs (a .d) (a .first) (a .from) (a .used) (a .ops .now) (a .shares .now) (a .tape .now) _ (c .before .before .inverse .ensures)))
+    (λ c. rw (c .before .before .before .before .before .before .before .before .frame .given .1, c .before .before .before .before .before .gate3 .given .1) (not-runs (c .before .before .inverse .ensures)))
     (λ c. refl)
     (λ c. c .before .before .register .ensures .held-sized)
-    (λ c. rw (c .before .before .before .before .before .before .before .before .before .frame .given .1, c .before .before .before .before .before .before .gate4 .given .1) (let a = entry (c .before .before .before .before .before .before .before .before) .args in reg-runs (a .d) (a .first) (a .from) (a .used) (a .ops .now) (a .shares .now) (a .tape .now) _ (c .before .before .register .ensures)))
-    (λ c. rw (c .before .before .before .frame .given .1, c .enum-told2 .given .1) (let a = entry (c .before .before) .args in out-runs (a .d) (a .first) (a .from) (a .used) (a .ops .now) (a .shares .now) (a .tape .now) (a .values .now) (a .bank .now)))
-    (λ c. c .before .before .before .before .and .ensures .sized)
-    (λ c. c .before .before .before .before .and .ensures .held-sized)
-    (λ c. rw (c .before .before .before .before .before .before .before .enum-told3 .given .1) (c .before .before .before .before .and .ensures))
-    (λ c. c .before .before .before .before .refresh .ensures .sized)
-    (λ c. c .before .before .before .before .refresh .ensures .held-sized)
-    (λ c. rw (c .before .before .before .before .before .before .before .enum-told4 .given .1) (c .before .before .before .before .refresh .ensures)))
+    (λ c. rw (c .before .before .before .before .before .before .before .before .before .frame .given .1, c .before .before .before .before .before .before .gate4 .given .1) (reg-runs (c .before .before .register .ensures)))
+    (λ c. rw (c .before .before .before .frame .given .1, c .enum-told2 .given .1) out-runs)
+    (λ c. c .before .before .before .before .and .ensures 0 [] .sized)
+    (λ c. c .before .before .before .before .and .ensures 0 [] .held-sized)
+    (λ c. rw (c .before .before .before .before .before .before .before .enum-told3 .given .1) (c .before .before .before .before .and .ensures _ _))
+    (λ c. c .before .before .before .before .refresh .ensures 0 [] .sized)
+    (λ c. c .before .before .before .before .refresh .ensures 0 [] .held-sized)
+    (λ c. rw (c .before .before .before .before .before .before .before .enum-told4 .given .1) (c .before .before .before .before .refresh .ensures _ _)))
