@@ -1,12 +1,12 @@
 -- How a step ends: rule 18 of the bank behind the rules of an evaluation, and what an accepted and a refused step leave.
-use mathlib.Core.Path.{_≡_, refl, sym, ap, ap₂, subst, _∙_}
-use mathlib.Core.Bool.{Bool, true, false, cond}
+use mathlib.Core.Path.{_≡_, sym, ap, ap₂, subst, _∙_}
+use mathlib.Core.Bool.{cond}
 use mathlib.Core.List.{List, [], _∷_}
 use Prim.Native.Nat.{ℕ, _+_, _≤_, _<_}
 use native.Mathlib.Omega.{arith}
 use lib.ListN.{length}
 use borrow.Author.Tests.{lt-ltb, le-ltb}
-use Rattle.circuit.specs.Lists.{nth, overwrite}
+use Rattle.circuit.specs.Lists.{nth}
 use Rattle.circuit.specs.Circuit.{Circuit, size}
 use Rattle.circuit.specs.Rules.{Judgement, pass, refuse, _then_}
 use Rattle.circuit.specs.Answer.{refused, answer}

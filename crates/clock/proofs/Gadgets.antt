@@ -1,11 +1,11 @@
 -- AND and REF on a clock, from their parts.
-use mathlib.Core.Path.{_≡_, sym, ap, subst, _∙_}
+use mathlib.Core.Path.{_≡_, refl, ap, _∙_}
 use mathlib.Core.List.{List}
 use Prim.Native.Nat.{ℕ, _+_, _-_, _*_, _≤_, _<_}
 use native.Mathlib.Omega.{arith}
 use lib.Bits.{bitXor}
-use lib.ListN.{length}
 use Rattle.circuit.specs.Lists.{nth}
+use Rattle.circuit.specs.Wires.{random}
 use Rattle.circuit.specs.Gadgets.{others}
 use Rattle.circuit.specs.Kinds.{pairs}
 use Rattle.circuit.proofs.Sizes.{pairs-twice}
@@ -14,9 +14,14 @@ use Rattle.frames.specs.declared.walk.Frame.the-variants as frame
 use Rattle.gadgets.specs.Internal.Places.{wordA, wordB, productAt, crossStart, outAt, maskAt, sumAt, heldAt}
 use Rattle.simulation.specs.Internal.Filling.{Fills, Copied, Masked}
 use Rattle.simulation.proofs.Adding.{wordSum-map}
-use Rattle.clock.specs.Internal.Running.{Clock, Upto, Runs}
+use Rattle.simulation.proofs.Ranks.{pairs-rank, masks-rank}
+use Rattle.clock.specs.Internal.Running.{Clock, Runs}
 use Rattle.clock.specs.Internal.Parts.{Draws, Products, Rows, Holds, Framed}
 use Rattle.clock.proofs.Wires.{met, fill, upto-at}
+
+-- a random wire shows its bit of the tape
+random-shows : (k : Clock) (x n : ℕ) → x < k .size → k .gate x ≡ random → k .rank x ≡ n → k .shows x ≡ nth (k .tape) n
+random-shows k x n l e r = met k x l e refl ∙ ap (nth (k .tape)) r
 
 -- AND: r and R, then B, m and M, then the rows and the outputs. It takes no shares
 pub and-runs : (d first used randoms : ℕ) (ops tape : List ℕ) → randoms ≡ pairs d → {values bank one oneBank two twoBank new newBank : List ℕ}
@@ -30,7 +35,9 @@ and-runs d first used randoms ops tape same draws products rows from shares =
       on = λ k g u.
           let gates = g .gates in
           let room : outAt d first d ≤ k .size = omega (arith, g .within) in
-          let drawn = draws .on k (omega (arith, twice), λ q l. let h : q < pairs d = omega arith in (gates .draws q h .0, gates .draws q h .1, g .fed q h)) u in
+          let fed : (q : ℕ) → q < pairs d → k .shows (first + 2 * q) ≡ nth tape (used + q) = λ q h.
+          random-shows k (first + 2 * q) (used + q) (omega (arith, twice)) (gates .draws q h .0) (pairs-rank (k .size) (k .gate) (k .rank) (k .ranks) first used (pairs d) (g .drawn) (gates .draws) (omega (arith, twice)) q (omega arith)) ∙ ap (λ t. nth t (used + q)) (g .tape-is) in
+          let drawn = draws .on k (omega (arith, twice), λ q l. let h : q < pairs d = omega arith in (gates .draws q h .0, gates .draws q h .1, fed q h)) u in
           let multiplied = products .on k (omega arith, gates .products) (upto-at (omega (arith, twice)) drawn) in
           upto-at (omega arith) (rows .on k (room, gates .crosses, gates .outs) (upto-at (omega arith) multiplied));
       sized = rows .sized ∙ products .sized ∙ draws .sized;
@@ -47,12 +54,12 @@ ref-runs d first used randoms ops tape same copied masked holds from shares = re
   on = λ k g u.
       let gates = g .gates in
       let room : heldAt d first d ≤ k .size = omega (arith, g .within) in
-      let drawn = fill u copied (omega arith) (omega arith) (λ q l. g .fed q (omega arith)) (λ x l m.
+      let drawn = fill u copied (omega arith) (omega arith) (λ q l. random-shows k (first + q) (used + q) (omega arith) (gates .draws q (omega arith)) (masks-rank (k .size) (k .gate) (k .rank) (k .ranks) first used (pairs d) (g .drawn) (gates .draws) (omega arith) q (omega arith)) ∙ ap (λ t. nth t (used + q)) (g .tape-is)) (λ x l m.
       let q = x - first in
       let at : x ≡ first + q = omega arith in
       ap (λ y. isRegister (k .gate y)) at ∙ ap isRegister (gates .draws q (omega arith))) in
       let sums : (i : ℕ) → i < d → k .shows (sumAt d first i) ≡ bitXor (k .shows (wordA ops i)) _ = λ i l.
-      met k (sumAt d first i) (omega arith) (gates .sums i l) ∙ ap (bitXor (k .shows (wordA ops i))) (wordSum-map (k .shows) (λ j. maskAt d first i j) (others d i)) in
+      met k (sumAt d first i) (omega arith) (gates .sums i l) refl ∙ ap (bitXor (k .shows (wordA ops i))) (wordSum-map (k .shows) (λ j. maskAt d first i j) (others d i)) in
       let added = fill (upto-at (omega arith) drawn) masked (omega arith) (omega arith) sums (λ x l m.
       let i = x - (first + pairs d) in
       let at : x ≡ sumAt d first i = omega arith in

@@ -1,6 +1,6 @@
 -- The wires of AND behind B, m and M on a clock, share by share: a row, then its output, which stands behind all rows.
 use mathlib.Core.Path.{_≡_, refl, sym, ap, _∙_}
-use mathlib.Core.List.{List, map, _++_}
+use mathlib.Core.List.{List, map}
 use Prim.Native.Nat.{ℕ, _+_, _-_, _≤_, _<_}
 use native.Mathlib.Omega.{arith}
 use lib.Bits.{bitXor}
@@ -48,7 +48,7 @@ out-shows : (d first i : ℕ) (a b : ℕ → ℕ) (k : Clock) → Rows d first a
 out-shows d first i a b k g l =
     let us = map (λ j. crossAt d first i j + 1) (others d i) in
     let vs = map (λ j. crossAt d first i j + 5) (others d i) in
-    sym (met k (outAt d first i) (omega (arith, g .0)) (g .2 i l) ∙ ap (bitXor (k .shows (productAt d first i + 2))) (wordSum-append (k .shows) us vs ∙ rw (wordSum-map, wordSum-map, ← wordSum-xor) refl))
+    sym (met k (outAt d first i) (omega (arith, g .0)) (g .2 i l) refl ∙ ap (bitXor (k .shows (productAt d first i + 2))) (wordSum-append (k .shows) us vs ∙ rw (wordSum-map, wordSum-map, ← wordSum-xor) refl))
 
 module _ {d first : ℕ} {a b : ℕ → ℕ} {values₀ bank₀ values bank : List ℕ} {i : ℕ} (rows : RowsOn d first a b values₀ bank₀ values bank i) (l : i < d) (early : a i < first) (room : outAt d first d ≤ length values)
     {one oneBank two twoBank : List ℕ} {s t : ℕ} (r : CrossesRow d first i b (nth values (a i)) (nth values (productAt d first i + 2)) 0 i values bank one oneBank s)

@@ -1,16 +1,16 @@
 -- A whole clock: the bank is copied into the buffer of values, and only registers stay as copied; and which wires are registers is seen from a
 -- bank on which no byte is a bit.
-use mathlib.Core.Path.{_≡_, refl, sym, ap, ap₂, subst, _∙_}
-use mathlib.Core.Bool.{Bool, true, false, cond}
+use mathlib.Core.Path.{_≡_, refl, sym, ap, _∙_}
+use mathlib.Core.Bool.{cond}
 use mathlib.Core.List.{List, [], _++_}
 use Prim.Native.Nat.{ℕ, _+_, _≤_, _<_}
 use native.Mathlib.Omega.{arith}
 use lib.Dec.{leb}
 use lib.ListN.{length, drop, length-drop, length-map, List·getD-append, List·getD-map}
 use lib.Seq.{getD-drop, ext-getD}
-use borrow.Author.Tests.{leb-true, leb-false, le-leb, lt-leb}
+use borrow.Author.Tests.{le-leb, lt-leb}
 use Rattle.circuit.specs.Lists.{nth, overwrite}
-use Rattle.circuit.specs.Circuit.{Circuit, size, isSet}
+use Rattle.circuit.specs.Circuit.{size, isSet}
 use Rattle.circuit.proofs.Base.{cases}
 use Rattle.semantics.specs.Values.{bits, byte, bytes, at, value}
 use Rattle.semantics.specs.Clock.{isRegister, heldBytes, registerBytes, shownOn}

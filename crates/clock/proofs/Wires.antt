@@ -8,30 +8,24 @@ use lib.Dec.{ltb}
 use lib.ListN.{length, set, length-set}
 use borrow.Author.Tests.{ltb-true, ltb-false}
 use Rattle.circuit.specs.Lists.{nth}
-use Rattle.circuit.specs.Wires.{Gate, input, constant, random, reg, inverse, sum, product, andNot}
+use Rattle.circuit.specs.Wires.{Gate, reg}
 use Rattle.circuit.proofs.Base.{cases}
 use Rattle.semantics.specs.Clock.{isRegister}
 use Rattle.gadgets.proofs.Stored.{nth-set}
 use Rattle.simulation.specs.Internal.Filling.{Values, Fills}
-use Rattle.clock.specs.Internal.Running.{Meets, held, Clock, Upto, Runs}
+use Rattle.simulation.proofs.Packing.{wordValue}
+use Rattle.clock.specs.Internal.Running.{held, Clock, Upto, Runs}
 
 -- the bank keeps its byte of a wire that is no register
 pub held-other : (v : Values) (g : Gate) (b : ℕ) → isRegister g ≡ false → held v g b ≡ b
-held-other v (input n) b h = refl
-held-other v (constant c) b h = refl
-held-other v random b h = refl
-held-other v (reg y) b h = absurd (false≢true (sym h))
-held-other v (inverse y) b h = refl
-held-other v (sum ys) b h = refl
-held-other v (product y z) b h = refl
-held-other v (andNot y z) b h = refl
+held-other v g b h = rw h
 
 differ : {b : Bool} → b ≡ false → b ≡ true → ⊥
 differ p q = false≢true (sym p ∙ q)
 
--- a wire whose gate is known meets its equation
-pub met : (k : Clock) (x : ℕ) {g : Gate} → x < k .size → k .gate x ≡ g → Meets (k .shows) x g
-met k x l e = subst (Meets (k .shows) x) e (k .meets x l)
+-- a wire whose gate is known, and is no register, shows what the gate gives
+pub met : (k : Clock) (x : ℕ) {g : Gate} → x < k .size → k .gate x ≡ g → isRegister g ≡ false → k .shows x ≡ wordValue 1 (k .shares) (k .tape) g (k .shows) (k .rank x)
+met k x l e plain = k .meets x l (ap isRegister e ∙ plain) ∙ ap (λ g. wordValue 1 (k .shares) (k .tape) g (k .shows) (k .rank x)) e
 
 module _ {k : Clock} {n : ℕ} {values bank : List ℕ} (u : Upto k n values bank) where
   -- the bank at wires that are no registers

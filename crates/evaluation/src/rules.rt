@@ -1,7 +1,6 @@
 // Rules 15 to 19: a call judged by them, 18 and 19 each by the first place where it is broken, and how a call's own refusals are answered.
 ghost use mathlib.Core.Path.{_≡_};
 ghost use Prim.Native.Nat.{min};
-ghost use lib.ListN.{length};
 ghost use Rattle.circuit.specs.Answer.{refused as refusedAnswer};
 ghost use Rattle.checker.specs.Answers.{answerOf};
 ghost use Rattle.evaluation.specs.Internal.Refusing.{OverFirst, MissingFirst};

@@ -19,7 +19,7 @@ use Rattle.frames.specs.declared.walk.Step.the-variants.{Next, Refused, End}
 use Rattle.frames.specs.declared.kinds.Shape.{Shape as ShapeCode}
 use Rattle.frames.specs.Walk.{operandsAt, shapeCode, stepAt}
 use Rattle.gadgets.specs.Internal.Frames.{frameWires}
-use Rattle.gadgets.proofs.Walking.{second-word, whole-few, wires-grow, step-answers, Answers}
+use Rattle.gadgets.proofs.Walking.{second-word, whole-few, wires-grow, Answers}
 use Rattle.simulation.specs.declared.values.Place.{Place}
 use Rattle.simulation.specs.Internal.Filling.{Fills, Copied, FrameValues}
 use Rattle.simulation.specs.Internal.Walked.{FilledTo, FillsFrames}

@@ -10,8 +10,8 @@ use borrow.Author.Tests.{le-leb, leb-true}
 use Rattle.circuit.specs.Limits.{wireLimit}
 use Rattle.circuit.specs.Lists.{nth, overwrite}
 use Rattle.circuit.specs.Wires.{Wire}
-use Rattle.circuit.specs.Circuit.{Circuit, size, isSet}
-use Rattle.circuit.specs.Rules.{Judgement, pass, refuse, need, _then_, checked}
+use Rattle.circuit.specs.Circuit.{Circuit, isSet}
+use Rattle.circuit.specs.Rules.{Judgement, pass, refuse, _then_, checked}
 use Rattle.circuit.specs.Answer.{answer}
 use Rattle.circuit.proofs.Base.{cases}
 use Rattle.circuit.proofs.Judging.{then-pass, need-then}

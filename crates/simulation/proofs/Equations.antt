@@ -2,8 +2,7 @@
 use mathlib.Core.Path.{_≡_, sym, ap, ap₂, fun-ext, _∙_}
 use mathlib.Core.Bool.{Bool, true}
 use mathlib.Core.List.{List, [], _∷_, map}
-use Prim.Native.Nat.{ℕ, zero, suc, _+_, _*_, _≤_, _<_}
-use native.Mathlib.Nat.{add-zero}
+use Prim.Native.Nat.{ℕ, _+_, _*_, _≤_, _<_}
 use native.Mathlib.Omega.{arith}
 use lib.Bits.{bitAnd, bitXor, xor-zero-r}
 use lib.ListN.{length, take}
@@ -16,13 +15,13 @@ use Rattle.circuit.specs.Circuit.{isSet}
 use Rattle.circuit.proofs.Base.{In}
 use Rattle.circuit.proofs.Parts.{others-pair}
 use Rattle.circuit.proofs.Sizes.{pairs-twice}
-use Rattle.semantics.specs.Values.{at, value, valuesOf}
+use Rattle.semantics.specs.Values.{at, valuesOf}
 use Rattle.semantics.proofs.Randoms.{randomsIn}
 use Rattle.frames.specs.declared.walk.Gate.the-variants as gate
 use Rattle.frames.specs.declared.walk.Frame.{Frame as FrameCode}
 use Rattle.frames.specs.declared.walk.Frame.the-variants as frame
 use Rattle.gadgets.specs.Internal.Places.{wordA, wordB, pairSite, pairAt, productAt, crossAt, outAt, maskAt, sumAt, heldAt}
-use Rattle.semantics.proofs.Solving.{gateAt, OrderedFrom, solved}
+use Rattle.semantics.proofs.Solving.{gateAt, OrderedFrom, solved, rank-next}
 use Rattle.gadgets.specs.Internal.Gates.{AndGates, RefGates, FrameGates}
 use Rattle.gadgets.specs.Internal.Frames.{frameWires}
 use Rattle.gadgets.proofs.Sites.{pair-lt}
@@ -60,7 +59,7 @@ module _ (ws : List Wire) (early : OrderedFrom 0 ws) (ones : ℕ) (shares tape :
     pair-room q l = omega (arith, pairs-twice d)
 
     rank-at : (q : ℕ) → q ≤ pairs d → rank (first + 2 * q) ≡ used + q
-    rank-at = pairs-rank ws first used (pairs d) start (gs .draws) (omega (arith, pairs-twice d))
+    rank-at = pairs-rank (length ws) (gateAt ws) rank (λ x g l. rank-next ws x l) first used (pairs d) start (gs .draws) (omega (arith, pairs-twice d))
 
     hold-is : (q : ℕ) → q < pairs d → valued (first + 2 * q + 1) ≡ valued (first + 2 * q)
     hold-is q l = gate-value (first + 2 * q + 1) (reg (first + 2 * q)) (pair-room q l) (gs .draws q l .1)
@@ -114,7 +113,7 @@ module _ (ws : List Wire) (early : OrderedFrom 0 ws) (ones : ℕ) (shares tape :
   -- REF
   module _ (d first : ℕ) (a : ℕ → ℕ) (gs : RefGates (gateAt ws) d first a) (made : heldAt d first d ≤ length ws) (used : ℕ) (start : rank first ≡ used) where
     ref-rank : (q : ℕ) → q ≤ pairs d → rank (first + q) ≡ used + q
-    ref-rank = masks-rank ws first used (pairs d) start (gs .draws) (omega arith)
+    ref-rank = masks-rank (length ws) (gateAt ws) rank (λ x g l. rank-next ws x l) first used (pairs d) start (gs .draws) (omega arith)
 
     ref-drawn : Copied tape used first (pairs d) valued
     ref-drawn q l = gate-value (first + q) random (omega arith) (gs .draws q l) ∙ ap (nth tape) (ref-rank q (omega arith))

@@ -1,18 +1,13 @@
 -- The values of an accepted table's wires, frame by frame: those of the frames before the walk's place are filled in.
 use mathlib.Core.Path.{_≡_, refl, sym, ap, ap₂, subst, _∙_}
-use mathlib.Core.Bool.{Bool, true}
 use mathlib.Core.List.{List, [], _∷_}
 use Prim.Native.Nat.{ℕ, _+_, _*_, _≤_, _<_}
-use native.Mathlib.Nat.{mul-le-mul-right}
 use native.Mathlib.Omega.{arith}
-use lib.ListN.{length, take, length-drop}
-use lib.Seq.{take-at}
+use lib.ListN.{length, length-drop}
 use Rattle.circuit.specs.Lists.{nth}
 use Rattle.circuit.specs.Wires.{Wire}
-use Rattle.circuit.specs.Circuit.{Circuit, size, empty}
-use Rattle.circuit.specs.Composition.{Frame, build, wordsOf}
-use Rattle.circuit.proofs.Building.{build-shares}
-use Rattle.semantics.proofs.Randoms.{randomsIn, build-randoms}
+use Rattle.circuit.specs.Circuit.{size}
+use Rattle.circuit.specs.Composition.{Frame, wordsOf}
 use Rattle.frames.specs.declared.walk.Frame.{Frame as FrameCode}
 use Rattle.frames.specs.declared.walk.Walk.{Walk}
 use Rattle.frames.specs.declared.kinds.Shape.{Shape as ShapeCode}
@@ -20,11 +15,11 @@ use Rattle.frames.specs.declared.walk.Step.{Step}
 use Rattle.frames.specs.declared.walk.Step.the-variants.{Next, End}
 use Rattle.frames.specs.Walk.{operandsAt, stepAt}
 use Rattle.gadgets.specs.Internal.Frames.{frameWires}
-use Rattle.gadgets.specs.Internal.Accepting.{AcceptedTable, circuitIn, Between}
-use Rattle.gadgets.proofs.Walking.{whole, whole-ordered, so-far, between-start, all-built, wires-in, wires-grow, inputs-grow, randoms-grow, Met, Answers, second-word, step-answers}
+use Rattle.gadgets.specs.Internal.Accepting.{AcceptedTable, Between}
+use Rattle.gadgets.proofs.Walking.{whole, whole-ordered, Met, Answers, second-word}
 use Rattle.simulation.specs.declared.values.Place.{Place}
 use Rattle.simulation.specs.Internal.Filling.{Known, Fills, FrameValues}
-use Rattle.simulation.specs.Internal.Evaluating.{packed, Packs, Evaluable, Evaluates}
+use Rattle.simulation.specs.Internal.Evaluating.{Evaluable, Evaluates}
 use Rattle.simulation.proofs.Filled.{known-all}
 use Rattle.simulation.specs.Internal.Walked.{valuesAt, FilledTo, FillsFrames}
 use Rattle.simulation.proofs.Walked.{walked-start, rank-is, walked-answers, frame-within, walked-next, walked-all}

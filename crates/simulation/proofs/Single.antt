@@ -22,10 +22,10 @@ use Rattle.simulation.specs.Internal.Evaluating.{packed, Packs, Evaluate
 abbrev pub Bits : List ℕ → Type 0
 Bits values = (x : ℕ) → nth values x ≤ 1
 
-one : (f : ℕ → Bool) → packed 1 f ≡ byte (f 0)
+pub one : (f : ℕ → Bool) → packed 1 f ≡ byte (f 0)
 one f = zero-add (byte (f 0))
 
-packs : (values : List ℕ) → Bits values → Packs 1 (λ l. bits values) values
+pub packs : (values : List ℕ) → Bits values → Packs 1 (λ l. bits values) values
 packs values h i = set-byte (nth values i) (h i) ∙ ap byte (sym (bits-at values i)) ∙ sym (one (λ l. at (bits values) i))
 
 -- a buffer over which a list is written, the rest as it was

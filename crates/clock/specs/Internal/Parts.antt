@@ -5,16 +5,12 @@ use Prim.Native.Nat.{ℕ, _+_, _-_, _*_, _≤_, _<_}
 use lib.Bits.{bitXor}
 use Rattle.circuit.specs.Lists.{nth, range}
 use Rattle.circuit.specs.Wires.{random, reg}
-use Rattle.circuit.specs.Kinds.{pairs}
-use Rattle.frames.specs.declared.walk.Gate.{Gate as GateCode}
-use Rattle.frames.specs.declared.walk.Gate.the-variants as gate
 use Rattle.frames.specs.declared.walk.Frame.{Frame as FrameCode}
-use Rattle.frames.specs.declared.walk.Frame.the-variants as frame
 use Rattle.gadgets.specs.Internal.Places.{productAt, crossAt, outAt, sumAt, heldAt}
 use Rattle.gadgets.specs.Internal.Gates.{CrossGates, CrossRowGates, CrossAllGates, ProductsGates, OutGates, FrameGates}
 use Rattle.gadgets.specs.Internal.Frames.{frameWires}
-use Rattle.simulation.specs.Internal.Filling.{Values, wordSum, Copied}
-use Rattle.clock.specs.Internal.Running.{Clock, Upto, Runs}
+use Rattle.simulation.specs.Internal.Filling.{Values, wordSum}
+use Rattle.clock.specs.Internal.Running.{Clock, Upto}
 
 -- r and R of every pair, the random bits being fed
 abbrev pub Draws : (tape : List ℕ) (used at count : ℕ) → Clock → Type 0
@@ -49,18 +45,10 @@ Rows d first a b k = (outAt d first d ≤ k .size) × CrossAllGates d first a b 
 abbrev pub Holds : (d first : ℕ) → Clock → Type 0
 Holds d first k = (heldAt d first d ≤ k .size) × ((i : ℕ) → i < d → k .gate (heldAt d first i) ≡ reg (sumAt d first i))
 
--- a frame, what it takes of shares and tape being fed
-abbrev pub FrameFed : FrameCode → (d first from used : ℕ) (shares tape : List ℕ) → Values → Type 0
-FrameFed (frame.Gate (gate.In t)) d first from used shares tape v = Copied shares from first d v
-FrameFed (frame.Gate (gate.Con l b t)) d first from used shares tape v = Unit {0}
-FrameFed (frame.Gate (gate.Xor x y)) d first from used shares tape v = Unit {0}
-FrameFed (frame.Gate (gate.Not x)) d first from used shares tape v = Unit {0}
-FrameFed (frame.Gate (gate.Reg x)) d first from used shares tape v = Unit {0}
-FrameFed (frame.Gate gate.Out) d first from used shares tape v = Unit {0}
-FrameFed frame.And d first from used shares tape v = (q : ℕ) → q < pairs d → v (first + 2 * q) ≡ nth tape (used + q)
-FrameFed frame.Ref d first from used shares tape v = Copied tape used first (pairs d) v
-
+-- a frame, from shares and a tape on
 pub record Framed (fr : FrameCode) (d first from used : ℕ) (ops shares tape : List ℕ) (k : Clock) : Type 0 where
   pub within : first + frameWires fr d ≤ k .size
   pub gates : FrameGates fr d first from ops (k .gate)
-  pub fed : FrameFed fr d first from used shares tape (k .shows)
+  pub drawn : k .rank first ≡ used
+  pub shares-are : k .shares ≡ shares
+  pub tape-is : k .tape ≡ tape

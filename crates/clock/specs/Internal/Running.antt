@@ -1,44 +1,32 @@
 -- A clock as it is run, wire by wire. Before it, the buffer of values holds what the registers show; behind it, the bank holds what they
 -- show on the next clock.
 use mathlib.Core.Path.{_≡_}
-use mathlib.Core.Bool.{true, cond}
-use mathlib.Core.List.{List}
+use mathlib.Core.Bool.{true, false, cond}
+use mathlib.Core.List.{List, []}
 use Prim.Native.Nat.{ℕ, _≤_, _<_}
-use lib.Bits.{bitAnd, bitXor}
 use lib.ListN.{length}
 use Rattle.circuit.specs.Lists.{nth}
-use Rattle.circuit.specs.Wires.{Gate, input, constant, random, reg, inverse, sum, product, andNot}
+use Rattle.circuit.specs.Wires.{Gate}
 use Rattle.semantics.specs.Clock.{isRegister}
-use Rattle.simulation.specs.Internal.Filling.{Values, wordSum}
+use Rattle.simulation.specs.Internal.Filling.{Values}
+use Rattle.simulation.proofs.Packing.{wordValue}
+use Rattle.simulation.proofs.Ranks.{Ranks}
 
--- what a wire shows, by its gate; shares and random bits are fed
-abbrev pub Meets : (v : Values) (x : ℕ) → Gate → Type 0
-Meets v x (input n) = Unit {0}
-Meets v x (constant b) = v x ≡ cond b 1 0
-Meets v x random = Unit {0}
-Meets v x (reg y) = Unit {0}
-Meets v x (inverse y) = v x ≡ bitXor 1 (v y)
-Meets v x (sum ys) = v x ≡ wordSum ys v
-Meets v x (product y z) = v x ≡ bitAnd (v y) (v z)
-Meets v x (andNot y z) = v x ≡ bitAnd (bitXor 1 (v y)) (v z)
-
--- the byte that the bank holds of a wire behind the clock, from the byte before
+-- the byte that the bank holds of a wire behind the clock, from the byte before: what a register's operand shows
 abbrev pub held : (v : Values) → Gate → ℕ → ℕ
-held v (input n) b = b
-held v (constant c) b = b
-held v random b = b
-held v (reg y) b = v y
-held v (inverse y) b = b
-held v (sum ys) b = b
-held v (product y z) b = b
-held v (andNot y z) b = b
+held v g b = cond (isRegister g) (wordValue 1 [] [] g v 0) b
 
--- a clock: its wires, what each shows, and the buffer of values and the bank before it
+-- a clock: its wires, the random bits before each, what is fed and what each wire shows; the buffer of values and the bank before it. A
+-- wire that is no register shows what its gate gives
 pub record Clock : Type 0 where
   pub size : ℕ
   pub gate : ℕ → Gate
+  pub rank : ℕ → ℕ
+  pub ranks : Ranks size gate rank
+  pub shares : List ℕ
+  pub tape : List ℕ
   pub shows : Values
-  pub meets : (x : ℕ) → x < size → Meets shows x (gate x)
+  pub meets : (x : ℕ) → x < size → isRegister (gate x) ≡ false → shows x ≡ wordValue 1 shares tape (gate x) shows (rank x)
   pub values : List ℕ
   pub bank : List ℕ
 

@@ -1,13 +1,13 @@
 -- A whole clock, from bytes that are bits.
 use mathlib.Core.Path.{_≡_}
-use mathlib.Core.Bool.{Bool, true}
+use mathlib.Core.Bool.{true}
 use mathlib.Core.List.{List}
 use Prim.Native.Nat.{ℕ, _≤_, _<_}
 use lib.ListN.{length}
 use Rattle.circuit.specs.Lists.{nth, overwrite}
 use Rattle.circuit.specs.Wires.{Wire}
 use Rattle.circuit.specs.Circuit.{size}
-use Rattle.semantics.specs.Values.{bits, bytes}
+use Rattle.semantics.specs.Values.{bytes}
 use Rattle.semantics.specs.Clock.{isRegister, heldBytes, registerBytes, shownOn}
 use Rattle.semantics.specs.Calls.{bytesRule}
 use Rattle.semantics.proofs.Solving.{gateAt}

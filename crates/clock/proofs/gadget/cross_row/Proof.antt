@@ -1,5 +1,5 @@
 -- The loop's invariant: the clock has come past the wires of the share i and the others below j, and what their U and W show is added.
-use Prim.Native.Nat.{_+_, _-_, _≤_, _<_}
+use Prim.Native.Nat.{_-_, _≤_, _<_}
 use native.Mathlib.Omega.{arith}
 use lib.ListN.{length}
 use borrow.Author.Needs.{needs}

@@ -1,5 +1,4 @@
 -- The bank copied, then all frames.
-use mathlib.Core.Path.{_∙_}
 use native.Mathlib.Omega.{arith}
 use borrow.Author.Needs.{needs}
 use Rattle.clock.proofs.running.run.Statement.{statement}

@@ -1,6 +1,6 @@
 -- The loop's invariant: no register before x has a byte over 1. The clock on buffers of its own has marked the registers.
 use mathlib.Core.Path.{_≡_, sym, ap, _∙_}
-use Prim.Native.Nat.{ℕ, _-_, _≤_, _<_}
+use Prim.Native.Nat.{ℕ, _-_, _≤_}
 use native.Mathlib.Omega.{arith}
 use lib.Dec.{leb}
 use lib.ListN.{getD-replicate}
