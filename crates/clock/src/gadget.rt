@@ -48,13 +48,13 @@ fn share_products(values: &mut [u8], bank: &mut [u8], first: usize, d: usize, op
     }
 }
 
-// AND's wires u, v and w, and what U, V and W show next, of two shares, from the words of a, b, r and R. The answer is the sum of what U and W
-// show.
-fn cross(values: &mut [u8], bank: &mut [u8], at: usize, a: u8, b: u8, r: u8, held: u8) -> u8
+// AND's wires u, v and w, and what U, V and W show next, of two shares, from the words of a, b, r and what R shows. The answer is the sum of
+// what U and W show.
+fn cross(values: &mut [u8], bank: &mut [u8], at: usize, a: u8, b: u8, r: u8, shown: u8) -> u8
     requires { ⌜ (at + 6 ≤ length (now values)) × (at + 6 ≤ length (now bank)) ⌝ }
-    ensures { λ s. ⌜ Crosses at a b r held (now (values .entry)) (now (bank .entry)) (now (values .exit)) (now (bank .exit)) s ⌝ }
+    ensures { λ s. ⌜ Crosses at a b r shown (now (values .entry)) (now (bank .entry)) (now (values .exit)) (now (bank .exit)) s ⌝ }
 {
-    let u = equations::u(1, a, held);
+    let u = equations::u(1, a, shown);
     let v = equations::v(b, r);
     let w = equations::w(a, values[at + 3]);
     values[at] = u;
@@ -66,7 +66,7 @@ fn cross(values: &mut [u8], bank: &mut [u8], at: usize, a: u8, b: u8, r: u8, hel
     values[at + 1] ^ values[at + 5]
 }
 
-// The same of the share i and each from one to another, added to a word.
+// The same of share i and of each share j with from <= j < to. The answer is the word plus their sums.
 fn cross_row(
     values: &mut [u8],
     bank: &mut [u8],
@@ -87,7 +87,7 @@ fn cross_row(
     while j < to {
         let pair = places::pair_at(d, first, i, j);
         let r = values[pair];
-        let held = values[pair + 1];
+        let shown = values[pair + 1];
         let b = values[places::word_b(ops, d, j)];
         sum = sum
             ^ cross(
@@ -97,7 +97,7 @@ fn cross_row(
                 a,
                 b,
                 r,
-                held,
+                shown,
             );
         j += 1;
     }

@@ -2,7 +2,7 @@
 ghost use mathlib.Core.Path.{_≡_};
 ghost use Rattle.checker.specs.Answers.{answerOf};
 ghost use Rattle.semantics.specs.Calls.{Accepts, circuitOf, callNotes};
-ghost use Rattle.semantics.specs.Clock.{clockAnswer, valuesAfter, bankAfter, Pipelined, RegistersAlone, BankStays};
+ghost use Rattle.semantics.specs.Clock.{clockAnswer, valuesAfter, bankAfter, Pipelined, RegistersAlone, IsClock, BankStays};
 use checker::Verdict;
 use evaluation::rules;
 
@@ -25,6 +25,7 @@ pub fn step(
     ensures banked { λ _. ⌜ now (bank .exit) ≡ bankAfter (now (table .entry)) (now (notes .entry)) (now (shares .entry)) (now (tape .entry)) (now (values .entry)) (now (bank .entry)) ⌝ }
     ensures pipelined { λ _. ⌜ (Accepts (now (table .entry)) (now (notes .entry)) → Pipelined (now (table .entry)) (circuitOf (now (table .entry)) (now (notes .entry)))) ⌝ }
     ensures registers_alone { λ _. ⌜ RegistersAlone (now (table .entry)) (now (notes .entry)) (now (shares .entry)) (now (tape .entry)) (now (values .entry)) (now (bank .entry)) ⌝ }
+    ensures is_clock { λ _. ⌜ IsClock (now (table .entry)) (now (notes .entry)) (now (values .entry)) ⌝ }
     ensures bank_stays { λ _. ⌜ BankStays (now (table .entry)) (now (notes .entry)) (now (shares .entry)) (now (tape .entry)) (now (values .entry)) (now (bank .entry)) ⌝ }
 {
     let room = rules::smaller(values.len(), bank.len());
@@ -39,7 +40,7 @@ pub fn step(
     else {
         return verdict;
     };
-    let x = running::first_over(table, wires, shares, tape, bank);
+    let x = running::first_register_over(table, wires, shares, tape, bank);
     if x < wires {
         return rules::refusal(18, shares.len() + tape.len() + x);
     }

@@ -162,8 +162,8 @@ fn search_registers(table: &[u16], wires: usize, shares: &[u8], tape: &[u8], ban
     x
 }
 
-// The same; where no byte of any wire is over 1, there is none.
-pub(crate) fn first_over(
+// The same. Where no wire's byte of the bank is over 1, the registers need not be found.
+pub(crate) fn first_register_over(
     table: &[u16],
     wires: usize,
     shares: &[u8],

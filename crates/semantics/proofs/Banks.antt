@@ -18,7 +18,7 @@ use Rattle.circuit.proofs.Judging.{then-pass, need-then}
 use Rattle.circuit.proofs.Exact.{sound, accepted-size}
 use Rattle.semantics.specs.Values.{bits, byte, bytes, at, value}
 use Rattle.semantics.specs.Calls.{bytesRule, sheetsRule, circuitOf, callRule, written}
-use Rattle.semantics.specs.Clock.{isRegister, heldBytes, registerBytes, shownOn, heldAfter, clockRule, RegistersAlone, BankStays}
+use Rattle.semantics.specs.Clock.{isRegister, heldBytes, registerBytes, shownOn, heldAfter, clockRule, bankOn, RegistersAlone, BankStays, IsClock}
 use Rattle.semantics.proofs.Solving.{gateAt}
 use Rattle.semantics.proofs.Clocked.{clock-same, register-length, register-at, register-same, held-length, held-at}
 
@@ -96,3 +96,8 @@ module _ (table notes shares tape values : List ℕ) where
         λ i. bits-rule (registerBytes ws (overwrite new bank)) i (λ x l. let m : x < length ws = omega (arith, register-length ws (overwrite new bank)) in
             rw (register-at ws (overwrite new bank) x m) (cases (isRegister (gateAt ws x)) (λ r. rw (r, next-byte ws values bank x m r) (byte-few (value (gateAt ws x) (at values) [] []))) (λ r. rw r (omega arith)))),
       )
+
+-- a step and a clock of a run are the same
+pub is-clock : (table notes values : List ℕ) → IsClock table notes values
+unfolding bankOn
+is-clock table notes values shares tapes start clock h = rw h (refl, refl)

@@ -166,22 +166,15 @@ module _ (d : ℕ) (fs : List Frame) (least : fewestShares ≤ d) (fit : AllFit 
 pub pipelined : (table notes : List ℕ) → Accepts table notes → Pipelined table (circuitOf table notes)
 pipelined table notes h =
     let a = sound table (length notes) h in
+    let ws = build (empty (a .d)) (a .fs) .wires in
     rw (a .circuit-is) (record {
       d = a .d;
       fs = a .fs;
       table-is = a .table-is;
       fit = a .fit;
+      built = refl;
+      shares-full = listed-length isInput (λ w. stageOf (w .place)) ws ∙ input-count (a .d) (a .fs);
+      tape-full = listed-length isRandom (λ w. stageOf (w .place)) ws ∙ sym (randoms-count ws) ∙ build-randoms (empty (a .d)) (a .fs) refl;
       wires = on-time (a .d) (a .fs) (a .least) (a .fit);
       outputs = outputs-on-time (a .d) (a .fs) (a .least) (a .fit);
     })
-
--- a set has as many shares and random bits as a single evaluation asks
-pub set-lengths : (table notes : List ℕ) → Accepts table notes → (shares tapes : ℕ → List ℕ) (set : ℕ) → let k = circuitOf table notes in
-    (length (setBits (stagesWhere isInput (k .wires)) shares set) ≡ k .inputs * k .d) × (length (setBits (stagesWhere isRandom (k .wires)) tapes set) ≡ k .randoms)
-set-lengths table notes h shares tapes set =
-    let a = sound table (length notes) h in
-    let ws = build (empty (a .d)) (a .fs) .wires in
-    rw (a .circuit-is) (
-      labels-map _ _ ∙ listed-length isInput _ ws ∙ input-count (a .d) (a .fs),
-      labels-map _ _ ∙ listed-length isRandom _ ws ∙ sym (randoms-count ws) ∙ build-randoms (empty (a .d)) (a .fs) refl,
-    )

@@ -3,7 +3,7 @@
 use mathlib.Core.Path.{_≡_}
 use mathlib.Core.Bool.{Bool, true, false, cond}
 use mathlib.Core.List.{List, [], _∷_, _++_, map}
-use Prim.Native.Nat.{ℕ, zero, suc, _+_, _<_}
+use Prim.Native.Nat.{ℕ, zero, suc, _+_, _*_, _<_}
 use lib.ListN.{length, getD, drop}
 use Rattle.circuit.specs.Lists.{range, concatMap, nth, overwrite}
 use Rattle.circuit.specs.Wires.{Gate, input, constant, random, reg, inverse, sum, product, andNot, Wire, _placed_}
@@ -79,23 +79,27 @@ module _ (ws : List Wire) (shares tapes : ℕ → List ℕ) (start : List ℕ) w
 abbrev pub stagesWhere : (Gate → Bool) → List Wire → List ℕ
 stagesWhere test ws = concatMap ws (λ w. cond (test (w .gate)) (stageOf (w .place) ∷ []) [])
 
--- the bits of a set, of which each has a stage: it is the one that is fed in its place on the clock of the set and the stage
+-- the bits of a set: bit i is the one that is fed at place i on clock set + stage, the stage being the i-th of these
 abbrev pub setBits : (stages : List ℕ) (feed : ℕ → List ℕ) (set : ℕ) → List Bool
 setBits stages feed set = map (λ i. at (bits (feed (set + nth stages i))) i) (range 0 (length stages))
 
--- a wire shows, on the clock of a set and a stage, what a single evaluation of the set gives: for every feed, every set from 0 on, and
--- whatever the bank held at first
+-- a wire shows on clock set + stage what a single evaluation of the set gives: for every feed, every set from 0 on, and whatever the bank
+-- held at first
 abbrev pub OnTime : Circuit → (x stage : ℕ) → Type 0
 OnTime k x stage = (shares tapes : ℕ → List ℕ) (start : List ℕ) (set : ℕ)
     → at (valuesOn (k .wires) shares tapes start (set + stage)) x
     ≡ at (valuesOf (k .wires) (setBits (stagesWhere isInput (k .wires)) shares set) (setBits (stagesWhere isRandom (k .wires)) tapes set)) x
 
--- the pipeline law of a table and its circuit: every wire is on time at its stage; so is every wire of an OUT, at the OUT's
+-- the pipeline law of a table and its circuit: a set has as many bits as a single evaluation asks for, every wire is on time at its stage, and
+-- so is every wire of an OUT, at the OUT's
 pub record Pipelined (table : List ℕ) (k : Circuit) : Type 0 where
   pub d : ℕ
   pub fs : List Frame
   pub table-is : table ≡ 0 ∷ d ∷ wordsOf fs
   pub fit : AllFit (empty d) fs
+  pub built : k ≡ build (empty d) fs
+  pub shares-full : length (stagesWhere isInput (k .wires)) ≡ k .inputs * k .d
+  pub tape-full : length (stagesWhere isRandom (k .wires)) ≡ k .randoms
   pub wires : (x : ℕ) → x < size k → OnTime k x (stageOf (place k x))
   pub outputs : (before after : List Frame) (ops : List ℕ) → fs ≡ before ++ (frame OUT ops ∷ after)
       → (i : ℕ) → i < d → OnTime k (nth ops i) (newStage (build (empty d) before) ops OUT)
@@ -132,4 +136,14 @@ RegistersAlone table notes shares tape values bank = let ws = circuitOf table no
 -- behind an accepted step, the bank is as long as it was, and none of its registers' bytes is over 1: no later step is refused for it
 abbrev pub BankStays : (table notes shares tape values bank : List ℕ) → Type 0
 BankStays table notes shares tape values bank = let new = bankAfter table notes shares tape values bank in
-    clockRule table notes shares tape values bank ≡ pass → (length new ≡ length bank) × ((i : ℕ) → bytesRule i (registerBytes (circuitOf table notes .wires) new) ≡ pass)
+    clockRule table notes shares tape values bank ≡ pass
+    → (length new ≡ length bank) × ((i : ℕ) → bytesRule i (registerBytes (circuitOf table notes .wires) new) ≡ pass)
+
+-- an accepted step is a clock of a run: with the bank before the clock and what the clock is fed, it shows the values on the clock and leaves the
+-- bank before the next
+abbrev pub IsClock : (table notes values : List ℕ) → Type 0
+IsClock table notes values = let ws = circuitOf table notes .wires in
+    (shares tapes : ℕ → List ℕ) (start : List ℕ) (clock : ℕ) → let bank = bankOn ws shares tapes start clock in
+    clockRule table notes (shares clock) (tapes clock) values bank ≡ pass
+    → (valuesAfter table notes (shares clock) (tapes clock) values bank ≡ overwrite (bytes (valuesOn ws shares tapes start clock)) values)
+    × (bankAfter table notes (shares clock) (tapes clock) values bank ≡ bankOn ws shares tapes start (suc clock))

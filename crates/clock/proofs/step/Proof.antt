@@ -9,9 +9,9 @@ use Rattle.circuit.specs.Limits.{wireLimit}
 use Rattle.circuit.specs.Circuit.{Circuit}
 use Rattle.circuit.specs.Answer.{answer}
 use Rattle.semantics.specs.Calls.{Accepts, circuitOf}
-use Rattle.semantics.specs.Clock.{Pipelined, RegistersAlone, BankStays}
+use Rattle.semantics.specs.Clock.{Pipelined, RegistersAlone, IsClock, BankStays}
 use Rattle.semantics.proofs.Pipeline.{pipelined}
-use Rattle.semantics.proofs.Banks.{registers-alone, bank-stays}
+use Rattle.semantics.proofs.Banks.{registers-alone, is-clock, bank-stays}
 use Rattle.checker.specs.Answers.{answerOf}
 use Rattle.evaluation.specs.Internal.Calling.{Shortest}
 use Rattle.evaluation.proofs.Answering.{Passed, passed, evaluable, two-sheets}
@@ -31,10 +31,10 @@ shorter c = two-sheets _ _ _ (c .before .before .before .smaller .ensures)
 
 -- what holds of every step
 laws : (c : tie.After-judge) → let a = start c .args in (Accepts (a .table .now) (a .notes .now) → Pipelined (a .table .now) (circuitOf (a .table .now) (a .notes .now)))
-    × (RegistersAlone (a .table .now) (a .notes .now) (a .shares .now) (a .tape .now) (a .values .now) (a .bank .now) × BankStays (a .table .now) (a .notes .now) (a .shares .now) (a .tape .now) (a .values .now) (a .bank .now))
+    × (RegistersAlone (a .table .now) (a .notes .now) (a .shares .now) (a .tape .now) (a .values .now) (a .bank .now) × (IsClock (a .table .now) (a .notes .now) (a .values .now) × BankStays (a .table .now) (a .notes .now) (a .shares .now) (a .tape .now) (a .values .now) (a .bank .now)))
 laws c = let a = start c .args in (
   pipelined (a .table .now) (a .notes .now),
-  (registers-alone (a .table .now) (a .notes .now) (a .shares .now) (a .tape .now) (a .values .now) (a .bank .now), bank-stays (a .table .now) (a .notes .now) (a .shares .now) (a .tape .now) (a .values .now) (a .bank .now)),
+  (registers-alone (a .table .now) (a .notes .now) (a .shares .now) (a .tape .now) (a .values .now) (a .bank .now), (is-clock (a .table .now) (a .notes .now) (a .values .now), bank-stays (a .table .now) (a .notes .now) (a .shares .now) (a .tape .now) (a .values .now) (a .bank .now))),
 )
 
 -- behind an accepting verdict
@@ -62,7 +62,7 @@ returns c =
     let same = left _ _ _ _ (a .values .now) (a .bank .now) e in
     (ap answerOf (c .enum-told .given .1) ∙ e, (j .noted, (same _ _, (same _ _, laws g))))
 
-abbrev told : tie.After-first-over → tie.After-verdict
+abbrev told : tie.After-first-register-over → tie.After-verdict
 told c = c .before .before .before
 
 returns-2 : tie.Need-returns-2
@@ -71,7 +71,7 @@ returns-2 c =
     let v = told f in
     let g = judged v in
     let a = start g .args in
-    let broken = over-first _ _ _ _ (a .values .now) (a .bank .now) (passes v) (f .first-over .ensures) (c .before .if1 .taken) in
+    let broken = over-first _ _ _ _ (a .values .now) (a .bank .now) (passes v) (f .first-register-over .ensures) (c .before .if1 .taken) in
     let e = sym (ap (answer (circuitOf (a .table .now) (a .notes .now))) broken) in
     let same = left _ _ _ _ (a .values .now) (a .bank .now) e in
     (c .refusal .ensures ∙ e, (g .judge .ensures .noted, (same _ _, (same _ _, laws g))))
@@ -88,9 +88,9 @@ returns-3 c =
     let g = judged v in
     let a = start g .args in
     let p = passes v in
-    let all = passes-all _ _ _ _ (a .values .now) (a .bank .now) p (f .first-over .ensures) (l .if1 .left) in (
+    let all = passes-all _ _ _ _ (a .values .now) (a .bank .now) p (f .first-register-over .ensures) (l .if1 .left) in (
       sym (ap answerOf (v .verdict .given .1)) ∙ g .judge .ensures .answers (sheets g) (shorter g) ∙ ap (answer (circuitOf (a .table .now) (a .notes .now))) (p .passes ∙ sym all),
-      (g .judge .ensures .noted, (valued _ _ _ _ _ _ p (f .first-over .ensures) (l .if1 .left) (r .run .ensures), (banked _ _ _ _ _ _ p (f .first-over .ensures) (l .if1 .left) (r .run .ensures), laws g))),
+      (g .judge .ensures .noted, (valued _ _ _ _ _ _ p (f .first-register-over .ensures) (l .if1 .left) (r .run .ensures), (banked _ _ _ _ _ _ p (f .first-register-over .ensures) (l .if1 .left) (r .run .ensures), laws g))),
     )
 
 pub step-spec : {M : Type 1} → statement M

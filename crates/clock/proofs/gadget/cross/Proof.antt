@@ -29,4 +29,4 @@ cross-spec =
     let u = v .before in
     let s = u .before .before .before in
     let a = s .args in
-    crosses (a .values .now) (a .bank .now) (a .at) (a .a) (a .b) (a .r) (a .held) _ _ _ (u .u .ensures) (v .v .ensures) (w .w .ensures) (s .pre .0) (s .pre .1)))
+    crosses (a .values .now) (a .bank .now) (a .at) (a .a) (a .b) (a .r) (a .shown) _ _ _ (u .u .ensures) (v .v .ensures) (w .w .ensures) (s .pre .0) (s .pre .1)))
