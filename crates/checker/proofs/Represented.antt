@@ -9,19 +9,19 @@ use lib.Dec.{ltb}
 use lib.ListN.{length, getD, drop, length-append, length-drop}
 use lib.Seq.{sets, sets-eq, take-append-seam, drop-append-add, drop-drop}
 use borrow.Author.Tests.{ne-eqb, le-leb, lt-leb, ltb-true}
-use Rattle.circuit.specs.Limits.{innerNote, fewestShares, mostShares}
+use Rattle.circuit.specs.Limits.{registeredNote, innerNote, fewestShares, mostShares}
 use Rattle.circuit.specs.Lists.{nth, overwrite}
-use Rattle.circuit.specs.Wires.{Wire, inner, constant, _placed_}
+use Rattle.circuit.specs.Wires.{Wire, named, inner, constant, isStop, _placed_}
 use Rattle.circuit.specs.Gadgets.{c, S, inAND, inREF}
 use Rattle.circuit.specs.Kinds.{Kind}
-use Rattle.circuit.specs.Circuit.{Circuit, size, Lookup, found, hidden, shownBy, lookUp, labelShown, newStage, made, extend}
+use Rattle.circuit.specs.Circuit.{Circuit, size, wireAt, place, Lookup, found, hidden, showing, shownBy, lookUp, labelShown, newStage, made, extend}
 use Rattle.circuit.specs.Answer.{note, notesOf, notesAfter}
 use Rattle.circuit.proofs.Base.{cases, AllFrom, all-any}
-use Rattle.circuit.proofs.Numbered.{at-all, all-default}
-use Rattle.circuit.specs.Composition.{Fits, fit-IN, fit-CON, fit-XOR, fit-NOT, fit-REG, fit-AND, fit-REF, fit-OUT}
-use Rattle.circuit.proofs.Building.{Lawful, step-all, gadget-all}
+use Rattle.circuit.proofs.Numbered.{all-get, at-all, all-default}
+use Rattle.circuit.specs.Composition.{Frame, AllFit, build, Fits, fit-IN, fit-CON, fit-XOR, fit-NOT, fit-REG, fit-AND, fit-REF, fit-OUT}
+use Rattle.circuit.proofs.Building.{Lawful, step-all, build-all, gadget-all, named-made, label-told}
 use Rattle.checker.specs.declared.notes.Found.the-variants.{Named}
-use Rattle.checker.specs.Internal.Notes.{firstWord, foundIn, shown, Represents}
+use Rattle.checker.specs.Internal.Notes.{firstWord, foundIn, labelNoted, shown, Represents}
 use Rattle.checker.proofs.MadeNotes.{notes-append}
 
 -- the words of what looking a wire up tells
@@ -116,6 +116,21 @@ label-new k _ _ ge h (fit-OUT ops t len p q) = tt
 
 pub label-step : (k : Circuit) (ops : List ℕ) (kind : Kind) → fewestShares ≤ k .d → Fits k kind ops → Lawful Labelled k → Lawful Labelled (extend k ops kind)
 label-step = step-all Labelled (λ k ops kind x wire l h. h) label-new
+
+pub build-labelled : {k : Circuit} (fs : List Frame) → fewestShares ≤ k .d → AllFit k fs → Lawful Labelled k → Lawful Labelled (build k fs)
+build-labelled fs ge fit h = build-all Labelled (λ k ops kind x wire l h. h) label-new fs ge fit h
+
+-- and the notes give every named wire its label
+pub label-noted : (k : Circuit) (notes : List ℕ) → k .d ≤ mostShares → Lawful Labelled k → (x l t : ℕ) → place k x ≡ named l t → labelNoted (notesAfter k notes) x ≡ l
+unfolding notesAfter
+label-noted k notes most law x l t e =
+    let least : 0 < k .d = omega (arith, all-get (Labelled k) 0 (k .wires) (constant false placed inner 0) law x (named-made k x l t e)) in
+    let few : l < mostShares = omega (arith, label-told k x e, label-old k least law x) in
+    ap (λ w. w % registeredNote) (words-at (k .wires) (drop (length (notesOf (k .wires))) notes) x (named-made k x l t e) .0 ∙ ap (λ p. firstNote (showing p (isStop (wireAt k x .gate)))) e) ∙ word (isStop (wireAt k x .gate)) few
+  where
+    word : (registered : Bool) → l < mostShares → firstWord l registered % registeredNote ≡ l
+    word true h = omega arith
+    word false h = omega arith
 
 -- the notes keep their length
 pub notes-same : (k : Circuit) (notes : List ℕ) → 2 * size k ≤ length notes → length (notesAfter k notes) ≡ length notes

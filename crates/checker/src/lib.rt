@@ -10,7 +10,7 @@ ghost use Rattle.checker.specs.Internal.Adding.{headNumber};
 
 mod forms;
 mod frame;
-mod notes;
+pub mod notes;
 mod numbers;
 mod span;
 

@@ -5,7 +5,7 @@ ghost use Prim.Native.Nat.{_+_, _*_, _≤_, _<_};
 ghost use lib.ListN.{length};
 ghost use lib.Seq.{sets};
 ghost use Rattle.circuit.specs.Limits.{mostShares};
-ghost use Rattle.checker.specs.Internal.Notes.{noted, stageFound, wireNumber, firstWord, innerWords, namedWords, madeWords};
+ghost use Rattle.checker.specs.Internal.Notes.{noted, labelNoted, stageFound, wireNumber, firstWord, innerWords, namedWords, madeWords};
 
 // Both words of an inner wire.
 const INNER: u16 = 0xFFFF;
@@ -52,6 +52,17 @@ pub(crate) fn look_up(notes: &[u16], wires: usize, wire: u16) -> Found
         stage: notes[2 * w + 1],
         registered: REGISTERED <= first,
     }
+}
+
+// The label that the notes give a wire, which has to be a named one that they hold; 0 past their end.
+pub fn label(notes: &[u16], wire: u16) -> u16
+    ensures { λ r. ⌜ r ≡ labelNoted (now (notes .entry)) wire ⌝ }
+{
+    let w = wire as usize;
+    if notes.len() <= 2 * w {
+        return 0;
+    }
+    notes[2 * w] % REGISTERED
 }
 
 // The stage that a wire shows; 0 where it shows none.

@@ -13,6 +13,7 @@ ghost use Rattle.text.specs.Reader.{readText};
 ghost use Rattle.text.specs.Answer.{textAnswer, textAnswerOf, tableAfter};
 ghost use Rattle.writer.specs.Writer.{writeAnswer, textAfter};
 ghost use Rattle.checker.specs.Answers.{answerOf};
+ghost use Rattle.plain.specs.Sharings.{sharingsAnswer};
 ghost use Rattle.counting.specs.Counting.{countAnswerOf, countAnswer, countsAfter};
 ghost use Rattle.exports.specs.Numbers.{AnswerIs, TextAnswerIs, CountAnswerIs};
 use checker::Verdict;
@@ -204,6 +205,22 @@ pub extern "C" fn masked_clock(
     ensures banked { λ _. ⌜ now (bank .exit) ≡ bankAfter (now (table .entry)) (now (notes .entry)) (now (shares .entry)) (now (tape .entry)) (now (values .entry)) (now (bank .entry)) ⌝ }
 {
     let verdict = clock::step(table, notes, shares, tape, values, bank);
+    put(verdict, a, b, c)
+}
+
+// plain::check_sharings
+#[no_mangle]
+pub extern "C" fn masked_check_sharings(
+    table: &[u16],
+    notes: &mut [u16],
+    a: &mut u64,
+    b: &mut u64,
+    c: &mut u64,
+) -> u64
+    ensures answered { λ r. ⌜ AnswerIs (sharingsAnswer (now (table .entry)) (now (notes .entry))) r (now (a .exit)) (now (b .exit)) (now (c .exit)) ⌝ }
+    ensures noted { λ _. ⌜ now (notes .exit) ≡ notesAfter (checked (now (table .entry)) (length (now (notes .entry))) .circuit) (now (notes .entry)) ⌝ }
+{
+    let verdict = plain::check_sharings(table, notes);
     put(verdict, a, b, c)
 }
 

@@ -102,10 +102,10 @@ module _ {table : List ℕ} (a : AcceptedTable table) {at : ℕ} (b : Between ta
   abbrev k : Circuit
   k = so-far a b
 
-  same-d : k .d ≡ a .d
+  pub same-d : k .d ≡ a .d
   same-d = build-shares (empty (a .d)) (b .before)
 
-  fitting : AllFit (empty (a .d)) (b .before) × AllFit k (b .after)
+  pub fitting : AllFit (empty (a .d)) (b .before) × AllFit k (b .after)
   fitting = fit-split (empty (a .d)) (b .before) (b .after) (subst (AllFit (empty (a .d))) (b .split) (a .fit))
 
   pub all-built : whole a ≡ build k (b .after)
@@ -124,7 +124,7 @@ module _ {table : List ℕ} (a : AcceptedTable table) {at : ℕ} (b : Between ta
   pub randoms-grow : k .randoms ≤ whole a .randoms
   randoms-grow = rw all-built (randoms-more k (b .after))
 
-  ended : b .after ≡ [] → stepAt table (a .d) at ≡ End
+  pub ended : b .after ≡ [] → stepAt table (a .d) at ≡ End
   ended e = rw (le-ltb at (length table) (omega (arith, length-drop at table, ap length (b .rest ∙ ap wordsOf e))))
 
   module _ (f : Frame) (later : List Frame) (e : b .after ≡ f ∷ later) (fits : Fits k (f .kind) (f .ops)) (few : size k + shape (k .d) (f .kind) .wires ≤ wireLimit) where
@@ -154,7 +154,7 @@ module _ {table : List ℕ} (a : AcceptedTable table) {at : ℕ} (b : Between ta
     ops-are : operandsAt table (a .d) at ≡ f .ops
     ops-are = rw (word-is, kind-known kind, tail-is, take-at (f .ops) (wordsOf later) (words (a .d) kind) (meets .2))
 
-    step-is : stepAt table (a .d) at ≡ Next (frameCode (kindCode kind) (f .ops)) (shapeCode (a .d) kind) (behind (a .d) at (words (a .d) kind))
+    pub step-is : stepAt table (a .d) at ≡ Next (frameCode (kindCode kind) (f .ops)) (shapeCode (a .d) kind) (behind (a .d) at (words (a .d) kind))
     step-is =
         let n = words (a .d) kind in
         let known : (leb 1 (kindWord kind) && leb (kindWord kind) 8) ≡ true = and-both _ _ (le-leb 1 (kindWord kind) (meets .0)) (le-leb (kindWord kind) 8 (meets .1)) in
