@@ -21,7 +21,7 @@
  * A frame is a line of the text, counted from 0 (HEAD), and word 0 is its kind. Rules 1 to 3, 15 to 17 and 23 to 25 are told at
  * frame 0, word 0; rule 4 at frame 0, word 1; rules 18 and 19 at frame 0, the word being the index of the byte (the tape's count on
  * from the shares', a register's byte of the bank is its wire's number counted on from the tape) or of the probe; rules 5, 6, 13,
- * 14, 20 and 21 at word 0 of the frame or line; rules 7 to 12 and 22 at the word that breaks it.
+ * 14, 20, 21 and 26 at word 0 of the frame or line; rules 7 to 12 and 22 at the word that breaks it.
  *
  * Every call ends on any input, keeps nothing, and leans on no earlier call: what a run of masked_clock has in its registers is in the
  * caller's bank. Calls with different buffers may run at one time. */
@@ -77,7 +77,9 @@ enum masked_rule {
     MASKED_TEXT_TOO_SHORT = 23,   /* the buffer for the text has at least five bytes for each word of the table */
     MASKED_TOO_MANY_PAIRS = 24,   /* where a count is asked, the free bits are at most 16: d-1 shares of each IN, and the random
                                      bits */
-    MASKED_TOO_MANY_WIRES_READ = 25 /* where a count is asked, the probes read at most 8 wires */
+    MASKED_TOO_MANY_WIRES_READ = 25, /* where a count is asked, the probes read at most 8 wires */
+    MASKED_NOT_A_SHARING = 26     /* where whole sharings are asked, every frame but HEAD and OUT belongs to exactly one, and every row
+                                     of AND, REF and OUT is one */
 };
 
 /* Checks a table: the words of all frames, one behind the other. Rules 1 to 14 and 22. (In a table, without lines, rule 6 is broken
@@ -91,6 +93,24 @@ enum masked_rule {
  *         rules 5 to 14 and 22:   the notes of the wires of all frames before the refused one are written; the rest is as it was */
 uint64_t masked_check(const uint16_t *table, size_t table_len, uint16_t *notes, size_t notes_len,
                       uint64_t *a, uint64_t *b, uint64_t *c);
+
+/* Checks, then tells whether the circuit is made of whole sharings, so that its outputs mean something: yes is MASKED_ACCEPTED with
+ * the check's numbers, no is rule 26. Rules 1 to 14 and 22 as masked_check, then 26, in table order, at the first frame, or the first
+ * frame of a run, that fits none.
+ *
+ * A whole sharing is d wires, the i-th with label i: the outputs of one IN, AND or REF, or the wires of a run. A run is d frames of
+ * one kind in a row, labels 0 to d-1 in order: CON at one stage; NOT or REG over one earlier sharing; XOR over two earlier sharings,
+ * equal or not, the first words from the one and the second words from the other. Every frame but HEAD and OUT has to belong to
+ * exactly one sharing, and every row of AND, REF and OUT has to be one earlier sharing, wire by wire.
+ *
+ * notes   as masked_check leaves them; rule 26 leaves them as accepted
+ *
+ * In the plain circuit each sharing is one bit: that of an IN is its secret bit, that of CON the sum of its d values modulo 2, that of
+ * XOR the sum, of AND the product, of REG and REF the same bit; NOT flips it for odd d only. Where the answer is yes, the values that
+ * masked_evaluate gives the d wires of a sharing, and so of an OUT, add up to its plain bit, for all shares and every tape. A no is
+ * about how the circuit is written: its outputs may still be right, but nothing is promised of them. */
+uint64_t masked_check_sharings(const uint16_t *table, size_t table_len, uint16_t *notes, size_t notes_len,
+                               uint64_t *a, uint64_t *b, uint64_t *c);
 
 /* Checks, then evaluates. Rules 1 to 14 and 22 as masked_check, then 15 to 18.
  *

@@ -41,6 +41,7 @@ MEANINGS = {
     23: "the buffer for the text has at least five bytes for each word of the table",
     24: "where a count is asked, the free bits are at most 16: d-1 shares of each IN, and the random bits",
     25: "where a count is asked, the probes read at most 8 wires",
+    26: "where whole sharings are asked, every frame but HEAD and OUT belongs to exactly one, and every row of AND, REF and OUT is one",
 }
 
 
@@ -238,12 +239,16 @@ def told(rule: int, word: int, found: Finding, name: str = "") -> list[str]:
     return [f"{name}: rule {rule}: {MEANINGS[rule]}" if name else f"  rule {rule}: {MEANINGS[rule]}", f"  here: {place}{found}"]
 
 
-def explanation(text: bytes, rule: int, frame: int, word: int, name: str = "") -> str:
-    """The lines that explain a text's refusal."""
-    lines = lines_of(text[:JUDGED_BYTES])
+def line_row(lines: list[bytes], frame: int) -> str:
+    """A line of the file, as the row of an explanation."""
     line = shown(lines[frame]) if frame < len(lines) else ""
+    return f"  line {frame + 1} of the file (frame {frame}): {line or '(empty)'}"
+
+
+def explanation(text: bytes, rule: int, frame: int, word: int, name: str = "") -> str:
+    """The lines that explain a text's refusal by any rule but 26, which is no text's."""
     rows = told(rule, word, finding(text, rule, frame, word), name)
-    rows.append(f"  line {frame + 1} of the file (frame {frame}): {line or '(empty)'}")
+    rows.append(line_row(lines_of(text[:JUDGED_BYTES]), frame))
     if text[:2] == b"\0\0":
         rows.append("  hint: the file begins with two bytes 00, as a table of 16-bit words does; ./show text takes one")
     return "\n".join(rows)

@@ -16,6 +16,7 @@ EXAMPLES = """examples:
   ./show reading examples/circuit-a.hex --secrets 11 --probe 24 --probe 0x0E
   ./show counts examples/circuit-a.hex --secrets 00 --secrets 11 --probe 24
   ./show clocks examples/circuit-a.hex --feed examples/circuit-a.feed
+  ./show plain examples/whole-d3.hex
   ./show verilog examples/circuit-a.hex
   ./show text examples/circuit-a.words
 
@@ -45,6 +46,7 @@ COMMANDS = {
     "counts": "under how many sharings and tapes of two sets of secret bits each combination of the wires that the probes read "
               "arises",
     "clocks": "what the OUTs give clock by clock, run as a pipeline that is fed new bits on every clock",
+    "plain": "whether a circuit is made of whole sharings, and then its plain circuit, its OUTs and its truth table",
     "verilog": "an accepted circuit as a Verilog-2001 module, for a simulator",
     "text": "the text of a table that a tool has written, where it keeps the rules",
 }

@@ -1,8 +1,8 @@
 """Shows what stands in a masked circuit: its wires, their values, what probes read and how often, what its outputs give clock by clock,
-its Verilog, and the text of a table. `./show --help` says more.
+its plain circuit, its Verilog, and the text of a table. `./show --help` says more.
 
-Verdicts, labels, stages, registers, values, readings, counts, clocks and texts are the proved calls' (bindings/python/masked.py); the
-names of wires are circuit.py's, the Verilog is verilog.py's.
+Verdicts, labels, stages, registers, values, readings, counts, clocks and texts are the proved calls' (bindings/python/masked.py), and so
+is the yes or no on whole sharings; the names of wires are circuit.py's, the plain circuit is plain.py's, the Verilog verilog.py's.
 """
 from __future__ import annotations
 
@@ -20,6 +20,7 @@ sys.path.insert(0, str(ROOT / "bindings" / "python"))
 import clocks
 import counts
 import masked
+import plain
 import tables
 import verilog
 from circuit import IN, JUDGED_BYTES, KINDS, OUT, Circuit, circuit_of, lines_of
@@ -164,6 +165,8 @@ def run(options: argparse.Namespace) -> tuple[list[str], int]:
         return show_wires(circuit, lines, notes, answer), SHOWN
     if options.command == "counts":
         return counted(options, circuit, table), SHOWN
+    if options.command == "plain":
+        return plain.shown(options.file, circuit, table, lines), SHOWN
     if options.command == "verilog":
         return verilog.module(options.file, circuit, notes, answer), SHOWN
     if options.command == "clocks":

@@ -3,6 +3,7 @@
     import masked
     table = masked.read_text(open("examples/circuit-a.hex", "rb").read())
     masked.check(table)                                        # Accepted(wires=28, randoms=1, latency=3)
+    masked.check_sharings(table)                               # the same: it is made of whole sharings
     values = bytearray(masked.MOST_WIRES)
     masked.evaluate(table, [1, 0, 1, 1], [1], values)          # values[24] is 1
     reading = bytearray(masked.MOST_WIRES)
@@ -66,6 +67,7 @@ class Rule(enum.IntEnum):
     TEXT_TOO_SHORT = 23
     TOO_MANY_PAIRS = 24
     TOO_MANY_WIRES_READ = 25
+    NOT_A_SHARING = 26
 
 
 class Accepted(NamedTuple):
@@ -111,6 +113,12 @@ def place(notes: array.array, wire: int) -> Place | None:
 def check(table: Iterable[int], notes: array.array | None = None) -> Accepted:
     """masked_check: judges a table of 16-bit words. `notes`: 16,384 words, which `place` tells of a wire."""
     return _answer(_call("masked_check", 3, words(table), _words_for(notes)))
+
+
+def check_sharings(table: Iterable[int], notes: array.array | None = None) -> Accepted:
+    """masked_check_sharings: checks, then tells whether the circuit is made of whole sharings, so that each OUT's added shares are the
+    plain circuit on the added inputs. That is a yes; the no is refused by rule NOT_A_SHARING (26). `notes`: as `check` leaves them."""
+    return _answer(_call("masked_check_sharings", 3, words(table), _words_for(notes)))
 
 
 def evaluate(table: Iterable[int], shares: Iterable[int], tape: Iterable[int], values: bytearray | None = None,

@@ -1,31 +1,11 @@
 /* What include/masked.h says of slices and buffers, tried from C: null with length 0, and what each buffer holds afterwards.
  * Exit status: 0 where all of it holds. */
-#include "masked.h"
-#include <stdio.h>
-#include <string.h>
+#define PROGRAM "calls.c"
+#include "calls.h"
 
-#define JUNK 0xA5
-
-static uint16_t table[MASKED_MOST_WORDS], notes[MASKED_NOTES_WORDS + 2];
 static uint8_t values[MASKED_MOST_WIRES + 2], reading[MASKED_MOST_WIRES + 2], text[MASKED_TEXT_BYTES + 2];
 static uint8_t bank[MASKED_MOST_WIRES + 2];
 static uint32_t counts[MASKED_COUNTS_NUMBERS + 2];
-static uint64_t a, b, c;
-static int passed, failed;
-
-static void is(const char *what, int holds)
-{
-    passed += holds != 0;
-    failed += holds == 0;
-    if (!holds)
-        printf("FAILED calls.c: %s\n", what);
-}
-
-/* The result and the numbers of the last call. */
-static void answer(const char *what, uint64_t got, uint64_t rule, uint64_t first, uint64_t second, uint64_t third)
-{
-    is(what, got == rule && a == first && b == second && c == third);
-}
 
 static void junk(void)
 {
@@ -35,26 +15,6 @@ static void junk(void)
     memset(text, JUNK, sizeof text);
     memset(counts, JUNK, sizeof counts);
     a = b = c = UINT64_MAX;
-}
-
-/* Bytes from a place on that are as they were. */
-static int kept(const void *buffer, size_t from, size_t size)
-{
-    const uint8_t *bytes = buffer;
-    for (size_t at = from; at < size; at++)
-        if (bytes[at] != JUNK)
-            return 0;
-    return 1;
-}
-
-static const char circuit_a[] = "0000 0002\n0001 0001\n0001 0000\n0006 0000 0000 0001 0002 0003\n"
-                                "0005 0018\n0005 0019\n0008 001A 001B\n";
-
-static size_t read_text(const char *lines)
-{
-    uint64_t words, word;
-    is("a text is read", masked_read_text((const uint8_t *)lines, strlen(lines), table, MASKED_MOST_WORDS, &words, &word) == 0);
-    return words;
 }
 
 static void empty_slices(void)
@@ -140,12 +100,6 @@ static void buffers(void)
     answer("text, rule 5", masked_read_text((const uint8_t *)"0000 0002\n0009 0000\n", 20, table, MASKED_MOST_WORDS, &a, &b),
            MASKED_UNKNOWN_KIND, 1, 0, 0);
     is("the words of the lines before", table[0] == 0 && table[1] == 2 && kept(table, 4, sizeof table));
-}
-
-/* The notes of circuit A, as an accepted check leaves them. */
-static int noted(void)
-{
-    return notes[52] == MASKED_REGISTERED && notes[53] == 3 && kept(notes, 2 * 2 * 28, sizeof notes);
 }
 
 /* Room for a text: exact, more, and a byte short; and a table that is refused. */
@@ -285,6 +239,5 @@ int main(void)
     texts();
     counted();
     clocked();
-    printf("calls.c: %d passed, %d failed\n", passed, failed);
-    return failed != 0;
+    return summary();
 }

@@ -46,6 +46,25 @@ class Functions(unittest.TestCase):
         self.refused(22, 6, 1, masked.check, list(TABLE[:-2]) + [24, 25])
         self.refused(1, 0, 0, masked.check, [0] * 8193)
 
+    def test_check_sharings(self) -> None:
+        """Yes is the check's answer; no is 26, behind all of the check's refusals; the notes are the check's."""
+        whole, mixed = (masked.read_text((ROOT / "examples" / name).read_bytes())
+                        for name in ("whole-d3.hex", "mixed-26-row-of-two-sharings.hex"))
+        for table, answer in ((TABLE, (28, 1, 3)), (whole, (84, 6, 3)), ([0, 2], (0, 0, 0))):
+            notes, checked = words(masked.NOTES_WORDS), words(masked.NOTES_WORDS)
+            self.assertEqual(answer, masked.check(table, checked))
+            self.assertEqual(answer, masked.check_sharings(table, notes))
+            self.assertEqual(checked, notes)
+        notes, checked = words(masked.NOTES_WORDS), words(masked.NOTES_WORDS)
+        masked.check(mixed, checked)
+        self.refused(masked.Rule.NOT_A_SHARING, 4, 0, masked.check_sharings, mixed, notes)
+        self.assertEqual(checked, notes)
+        self.refused(26, 4, 0, masked.check_sharings, list(mixed))
+        self.refused(8, 7, 2, masked.check_sharings, list(mixed[:-1]) + [30])
+        self.refused(22, 7, 1, masked.check_sharings, list(mixed[:-2]) + [26, 27])
+        self.refused(2, 0, 0, masked.check_sharings, mixed, words(16383))
+        self.refused(1, 0, 0, masked.check_sharings, [0] * 8193)
+
     def test_evaluate(self) -> None:
         values = bytearray(b"\xa5" * masked.MOST_WIRES)
         self.assertEqual((28, 1, 3), masked.evaluate(TABLE, [1, 0, 1, 1], [1], values))
@@ -143,8 +162,9 @@ class Functions(unittest.TestCase):
 
     def test_buffers_of_another_kind(self) -> None:
         for wrong in (bytearray(16384), bytes(32768), array("I", bytes(65536))):
-            with self.assertRaises(TypeError):
-                masked.check(TABLE, wrong)
+            for function in (masked.check, masked.check_sharings):
+                with self.assertRaises(TypeError):
+                    function(TABLE, wrong)
         with self.assertRaises(TypeError):
             masked.evaluate(TABLE, [1, 0, 1, 1], [1], bytes(8192))
         for wrong in (bytes(8192), words(4096), None):
@@ -183,6 +203,9 @@ class Null(unittest.TestCase):
         reading, table = bytearray(masked.MOST_WIRES), words(masked.MOST_WORDS)
         self.assertEqual([2, 0, 0, 0], self.call("masked_check", None, None))
         self.assertEqual([3, 0, 0, 0], self.call("masked_check", None, notes))
+        self.assertEqual([2, 0, 0, 0], self.call("masked_check_sharings", None, None))
+        self.assertEqual([3, 0, 0, 0], self.call("masked_check_sharings", None, notes))
+        self.assertEqual([0, 0, 0, 0], self.call("masked_check_sharings", head, notes))
         self.assertEqual([0, 0, 0, 0], self.call("masked_evaluate", head, notes, None, None, values))
         self.assertEqual([17, 0, 0, 0], self.call("masked_evaluate", head, notes, None, None, None))
         self.assertEqual([0, 0, 0, 0], self.call("masked_read_probes", head, notes, None, None, values, None, reading))

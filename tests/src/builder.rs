@@ -90,6 +90,22 @@ impl Builder {
         self.open(label, stage + 1, true)
     }
 
+    /// A run of CONs: a value for each label.
+    pub fn constants(&mut self, values: &[u8], stage: usize) -> Vec<u16> {
+        let labels = values.iter().enumerate();
+        labels.map(|(label, &value)| self.constant(label, value.into(), stage)).collect()
+    }
+
+    /// A run of XORs over two rows.
+    pub fn xors(&mut self, x: &[u16], y: &[u16]) -> Vec<u16> {
+        x.iter().zip(y).map(|(&x, &y)| self.xor(x, y)).collect()
+    }
+
+    /// A run of NOTs.
+    pub fn nots(&mut self, row: &[u16]) -> Vec<u16> {
+        row.iter().map(|&wire| self.not(wire)).collect()
+    }
+
     /// A row one stage later.
     pub fn registers(&mut self, row: &[u16]) -> Vec<u16> {
         row.iter().map(|&wire| self.register(wire)).collect()

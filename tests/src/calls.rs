@@ -1,8 +1,16 @@
 //! The open calls, so that one test can run any program behind them.
 
 /// The calls by their names, in the order of the trait.
-pub const NAMES: [&str; 7] =
-    ["check", "evaluate", "read_probes", "read_text", "write_text", "count", "clock"];
+pub const NAMES: [&str; 8] = [
+    "check",
+    "evaluate",
+    "read_probes",
+    "read_text",
+    "write_text",
+    "count",
+    "clock",
+    "check_sharings",
+];
 
 /// What a call gives back: 0 and its numbers, or the rule and its spot.
 #[derive(Clone, Copy, Debug, PartialEq, Eq)]
@@ -63,4 +71,6 @@ pub trait Calls {
         values: &mut [u8],
         bank: &mut [u8],
     ) -> Answer;
+
+    fn check_sharings(&self, table: &[u16], notes: &mut [u16]) -> Answer;
 }

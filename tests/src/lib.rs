@@ -12,6 +12,7 @@ pub mod options;
 pub mod proved;
 pub mod reference;
 pub mod sets;
+pub mod sharings;
 pub mod spans;
 pub mod subject;
 pub mod tuned;

@@ -96,6 +96,15 @@ extern "C" {
         b: *mut u64,
         c: *mut u64,
     ) -> u64;
+    fn masked_check_sharings(
+        table: *const u16,
+        table_len: usize,
+        notes: *mut u16,
+        notes_len: usize,
+        a: *mut u64,
+        b: *mut u64,
+        c: *mut u64,
+    ) -> u64;
 }
 
 /// What the numbers hold before a call: each must be written by it.
@@ -270,6 +279,22 @@ impl Calls for Proved {
                 values.len(),
                 bank.as_mut_ptr(),
                 bank.len(),
+                &mut a,
+                &mut b,
+                &mut c,
+            )
+        };
+        Answer { result, numbers: [a, b, c] }
+    }
+
+    fn check_sharings(&self, table: &[u16], notes: &mut [u16]) -> Answer {
+        let [mut a, mut b, mut c] = [JUNK; 3];
+        let result = unsafe {
+            masked_check_sharings(
+                table.as_ptr(),
+                table.len(),
+                notes.as_mut_ptr(),
+                notes.len(),
                 &mut a,
                 &mut b,
                 &mut c,

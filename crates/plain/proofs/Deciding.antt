@@ -1,31 +1,21 @@
 -- The code's tests of a frame are the definition's, for every frame that fits.
 use mathlib.Core.Path.{_≡_, refl, sym, ap, ap₂, _∙_}
-use mathlib.Core.Bool.{true, _&&_}
-use mathlib.Core.List.{List, [], _∷_, map}
-use Prim.Native.Nat.{ℕ, suc, _+_, _*_, _-_, _≤_, _<_}
+use mathlib.Core.Bool.{_&&_}
+use mathlib.Core.List.{List, _∷_}
+use Prim.Native.Nat.{ℕ, suc, _+_, _≤_}
 use native.Mathlib.Omega.{arith}
-use lib.Dec.{eqb}
 use lib.ListN.{take, drop}
-use borrow.Author.Tests.{eqb-true, eq-eqb}
 use Rattle.circuit.specs.Limits.{fewestShares}
-use Rattle.circuit.specs.Lists.{nth}
-use Rattle.circuit.specs.Gadgets.{labels}
-use Rattle.circuit.specs.Kinds.{Kind, CON, XOR, words, shape}
-use Rattle.circuit.specs.Wires.{named}
-use Rattle.circuit.specs.Circuit.{Circuit, place}
-use Rattle.circuit.specs.Composition.{Frame, frame, Fits, fit-IN, fit-CON, fit-XOR, fit-NOT, fit-REG, fit-AND, fit-REF, fit-OUT, AllFit, next, wordsOf}
-use Rattle.circuit.proofs.Base.{and-left, and-right, and-both}
+use Rattle.circuit.specs.Kinds.{Kind, shape}
+use Rattle.circuit.specs.Circuit.{Circuit}
+use Rattle.circuit.specs.Composition.{Frame, frame, Fits, fit-IN, fit-CON, fit-XOR, fit-NOT, fit-REG, fit-AND, fit-REF, fit-OUT, AllFit, wordsOf}
 use Rattle.circuit.proofs.Building.{Lawful, InTime}
 use Rattle.circuit.proofs.Sizes.{words-AND, words-REF, words-OUT}
-use Rattle.semantics.specs.Counts.{alike}
 use Rattle.frames.specs.Walk.{kindCode, frameCode}
-use Rattle.plain.specs.Sharings.{Plain, isRun, fits, further}
-use Rattle.plain.specs.Internal.Tests.{rising, alikeFrom, overRow, gateFits, frameFits, Labels}
+use Rattle.plain.specs.Sharings.{Plain, fits, further}
+use Rattle.plain.specs.Internal.Tests.{rising, gateFits, frameFits, Labels}
 use Rattle.plain.specs.Internal.Kept.{Kept}
-use Rattle.plain.proofs.Exactness.{same-truth, to-standing, from-standing}
-use Rattle.plain.proofs.Found.{same-list, list-same}
-use Rattle.plain.proofs.Rising.{rises-each, each-rises, each-same, same-each}
-use Rattle.plain.proofs.Runs.{one-CON, one-XOR, one-NOT, one-REG, run-shown, shown-run}
+use Rattle.plain.proofs.Runs.{one-CON, one-XOR, one-NOT, one-REG}
 use Rattle.plain.proofs.FrameTests.{row-exact, over-exact, sum-exact, constant-exact}
 
 module _ (k : Circuit) (p : Plain) (kept : Kept k p) (ge : fewestShares ≤ k .d) (time : Lawful InTime k) (table notes : List ℕ) (marks : Labels notes k) (at : ℕ) (later : List Frame) where

@@ -1,21 +1,20 @@
 -- The code's tests of words are the definition's tests of frames, where all frames before are in sharings.
-use mathlib.Core.Path.{_≡_, refl, sym, ap, ap₂, subst, _∙_}
-use mathlib.Core.Bool.{Bool, true, false, _&&_}
-use mathlib.Core.List.{List, [], _∷_, _++_, map}
-use Prim.Native.Nat.{ℕ, zero, suc, _+_, _-_, _*_, _≤_, _<_}
+use mathlib.Core.Path.{_≡_, refl, sym, ap, _∙_}
+use mathlib.Core.Bool.{Bool, true, false}
+use mathlib.Core.List.{List, [], map}
+use Prim.Native.Nat.{ℕ, _+_, _*_, _≤_, _<_}
 use native.Mathlib.Omega.{arith}
 use lib.Dec.{leb, eqb}
-use lib.ListN.{length, getD, take, drop, length-drop, length-append, length-map, List·getD-append}
+use lib.ListN.{length, getD, take, drop, length-drop, length-map}
 use lib.Seq.{getD-drop, ext-getD}
-use borrow.Author.Tests.{eqb-true, eq-eqb, leb-true, le-leb}
-use Rattle.circuit.specs.Limits.{fewestShares}
+use borrow.Author.Tests.{le-leb}
 use Rattle.circuit.specs.Lists.{nth, range}
 use Rattle.circuit.specs.Wires.{named}
 use Rattle.circuit.specs.Gadgets.{labels}
-use Rattle.circuit.specs.Kinds.{Kind, words, shape}
-use Rattle.circuit.specs.Circuit.{Circuit, size, place, lookUp, labelShown}
-use Rattle.circuit.specs.Composition.{Frame, frame, Row, AllFit, build, kindWord, wordsOf}
-use Rattle.circuit.proofs.Base.{cases, clash, and-left, and-right, and-both, Every, every-imp}
+use Rattle.circuit.specs.Kinds.{Kind, words}
+use Rattle.circuit.specs.Circuit.{Circuit, size, place}
+use Rattle.circuit.specs.Composition.{Frame, frame, kindWord, wordsOf}
+use Rattle.circuit.proofs.Base.{and-right, and-both, Every}
 use Rattle.circuit.proofs.Numbered.{range-at}
 use Rattle.circuit.proofs.Sizes.{range-length}
 use Rattle.semantics.specs.Counts.{alike}
@@ -24,7 +23,6 @@ use Rattle.plain.specs.Internal.Tests.{rising, alikeFrom}
 use Rattle.plain.specs.Internal.Kept.{InRow, Kept}
 use Rattle.plain.proofs.Found.{in-a-row, map-at, range-map-at, every-found}
 use Rattle.plain.proofs.Rising.{rises-each, each-rises, run-room}
-use Rattle.plain.proofs.Runs.{same-kind}
 use Rattle.plain.proofs.Words.{Sized, words-run, run-words, word-at}
 
 -- two tests that pass together are the same

@@ -1,7 +1,7 @@
 -- Small tables held against the definitions: which frames fit, at which frame 26 is named, and what the plain circuit is. All computed.
 use mathlib.Core.Path.{_≡_, refl}
 use mathlib.Core.Bool.{true, false}
-use mathlib.Core.List.{List, [], _∷_, _++_, map}
+use mathlib.Core.List.{List, [], _∷_, map}
 use Prim.Native.Nat.{ℕ}
 use Rattle.circuit.specs.Gadgets.{inREF, index, gadget}
 use Rattle.circuit.specs.Kinds.{kindOf, shape}

@@ -1,4 +1,4 @@
--- Lists that a test finds alike, sharings that are found by their wires, and elements by their numbers.
+-- Numbers that a test finds alike, sharings that are found by their wires, and elements by their numbers.
 use mathlib.Core.Path.{_≡_, refl, sym, ap, ap₂, subst, _∙_}
 use mathlib.Core.Bool.{Bool, true, false, cond, false≢true}
 use mathlib.Core.List.{List, [], _∷_, _++_, map}
@@ -8,22 +8,12 @@ use lib.Dec.{eqb}
 use lib.ListN.{length, getD}
 use borrow.Author.Tests.{eqb-true, eq-eqb}
 use Rattle.circuit.specs.Lists.{range, filter}
-use Rattle.circuit.proofs.Base.{cases, or-left, or-right, or-cases, and-left, and-right, and-both, eqb-refl, Every}
+use Rattle.circuit.proofs.Base.{cases, or-left, or-right, or-cases, and-left, and-right, and-both, Every}
 use Rattle.circuit.proofs.Numbered.{range-at}
 use Rattle.circuit.proofs.Sizes.{range-length}
 use Rattle.semantics.specs.Counts.{alike}
+use Rattle.semantics.proofs.Alike.{same-list, list-same}
 use Rattle.plain.specs.Sharings.{Sharing, isSharing, numberOf}
-
--- lists that are alike are the same
-pub same-list : (xs ys : List ℕ) → alike eqb xs ys ≡ true → xs ≡ ys
-same-list [] [] h = refl
-same-list [] (y ∷ ys) h = absurd (false≢true h)
-same-list (x ∷ xs) [] h = absurd (false≢true h)
-same-list (x ∷ xs) (y ∷ ys) h = ap₂ (λ z zs. z ∷ zs) (eqb-true x y (and-left (eqb x y) (alike eqb xs ys) h)) (same-list xs ys (and-right (eqb x y) (alike eqb xs ys) h))
-
-pub list-same : (xs : List ℕ) → alike eqb xs xs ≡ true
-list-same [] = refl
-list-same (x ∷ xs) = and-both (eqb x x) (alike eqb xs xs) (eqb-refl x) (list-same xs)
 
 -- numbers that are alike one number, as many times: there are as many, and each is that number
 pub same-number : {A : Type 0} (g : A → ℕ) (c : ℕ) (xs : List A) (is : List ℕ) → alike eqb (map g xs) (map (λ i. c) is) ≡ true → Every (λ x. g x ≡ c) xs × (length xs ≡ length is)

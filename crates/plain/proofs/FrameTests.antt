@@ -1,33 +1,32 @@
 -- The code's tests of a frame are the definition's, kind by kind.
-use mathlib.Core.Path.{_≡_, refl, sym, ap, ap₂, subst, _∙_}
-use mathlib.Core.Bool.{Bool, true, false, _&&_}
-use mathlib.Core.List.{List, [], _∷_, _++_, map}
-use Prim.Native.Nat.{ℕ, zero, suc, _+_, _-_, _*_, _≤_, _<_}
+use mathlib.Core.Path.{_≡_, sym, ap, subst, _∙_}
+use mathlib.Core.Bool.{Bool, true, _&&_}
+use mathlib.Core.List.{List, _∷_, map}
+use Prim.Native.Nat.{ℕ, suc, _+_, _-_, _*_, _≤_, _<_}
 use native.Mathlib.Omega.{arith}
 use lib.Dec.{eqb}
 use lib.ListN.{length, getD, take, drop, length-drop, List·getD-append, take-append-drop}
 use borrow.Author.Tests.{eqb-true, eq-eqb}
 use Rattle.circuit.specs.Limits.{fewestShares}
-use Rattle.circuit.specs.Lists.{nth, range}
+use Rattle.circuit.specs.Lists.{nth}
 use Rattle.circuit.specs.Wires.{named}
 use Rattle.circuit.specs.Gadgets.{labels}
-use Rattle.circuit.specs.Kinds.{Kind, HEAD, IN, CON, XOR, NOT, REG, AND, REF, OUT, words, shape}
+use Rattle.circuit.specs.Kinds.{Kind, words}
 use Rattle.circuit.specs.Circuit.{Circuit, size, place, lookUp, labelShown}
-use Rattle.circuit.specs.Composition.{Frame, frame, Row, Fits, fit-IN, fit-CON, fit-XOR, fit-NOT, fit-REG, fit-AND, fit-REF, fit-OUT, AllFit, next, build, kindWord, wordsOf}
-use Rattle.circuit.proofs.Base.{and-left, and-right, and-both, Every, every-imp}
+use Rattle.circuit.specs.Composition.{Frame, frame, Row, AllFit, build, kindWord, wordsOf}
+use Rattle.circuit.proofs.Base.{and-left, and-right, and-both, Every}
 use Rattle.circuit.proofs.Building.{named-made, label-told, fit-split, Lawful, InTime}
-use Rattle.circuit.proofs.Numbered.{range-at, all-get}
-use Rattle.circuit.proofs.Sizes.{range-length}
+use Rattle.circuit.proofs.Numbered.{all-get}
 use Rattle.semantics.specs.Counts.{alike}
-use Rattle.frames.specs.Walk.{kindCode, frameCode}
 use Rattle.checker.specs.Internal.Notes.{labelNoted}
-use Rattle.plain.specs.Sharings.{Plain, isSharing, isRun, fits, further}
-use Rattle.plain.specs.Internal.Tests.{rising, alikeFrom, overRow, gateFits, frameFits, Labels}
+use Rattle.plain.specs.Sharings.{Plain, isSharing, isRun}
+use Rattle.plain.specs.Internal.Tests.{rising, alikeFrom, overRow}
 use Rattle.plain.specs.Internal.Kept.{Kept}
-use Rattle.plain.proofs.Found.{same-list, list-same, map-at, range-map-at}
+use Rattle.semantics.proofs.Alike.{same-list, list-same}
+use Rattle.plain.proofs.Found.{map-at, range-map-at}
 use Rattle.plain.proofs.Rising.{rises-each, each-rises, each-same, same-each}
 use Rattle.plain.proofs.Growing.{wire-kept}
-use Rattle.plain.proofs.Runs.{Single, one-CON, one-XOR, one-NOT, one-REG, labelBy, MadeBy, Run, run-shown, shown-run, run-wires}
+use Rattle.plain.proofs.Runs.{Single, labelBy, MadeBy, Run, run-shown, shown-run, run-wires}
 use Rattle.plain.proofs.Words.{Sized, fit-sized}
 use Rattle.plain.proofs.Exactness.{same-truth, to-sharing, SharingOf, from-sharing, word-is, Standing, to-standing, from-standing, column-is}
 

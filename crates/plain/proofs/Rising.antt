@@ -1,18 +1,17 @@
 -- Words in a row: each is the first plus so many steps; and the places that such words have.
-use mathlib.Core.Path.{_≡_, refl, sym, ap, ap₂, subst, _∙_}
-use mathlib.Core.Bool.{Bool, true, false, _&&_, false≢true}
-use mathlib.Core.List.{List, [], _∷_, map}
+use mathlib.Core.Path.{_≡_, refl, ap, ap₂, subst}
+use mathlib.Core.Bool.{true, false, _&&_}
+use mathlib.Core.List.{List, _∷_, map}
 use Prim.Native.Nat.{ℕ, zero, suc, _+_, _*_, _≤_, _<_}
 use native.Mathlib.Nat.{mul-le-mul-left, mul-le-mul-right}
 use native.Mathlib.Omega.{arith}
 use lib.Dec.{leb, eqb}
 use lib.ListN.{length, drop}
-use borrow.Author.Tests.{leb-true, eqb-true, eq-eqb}
+use borrow.Author.Tests.{leb-true}
 use Rattle.circuit.specs.Lists.{nth, range}
 use Rattle.circuit.specs.Gadgets.{labels}
-use Rattle.circuit.proofs.Base.{cases, and-left, and-right, and-both, clash}
-use Rattle.semantics.specs.Counts.{alike}
-use Rattle.plain.proofs.Found.{same-list, list-same}
+use Rattle.circuit.proofs.Base.{cases, and-left}
+use Rattle.semantics.proofs.Alike.{same-list, list-same}
 use Rattle.checker.specs.Internal.Notes.{labelNoted}
 use Rattle.plain.specs.Internal.Tests.{rising, Has, alikeFrom, overRow}
 

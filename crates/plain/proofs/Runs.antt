@@ -23,7 +23,8 @@ use Rattle.semantics.specs.Counts.{alike}
 use Rattle.semantics.proofs.Solving.{nothing}
 use Rattle.plain.specs.Sharings.{Plain, isRun}
 use Rattle.plain.specs.Internal.Kept.{InRow}
-use Rattle.plain.proofs.Found.{same-list, list-same, same-number, number-same, in-a-row, map-at, range-map-at}
+use Rattle.semantics.proofs.Alike.{same-list, list-same}
+use Rattle.plain.proofs.Found.{same-number, number-same, in-a-row, map-at, range-map-at}
 use Rattle.plain.proofs.Growing.{wire-kept, Grown}
 
 -- the kinds that make one wire, and its gate

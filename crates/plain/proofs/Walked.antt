@@ -1,5 +1,5 @@
 -- The walk over an accepted table's frames: those before its place are in sharings, and the judgement of the table is that of the frames left.
-use mathlib.Core.Path.{_≡_, refl, sym, ap, ap₂, subst, _∙_}
+use mathlib.Core.Path.{_≡_, refl, sym, ap, ap₂, subst, subst₂, _∙_}
 use mathlib.Core.Bool.{Bool, true, false, cond}
 use mathlib.Core.List.{List, [], _∷_, _++_, append-assoc}
 use Prim.Native.Nat.{ℕ, zero, suc, _+_, _-_, _*_, _≤_, _<_}
@@ -11,28 +11,28 @@ use lib.Seq.{drop-drop}
 use borrow.Author.Tests.{ne-eqb}
 use Rattle.circuit.specs.Limits.{fewestShares}
 use Rattle.circuit.specs.Lists.{nth}
-use Rattle.circuit.specs.Wires.{named}
 use Rattle.circuit.specs.Kinds.{Kind, HEAD, IN, CON, XOR, NOT, REG, AND, REF, OUT, pairs, words, shape}
-use Rattle.circuit.specs.Circuit.{Circuit, size, empty, place}
-use Rattle.circuit.specs.Rules.{Judgement, pass, refuse, need}
-use Rattle.circuit.specs.Composition.{Frame, frame, Fits, fit-IN, fit-CON, fit-XOR, fit-NOT, fit-REG, fit-AND, fit-REF, fit-OUT, AllFit, next, build, kindWord, wordsOf}
+use Rattle.circuit.specs.Circuit.{Circuit, empty, place}
+use Rattle.circuit.specs.Rules.{pass, refuse, need}
+use Rattle.circuit.specs.Composition.{Frame, frame, Fits, fit-IN, fit-CON, fit-XOR, fit-NOT, fit-REG, fit-AND, fit-REF, fit-OUT, AllFit, next, build, wordsOf}
 use Rattle.circuit.proofs.Base.{Every, and-left}
-use Rattle.circuit.proofs.Building.{named-made, build-append, build-shares, build-intime, fit-split, Lawful, InTime}
+use Rattle.circuit.proofs.Building.{named-made, build-append, build-intime, fit-split, Lawful, InTime}
 use Rattle.circuit.proofs.Sizes.{words-AND, words-REF, words-OUT}
 use Rattle.frames.specs.declared.walk.Frame.{Frame as FrameCode}
 use Rattle.frames.specs.declared.kinds.Shape.{Shape as ShapeCode}
+use Rattle.frames.specs.declared.walk.Walk.{Walk}
 use Rattle.frames.specs.declared.walk.Step.{Step}
 use Rattle.frames.specs.declared.walk.Step.the-variants.{Next, Refused, End}
-use Rattle.frames.specs.Walk.{kindCode, shapeCode, frameCode, stepAt}
+use Rattle.frames.specs.Walk.{kindCode, shapeCode, frameCode, behind, stepAt}
 use Rattle.gadgets.specs.Internal.Accepting.{AcceptedTable, circuitIn, Between}
-use Rattle.gadgets.proofs.Walking.{second-word, whole, so-far, between-start, fitting, same-d, all-built, ended, step-is}
+use Rattle.gadgets.proofs.Walking.{second-word, so-far, between-start, fitting, same-d, all-built, ended, step-is}
 use Rattle.plain.specs.Sharings.{Plain, none, isRun, fits, joined, further, runsFrom, going, wholeFrom, wholeOf}
 use Rattle.plain.specs.Internal.Tests.{frameFits, RowsIn, Labels, misfit}
 use Rattle.plain.specs.Internal.Kept.{Kept}
 use Rattle.plain.proofs.Framed.{frames-in, runs-skip}
 use Rattle.plain.proofs.Growing.{wire-kept}
 use Rattle.plain.proofs.Keeping.{kept-start, kept-next}
-use Rattle.plain.proofs.Runs.{Run, run-shown}
+use Rattle.plain.proofs.Runs.{run-shown}
 use Rattle.plain.proofs.Words.{Sized, fit-sized, run-words, words-behind}
 use Rattle.plain.proofs.Deciding.{exact}
 
@@ -61,18 +61,18 @@ whole-start {table} a = record {
 one-more : (n : ℕ) → 1 ≤ 1 + n
 one-more n = omega arith
 
--- how many frames go together, by the wires that the first makes
-pub together : (d : ℕ) → fewestShares ≤ d → (kind : Kind) → cond (eqb (shape d kind .wires) 1) d 1 ≡ 1 + further d kind
+-- how many frames go with the first, by the wires that it makes
+pub further-is : (d : ℕ) → fewestShares ≤ d → (kind : Kind) → cond (eqb (shape d kind .wires) 1) (d - 1) 0 ≡ further d kind
 unfolding shape
-together d ge HEAD = refl
-together d ge IN = rw (ne-eqb d 1 (λ e. omega arith))
-together d ge CON = omega arith
-together d ge XOR = omega arith
-together d ge NOT = omega arith
-together d ge REG = omega arith
-together d ge AND = rw (ne-eqb (7 * (d * (d - 1)) + 4 * d) 1 (λ e. omega arith))
-together d ge REF = rw (ne-eqb (pairs d + 2 * d) 1 (λ e. omega arith))
-together d ge OUT = refl
+further-is d ge HEAD = refl
+further-is d ge IN = rw (ne-eqb d 1 (λ e. omega arith))
+further-is d ge CON = refl
+further-is d ge XOR = refl
+further-is d ge NOT = refl
+further-is d ge REG = refl
+further-is d ge AND = rw (ne-eqb (7 * (d * (d - 1)) + 4 * d) 1 (λ e. omega arith))
+further-is d ge REF = rw (ne-eqb (pairs d + 2 * d) 1 (λ e. omega arith))
+further-is d ge OUT = refl
 
 -- frames that fit together are of one kind, and as many as go together
 one-kind : (k : Circuit) (p : Plain) (kind : Kind) (ops : List ℕ) (later : List Frame) → fewestShares ≤ k .d → fits k p (frame kind ops) (take (further (k .d) kind) later) kind ≡ true
@@ -218,25 +218,30 @@ module _ {table notes : List ℕ} {at number : ℕ} (h : WholeTo table at number
         same = judged ∙ rw z (ap₂ (λ c m. wholeFrom c (joined k (h .plain) f rest (f .kind)) (runsFrom m (number + along) 0 (drop n later)) .judgement) (sym grown) (same-d a b));
       }
 
-  -- the walk behind frames that fit, of which the first has this shape
-  pub record Further (d : ℕ) (sh : ShapeCode) : Type 0 where
-    pub room : at + cond (eqb (sh .wires) 1) d 1 * (1 + sh .words) ≤ length table
-    pub past : at < at + cond (eqb (sh .wires) 1) d 1 * (1 + sh .words)
-    pub next : WholeTo table (at + cond (eqb (sh .wires) 1) d 1 * (1 + sh .words)) (number + cond (eqb (sh .wires) 1) d 1)
+  -- the walk at the end of frames that fit, of which so many go with the first
+  pub record Further (end more : ℕ) : Type 0 where
+    pub room : end ≤ length table
+    pub past : at < end
+    pub next : WholeTo table end (number + more + 1)
 
-  further-by : (f : Frame) (later : List Frame) (e : b .after ≡ f ∷ later) → isFit f later e ≡ true → Further (k .d) (shapeCode (k .d) (f .kind))
-  further-by f later e z = let s = together (k .d) least (f .kind) in record {
-    room = rw s (room f later e z);
-    past = rw s (omega (arith, mul-le-mul-left (1 + further (k .d) (f .kind)) (one-more (words (k .d) (f .kind)))));
-    next = rw s (passed f later e z);
-  }
+  further-by : (f : Frame) (later : List Frame) (e : b .after ≡ f ∷ later) → isFit f later e ≡ true → let n = further (k .d) (f .kind) in let m = words (k .d) (f .kind) in
+      Further (at + 1 + m + n * (1 + m)) n
+  further-by f later e z =
+      let n = further (k .d) (f .kind) in
+      let m = words (k .d) (f .kind) in
+      let place : at + (1 + n) * (1 + m) ≡ at + 1 + m + n * (1 + m) = omega arith in
+      let count : number + (1 + n) ≡ number + n + 1 = omega arith in
+      record { room = rw (← place) (room f later e z); past = omega arith; next = subst₂ (WholeTo table) place count (passed f later e z) }
+
+  abbrev moreBy : ℕ → ShapeCode → ℕ
+  moreBy d sh = cond (eqb (sh .wires) 1) (d - 1) 0
 
   -- what the code finds at the place: a frame, which fits or does not; or the table's end
-  pub record Turn (d : ℕ) (fr : FrameCode) (sh : ShapeCode) : Type 0 where
+  pub record Turn (d : ℕ) (fr : FrameCode) (sh : ShapeCode) (wk : Walk) : Type 0 where
     pub inside : at + 1 + sh .words ≤ length table
     pub rows : RowsIn table at d fr
     pub wrong : frameFits table notes at d fr ≡ false → wholeOf table .judgement ≡ misfit number
-    pub right : frameFits table notes at d fr ≡ true → Further d sh
+    pub right : frameFits table notes at d fr ≡ true → Further (wk .at + moreBy d sh * (1 + sh .words)) (moreBy d sh)
 
   rows-in : {kind : Kind} {ops : List ℕ} → Fits k kind ops → at + 1 + words (k .d) kind ≤ length table → RowsIn table at (k .d) (frameCode (kindCode kind) ops)
   rows-in (fit-IN t o) l = tt
@@ -248,14 +253,14 @@ module _ {table notes : List ℕ} {at number : ℕ} (h : WholeTo table at number
   rows-in (fit-REF ops t len first p o) l = omega (arith, words-REF (k .d))
   rows-in (fit-OUT ops t len p q) l = omega (arith, words-OUT (k .d))
 
-  meeting : (f : Frame) (later : List Frame) → b .after ≡ f ∷ later → Fits k (f .kind) (f .ops) → Turn (k .d) (frameCode (kindCode (f .kind)) (f .ops)) (shapeCode (k .d) (f .kind))
+  meeting : (f : Frame) (later : List Frame) → b .after ≡ f ∷ later → Fits k (f .kind) (f .ops) → Turn (k .d) (frameCode (kindCode (f .kind)) (f .ops)) (shapeCode (k .d) (f .kind)) (behind (k .d) at (words (k .d) (f .kind)))
   meeting f later e fits =
       let inside : at + 1 + words (k .d) (f .kind) ≤ length table = omega (arith, b .most, length-drop at table, ap length (here f later e), length-append (f .ops) (wordsOf later), sized-one f later e) in
       record {
         inside = inside;
         rows = rows-in fits inside;
         wrong = λ z. refused f later e (sym (test-is f later e) ∙ z);
-        right = λ z. further-by f later e (sym (test-is f later e) ∙ z);
+        right = λ z. rw (further-is (k .d) least (f .kind)) (further-by f later e (sym (test-is f later e) ∙ z));
       }
 
   ending : b .after ≡ [] → wholeOf table .judgement ≡ pass
@@ -263,7 +268,7 @@ module _ {table notes : List ℕ} {at number : ℕ} (h : WholeTo table at number
   ending e = h .same ∙ ap (λ fs. wholeFrom k (h .plain) (runsFrom (a .d) number 0 fs) .judgement) e
 
   abbrev pub Meets : ℕ → Step → Type 0
-  Meets d (Next fr sh wk) = Turn d fr sh
+  Meets d (Next fr sh wk) = Turn d fr sh wk
   Meets d (Refused rule) = ⊥
   Meets d End = wholeOf table .judgement ≡ pass
 
@@ -275,4 +280,4 @@ module _ {table notes : List ℕ} {at number : ℕ} (h : WholeTo table at number
 
       go : (after : List Frame) → b .after ≡ after → AllFit k after → Meets (a .d) (stepAt table (a .d) at)
       go [] z fit = subst (Meets (a .d)) (sym (ended a b z)) (ending z)
-      go (f ∷ later) z (next fits few more) = subst (Meets (a .d)) (sym (step-is a b f later z fits few)) (at-d (λ m. Turn m (frameCode (kindCode (f .kind)) (f .ops)) (shapeCode m (f .kind))) (meeting f later z fits))
+      go (f ∷ later) z (next fits few more) = subst (Meets (a .d)) (sym (step-is a b f later z fits few)) (at-d (λ m. Turn m (frameCode (kindCode (f .kind)) (f .ops)) (shapeCode m (f .kind)) (behind m at (words m (f .kind)))) (meeting f later z fits))

@@ -10,7 +10,7 @@ use Rattle.circuit.specs.Circuit.{Circuit, size, isNamed, lookUp}
 use Rattle.circuit.specs.Composition.{Frame, Row}
 use Rattle.semantics.specs.Values.{at, xorSum, valuesOf}
 use Rattle.semantics.specs.Counts.{secretsOf}
-use Rattle.plain.specs.Sharings.{PlainGate, secret, constant, same, inverse, sum, product, Sharing, Plain, framesIn}
+use Rattle.plain.specs.Sharings.{PlainGate, secret, constant, same, inverse, sum, product, Plain, framesIn}
 
 -- the value of a plain gate, from the values f of earlier sharings and the secret bits
 abbrev pub plainValue : PlainGate → (f : ℕ → Bool) (secrets : List Bool) → Bool

@@ -2,7 +2,7 @@
 // of label 0 is the first of one. So a row of wires is a sharing where its numbers rise by one from a wire of label 0.
 ghost use mathlib.Core.Path.{_≡_};
 ghost use mathlib.Core.Bool.{cond, _&&_};
-ghost use Prim.Native.Nat.{_+_, _≤_, _<_};
+ghost use Prim.Native.Nat.{_+_, _-_, _≤_, _<_};
 ghost use lib.Dec.{eqb};
 ghost use lib.ListN.{length};
 ghost use Rattle.gadgets.specs.Internal.Accepting.{AcceptedTable, circuitIn};
@@ -20,9 +20,9 @@ fn rises(table: &[u16], at: usize, by: usize, n: usize, step: usize) -> bool
     requires { ⌜ Has (now table) at by n × (1 ≤ n) × (by ≤ 8) × (step ≤ 1) ⌝ }
     ensures { λ r. ⌜ r ≡ rising (now (table .entry)) at by n step ⌝ }
 {
-    let mut place = at;
-    let mut word = table[at] as usize;
-    let mut i = 0;
+    let mut place = at + by;
+    let mut word = table[at] as usize + step;
+    let mut i = 1;
     while i < n {
         if table[place] as usize != word {
             return false;
@@ -121,11 +121,12 @@ fn fits(table: &[u16], notes: &[u16], at: usize, n: usize, frame: Frame) -> bool
     }
 }
 
-// How many frames go together, by how many wires the first one makes: a frame of one wire begins a run of n.
-fn frames_together(wires: usize, n: usize) -> usize
-    ensures { λ r. ⌜ r ≡ cond (eqb wires 1) n 1 ⌝ }
+// How many frames go with a first one that makes so many wires: a frame of one wire begins a run of n.
+fn frames_further(wires: usize, n: usize) -> usize
+    requires { ⌜ 1 ≤ n ⌝ }
+    ensures { λ r. ⌜ r ≡ cond (eqb wires 1) (n - 1) 0 ⌝ }
 {
-    if wires == 1 { n } else { 1 }
+    if wires == 1 { n - 1 } else { 0 }
 }
 
 // The first frame, or the first frame of a run, that fits none; 0, HEAD's number, where all fit.
@@ -144,15 +145,16 @@ pub(crate) fn first_misfit(table: &[u16], notes: &[u16]) -> usize
             Step::Next {
                 frame,
                 shape,
-                walk: _,
+                walk: next,
             } => {
+                let further = frames_further(shape.wires, n);
+                let last = number + further;
                 if !fits(table, notes, walk.at, n, frame) {
                     return number;
                 }
-                let count = frames_together(shape.wires, n);
-                let end = walk.at + count * (1 + shape.words);
+                let end = next.at + further * (1 + shape.words);
                 walk = Walk { d, at: end };
-                number += count;
+                number = last + 1;
             }
             Step::End => {
                 return 0;

@@ -1,4 +1,5 @@
 -- What is proved of the definitions.
+pub mod Alike
 pub mod StarredCases
 pub mod Values
 pub mod Randoms

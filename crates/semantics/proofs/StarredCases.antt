@@ -1,8 +1,7 @@
 -- The starred cases, proved as a whole by one computed test.
-use mathlib.Core.Path.{_≡_, refl, ap₂}
+use mathlib.Core.Path.{_≡_, refl}
 use mathlib.Core.Bool.{Bool, true, false, _&&_, false≢true}
 use mathlib.Core.List.{List, [], _∷_}
-use Prim.Native.Nat.{ℕ}
 use lib.Dec.{eqb}
 use borrow.Author.Tests.{eqb-true}
 use Rattle.circuit.specs.Limits.{notesRoom}
@@ -14,6 +13,7 @@ use Rattle.circuit.specs.Answer.{Answer, accepted, refused, verdictOf}
 use Rattle.semantics.specs.Probes.{stops, sheet}
 use Rattle.semantics.specs.Calls.{bytesRule, probesRule, sheetsRule, callRule, valueBytes, readingBytes}
 use Rattle.semantics.specs.Counts.{alike}
+use Rattle.semantics.proofs.Alike.{same-list}
 use Rattle.semantics.specs.Cases.{Case, judged, evaluates, reads, notes, room, Right, cases}
 
 -- the tests of it
@@ -54,12 +54,6 @@ same-answer (accepted a b c) (refused d e f) h = absurd (false≢true h)
 same-answer (refused a b c) (accepted d e f) h = absurd (false≢true h)
 same-answer (refused a b c) (refused d e f) h = both (eqb a d) (eqb b e && eqb c f) h (λ p h. both (eqb b e) (eqb c f) h (λ q s.
     let x = eqb-true a d p in let y = eqb-true b e q in let z = eqb-true c f s in cc))
-
-same-list : (xs ys : List ℕ) → alike eqb xs ys ≡ true → xs ≡ ys
-same-list [] [] h = refl
-same-list [] (y ∷ ys) h = absurd (false≢true h)
-same-list (x ∷ xs) [] h = absurd (false≢true h)
-same-list (x ∷ xs) (y ∷ ys) h = both (eqb x y) (alike eqb xs ys) h (λ p q. ap₂ _∷_ (eqb-true x y p) (same-list xs ys q))
 
 pub right-sound : (k : Case) → right k ≡ true → Right k
 unfolding right

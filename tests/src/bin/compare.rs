@@ -1,25 +1,29 @@
 //! Random cases through the reference and the proved code: answers and every byte of every buffer. Each text that is written
-//! is read back, each count is added up, each latency is held to where INs and OUTs stand, and clocks go in runs.
+//! is read back, each count is added up, each latency is held to where INs and OUTs stand, clocks go in runs, and circuits of
+//! whole sharings, and broken ones, are held to how they were made.
 use masked_tests::buffers::{difference, GUARD};
 use masked_tests::calls::{Answer, Calls, NAMES};
 use masked_tests::clocks::Clocks;
 use masked_tests::generate::case::{case, Case};
 use masked_tests::generate::counting::Counting;
 use masked_tests::generate::random::Random;
+use masked_tests::generate::sharing::Sharing;
 use masked_tests::laws::{bytes_hex, hex, read_back, Counted};
 use masked_tests::options;
 use masked_tests::reference::write::frames;
 use masked_tests::reference::Reference;
+use masked_tests::sharings::Sharings;
 use masked_tests::spans::Spans;
 use std::process::exit;
 
 const CALLS: usize = NAMES.len();
-/// The numbers of write_text, count and clock in NAMES.
+/// The numbers of write_text, count, clock and check_sharings in NAMES.
 const WRITE_TEXT: usize = 4;
 const COUNT: usize = 5;
 const CLOCK: usize = 6;
+const CHECK_SHARINGS: usize = 7;
 /// The results that a call may have: accepted, and the rules' numbers.
-const RULES: usize = 26;
+const RULES: usize = 27;
 
 /// The buffers of one side, with guards around what is lent.
 #[derive(Clone, PartialEq)]
@@ -44,7 +48,7 @@ impl Buffers {
         }
     }
 
-    /// Makes the call with this number in NAMES; clocks go in runs, with buffers of their own.
+    /// Makes the call with this number in NAMES, but for clocks, which go in runs, and sharings, which have notes alone.
     fn call(&mut self, call: usize, calls: &dyn Calls, case: &Case) -> Answer {
         let notes = &mut self.notes[GUARD..GUARD + case.notes];
         let values = &mut self.values[GUARD..GUARD + case.values];
@@ -112,6 +116,8 @@ fn print_failure(seed: u64, number: u64, case: &Case, what: &str) {
     let Counting { table, secrets, probes, counts } = &case.counting;
     println!("  counted table: {}", hex(table));
     println!("  secrets: {}  probes: {}  counts {counts}", bytes_hex(secrets), hex(probes));
+    let Sharing { table, notes, form } = &case.sharing;
+    println!("  sharings' table, {form:?}, notes {notes}: {}", hex(table));
 }
 
 /// The rules that each call must have met.
@@ -123,13 +129,14 @@ fn wanted_rules(call: usize) -> Vec<usize> {
         3 => vec![0, 3, 4, 5, 6, 20, 21],
         WRITE_TEXT => (0..=14).chain([22, 23]).collect(),
         COUNT => (0..=15).chain([17, 18, 19, 22, 24, 25]).collect(),
+        CHECK_SHARINGS => (0..=14).chain([22, 26]).collect(),
         _ => unreachable!("{} has no rules", NAMES[call]),
     }
 }
 
 /// Prints how often each rule was met; gives how many were never met.
 fn print_rules(met: &[[u64; RULES]; CALLS]) -> usize {
-    println!("rule       {}", NAMES.map(|name| format!("{name:>12}")).concat());
+    println!("rule       {}", NAMES.map(|name| format!("{name:>15}")).concat());
     let mut missing = 0;
     for rule in 0..RULES {
         let name = if rule == 0 { "accepted".to_string() } else { format!("rule {rule}") };
@@ -142,7 +149,7 @@ fn print_rules(met: &[[u64; RULES]; CALLS]) -> usize {
         missing += cells.iter().filter(|cell| *cell == "NEVER").count();
         println!(
             "{name:<11}{}",
-            cells.iter().map(|cell| format!("{cell:>12}")).collect::<String>()
+            cells.iter().map(|cell| format!("{cell:>15}")).collect::<String>()
         );
     }
     missing
@@ -200,6 +207,7 @@ struct Tally {
     read_back: u64,
     counted: Counted,
     clocks: Clocks,
+    sharings: Sharings,
 }
 
 impl Tally {
@@ -230,6 +238,12 @@ impl Tally {
         for answer in self.clocks.take(random, other, &case.table, &junk.notes, run)? {
             self.met[CLOCK][answer.result as usize] += 1;
         }
+        let ordinary = self.sharings.take(other, &case.table, &junk.notes)?;
+        let notes = random.words(case.sharing.notes + 2 * GUARD);
+        let known = self.sharings.take_known(other, &case.sharing, &notes)?;
+        for answer in [ordinary, known] {
+            self.met[CHECK_SHARINGS][answer.result as usize] += 1;
+        }
         Ok(())
     }
 }
@@ -254,11 +268,16 @@ fn main() {
         }
     }
     tally.shapes.print();
-    let missing = print_rules(&tally.met) + tally.spans.print() + tally.clocks.print();
+    let missing = print_rules(&tally.met)
+        + tally.spans.print()
+        + tally.clocks.print()
+        + tally.sharings.print();
     println!("texts written and read back: {}", tally.read_back);
     tally.counted.print();
     if missing > 0 && count > 1000 {
-        println!("compare: {missing} rules, or cases of the latency or of clocks, were never met");
+        println!(
+            "compare: {missing} rules, or cases of the latency, clocks or sharings, were never met"
+        );
     }
     println!("compare: {} passed, {failed} failed", count - failed);
     if failed > 0 || (missing > 0 && count > 1000) {

@@ -6,6 +6,7 @@ use super::damage::{damaged_lines, noise};
 use super::limits::limit;
 use super::near::near_frame;
 use super::random::Random;
+use super::sharing::{sharing, Sharing};
 use super::text::random_text;
 use crate::builder::Builder;
 use crate::reference::check::{walk, Rules};
@@ -26,6 +27,7 @@ pub struct Case {
     pub written: usize,
     pub counting: Counting,
     pub clocking: Clocking,
+    pub sharing: Sharing,
 }
 
 /// The case that the random numbers give.
@@ -46,6 +48,7 @@ pub fn case(random: &mut Random) -> Case {
         written: written(random, table.len()),
         counting: counting(random),
         clocking: clocking(random, &made, refusal.is_none()),
+        sharing: sharing(random),
         text,
         table,
     }

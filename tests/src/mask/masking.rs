@@ -1,4 +1,4 @@
-//! The masking itself: a row of d wires for each net, at each stage where it is needed.
+//! The masking itself: a row of d wires for each net, at each stage where it is needed. Every row is a whole sharing.
 use super::netlist::{Gate, Netlist};
 use crate::builder::Builder;
 use std::collections::BTreeMap;
@@ -15,11 +15,13 @@ type Rows = BTreeMap<usize, Vec<u16>>;
 struct Masking {
     builder: Builder,
     nets: Vec<Rows>,
+    /// The sharings of 1, by stage.
+    ones: Rows,
 }
 
 /// Masks with d shares; all inputs stand at stage 0, all outputs at one stage and behind registers.
 pub fn mask(netlist: &Netlist, d: usize) -> Masked {
-    let mut masking = Masking { builder: Builder::new(d), nets: Vec::new() };
+    let mut masking = Masking { builder: Builder::new(d), nets: Vec::new(), ones: Rows::new() };
     for gate in &netlist.gates {
         let (stage, row) = masking.gate(*gate);
         masking.nets.push(BTreeMap::from([(stage, row)]));
@@ -57,19 +59,32 @@ impl Masking {
     fn gate(&mut self, gate: Gate) -> (usize, Vec<u16>) {
         match gate {
             Gate::Input => (0, self.builder.input(0)),
-            Gate::Not(x) => {
-                let stage = self.first_stage(x);
-                let mut row = self.row_at(x, stage);
-                row[0] = self.builder.not(row[0]);
-                (stage, row)
-            }
+            Gate::Not(x) => self.not(x),
             Gate::Xor(x, y) => {
                 let stage = self.first_stage(x).max(self.first_stage(y));
                 let (x, y) = (self.row_at(x, stage), self.row_at(y, stage));
-                (stage, x.iter().zip(&y).map(|(&x, &y)| self.builder.xor(x, y)).collect())
+                (stage, self.builder.xors(&x, &y))
             }
             Gate::And(x, y) => self.and(x, y),
         }
+    }
+
+    /// A run of NOTs flips the bit where d is odd; where d is even, the sum with a sharing of 1 does.
+    fn not(&mut self, x: usize) -> (usize, Vec<u16>) {
+        let stage = self.first_stage(x);
+        let row = self.row_at(x, stage);
+        if self.builder.d % 2 == 1 {
+            return (stage, self.builder.nots(&row));
+        }
+        let one = self.one_at(stage);
+        (stage, self.builder.xors(&row, &one))
+    }
+
+    /// The sharing of 1 at a stage, made where it is first needed: share 0 is 1, the others are 0.
+    fn one_at(&mut self, stage: usize) -> Vec<u16> {
+        let Masking { builder, ones, .. } = self;
+        let values: Vec<u8> = (0..builder.d).map(|label| u8::from(label == 0)).collect();
+        ones.entry(stage).or_insert_with(|| builder.constants(&values, stage)).clone()
     }
 
     /// AND: b stands one stage before a, so the later net is a.

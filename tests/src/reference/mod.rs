@@ -8,7 +8,9 @@ pub mod form;
 pub mod found;
 mod gadgets;
 pub mod names;
+pub mod plain;
 pub mod reach;
+pub mod sharings;
 pub mod text;
 pub mod write;
 
@@ -20,6 +22,8 @@ mod clocked;
 mod counted;
 #[cfg(test)]
 mod ends;
+#[cfg(test)]
+mod shared;
 #[cfg(test)]
 mod slips;
 #[cfg(test)]
@@ -145,5 +149,9 @@ impl Calls for Reference {
         bank: &mut [u8],
     ) -> Answer {
         answer(clock::clock(table, notes, shares, tape, values, bank))
+    }
+
+    fn check_sharings(&self, table: &[u16], notes: &mut [u16]) -> Answer {
+        answer(sharings::check_sharings(table, notes))
     }
 }

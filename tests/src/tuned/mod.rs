@@ -6,6 +6,7 @@ mod evaluate;
 mod lanes;
 mod planes;
 mod reach;
+mod sharings;
 mod text;
 mod wide;
 mod write;
@@ -14,6 +15,8 @@ mod write;
 mod clocked;
 #[cfg(test)]
 mod counted;
+#[cfg(test)]
+mod shared;
 
 use crate::calls::{Answer, Calls};
 
@@ -102,6 +105,10 @@ impl Calls for Tuned {
         bank: &mut [u8],
     ) -> Answer {
         answer(clock::clock(table, notes, shares, tape, values, bank))
+    }
+
+    fn check_sharings(&self, table: &[u16], notes: &mut [u16]) -> Answer {
+        answer(sharings::check_sharings(table, notes))
     }
 }
 

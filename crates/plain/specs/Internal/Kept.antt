@@ -7,7 +7,7 @@ use Rattle.circuit.specs.Lists.{range, filter, concatMap}
 use Rattle.circuit.specs.Wires.{named}
 use Rattle.circuit.specs.Circuit.{Circuit, size, place, isNamed, lookUp}
 use Rattle.circuit.proofs.Base.{Every}
-use Rattle.plain.specs.Sharings.{Sharing, Plain, isSharing}
+use Rattle.plain.specs.Sharings.{Plain, isSharing}
 use Rattle.plain.specs.Plain.{rowsOf}
 
 -- d wires in a row by their numbers, with the labels 0 to d−1 and one stage

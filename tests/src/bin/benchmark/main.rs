@@ -1,5 +1,6 @@
 //! Times the calls against the tuned opponent, in one process, turn by turn.
 mod counting;
+mod sharings;
 
 use masked_tests::builder::Builder;
 use masked_tests::calls::{Answer, Calls, NAMES};
@@ -12,9 +13,10 @@ use masked_tests::tuned::Tuned;
 use std::hint::black_box;
 use std::time::Instant;
 
-/// The number of clock in NAMES.
+/// The numbers of clock and check_sharings in NAMES.
 const CLOCK: usize = 6;
-/// The calls that have a column for each circuit: all but count.
+const CHECK_SHARINGS: usize = 7;
+/// The calls that have a column for each circuit; count and check_sharings have lines of their own.
 const COLUMNS: [usize; 6] = [0, 1, 2, 3, 4, CLOCK];
 
 /// A circuit with all that its calls are given, and buffers for them.
@@ -31,6 +33,8 @@ struct Load {
     bank: Vec<u8>,
     table: Vec<u16>,
     written: Vec<u8>,
+    /// The answer of check_sharings.
+    sharings: Answer,
 }
 
 impl Load {
@@ -49,6 +53,7 @@ impl Load {
             bank: vec![0; 8192],
             table: vec![0; 8192],
             written: vec![0; 40_960],
+            sharings: Tuned.check_sharings(&builder.table, &mut vec![0; 16384]),
             builder,
         }
     }
@@ -63,15 +68,17 @@ impl Load {
             3 => calls.read_text(self.text.as_bytes(), &mut self.table),
             4 => calls.write_text(table, notes, &mut self.written),
             CLOCK => calls.clock(table, notes, shares, tape, values, bank),
+            CHECK_SHARINGS => calls.check_sharings(table, notes),
             _ => unreachable!("{} is timed by itself", NAMES[call]),
         }
     }
 
     /// Microseconds of one call, from `times` of them in a row.
     fn time(&mut self, call: usize, calls: &dyn Calls, times: usize) -> f64 {
+        let wanted = if call == CHECK_SHARINGS { self.sharings.result } else { 0 };
         let start = Instant::now();
         for _ in 0..times {
-            assert_eq!(black_box(self.call(call, calls)).result, 0);
+            assert_eq!(black_box(self.call(call, calls)).result, wanted);
         }
         start.elapsed().as_secs_f64() * 1e6 / times as f64
     }
@@ -238,5 +245,6 @@ fn main() {
     let rows = sizes.map(|size| (format!("AND chain, d 3, 1/{}", part(size)), products(3, size)));
     print_lines(rows.into(), random, subject.as_ref(), rounds);
     print_clocks(random, subject.as_ref(), rounds);
+    sharings::print(random, subject.as_ref(), rounds);
     counting::print(subject.as_ref(), rounds);
 }

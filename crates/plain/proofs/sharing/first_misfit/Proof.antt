@@ -1,7 +1,9 @@
 -- The loop's invariant: the frames before the walk's place are in sharings, and the table's judgement is that of the frames left.
 use mathlib.Core.Path.{_≡_, refl, sym, ap, subst, _∙_}
-use Prim.Native.Nat.{ℕ, _+_, _*_, _-_, _≤_, _<_}
+use mathlib.Core.Bool.{Bool, true, false, cond}
+use Prim.Native.Nat.{ℕ, _+_, _*_, _-_, _≤_}
 use native.Mathlib.Omega.{arith}
+use lib.Dec.{eqb}
 use lib.ListN.{length}
 use borrow.Author.Needs.{needs}
 use borrow.Author.Tests.{not-true, not-false}
@@ -41,29 +43,39 @@ found c e = turn (walked (c .before)) (start (c .before) .pre .1) refl (sym (ans
 abbrev head : tie.After-step2 Inv-loop μ-loop → tie.At-loop Inv-loop μ-loop
 head c = c .before .before .before
 
-met : (c : tie.After-step2 Inv-loop μ-loop) → let g = c .step2 .given .0 in Turn (walked (head c)) (start (head c) .pre .1) (nth (now (start (head c) .args .table)) 1) (g .0) (g .1 .0)
+met : (c : tie.After-step2 Inv-loop μ-loop) → let g = c .step2 .given .0 in Turn (walked (head c)) (start (head c) .pre .1) (nth (now (start (head c) .args .table)) 1) (g .0) (g .1 .0) (g .1 .1 .0)
 met c = found (c .before .before) (c .step2 .given .1)
 
--- and where it fits, the walk behind it
-abbrev place : tie.After-fits2 Inv-loop μ-loop → tie.After-step2 Inv-loop μ-loop
-place c = c .before .before
+-- behind the first test of a turn: how many frames go with the first, and where they fit, the walk behind them
+abbrev meeting : tie.After-frames-further Inv-loop μ-loop → tie.After-step2 Inv-loop μ-loop
+meeting c = c .before .before
 
-gone : (c : tie.Else1 Inv-loop μ-loop) → let t = place (c .before) in Further (walked (head t)) (start (head t) .pre .1) (nth (now (start (head t) .args .table)) 1) (t .step2 .given .0 .1 .0)
-gone c = met (place (c .before)) .right (sym (c .before .fits2 .ensures) ∙ not-false (c .before .fits2 .result) (c .if1 .left))
+abbrev behind : tie.After-fits2 Inv-loop μ-loop → tie.After-frames-further Inv-loop μ-loop
+behind c = c .before
 
--- in the numbers that the code has
-abbrev at-head : tie.After-frames-together Inv-loop μ-loop → tie.At-loop Inv-loop μ-loop
-at-head c = head (place (c .before .before))
+few : (c : tie.After-frames-further Inv-loop μ-loop) → c .frames-further .result ≤ 8
+few c = let a = start (head (meeting c)) .pre .0 in subst (λ (r : ℕ). r ≤ 8) (sym (c .frames-further .ensures)) (least (eqb (meeting c .step2 .given .0 .1 .0 .wires) 1) (second-word a) (a .most))
+  where
+    least : {n d : ℕ} (b : Bool) → n ≡ d → d ≤ 8 → cond b (n - 1) 0 ≤ 8
+    least true e l = omega arith
+    least false e l = omega arith
 
-abbrev wordsOf : tie.After-frames-together Inv-loop μ-loop → ℕ
-wordsOf c = place (c .before .before) .step2 .given .0 .1 .0 .words
+abbrev turnOf : tie.Else1 Inv-loop μ-loop → tie.After-step2 Inv-loop μ-loop
+turnOf c = meeting (behind (c .before))
 
-went : (c : tie.After-frames-together Inv-loop μ-loop) → let h = at-head c in let end = h .loop .walk .at + c .frames-together .result * (1 + wordsOf c) in
-    (end ≤ length (now (start h .args .table))) × (h .loop .walk .at < end) × WholeTo (now (start h .args .table)) end (h .loop .number + c .frames-together .result)
-went c = let g = gone (c .before) in let h = at-head c in
-    subst (λ (r : ℕ). let end = h .loop .walk .at + r * (1 + wordsOf c) in
-    (end ≤ length (now (start h .args .table))) × (h .loop .walk .at < end) × WholeTo (now (start h .args .table)) end (h .loop .number + r))
-    (sym (c .frames-together .ensures)) (g .room, g .past, g .next)
+fitted : (c : tie.Else1 Inv-loop μ-loop) → c .before .fits2 .result ≡ true
+fitted c = not-false (c .before .fits2 .result) (c .if1 .left)
+
+abbrev endOf : tie.Else1 Inv-loop μ-loop → ℕ
+endOf c = let g = turnOf c .step2 .given .0 .1 in g .1 .0 .at + behind (c .before) .frames-further .result * (1 + g .0 .words)
+
+went : (c : tie.Else1 Inv-loop μ-loop) → let t = turnOf c in Further (walked (head t)) (start (head t) .pre .1) (endOf c) (behind (c .before) .frames-further .result)
+went c = subst (λ (r : ℕ). let t = turnOf c in let g = t .step2 .given .0 .1 in Further (walked (head t)) (start (head t) .pre .1) (g .1 .0 .at + r * (1 + g .0 .words)) r)
+    (sym (behind (c .before) .frames-further .ensures)) (met (turnOf c) .right (sym (c .before .fits2 .ensures) ∙ fitted c))
+
+-- behind the sum that is its end
+abbrev turned : tie.After-struct-known2 Inv-loop μ-loop → tie.Else1 Inv-loop μ-loop
+turned c = c .before .before
 
 pub first-misfit-spec : {M : Type 1} → statement M
 first-misfit-spec =
@@ -76,16 +88,17 @@ first-misfit-spec =
     (λ c κs. search needs)
     (λ c. (refl, whole-start (c .before .before .before .before .pre .0)))
     (λ c κs. search needs) (λ c. search needs)
-    (λ c κs. let t = met (c .before) in let a = start (head (c .before)) .pre .0 in
+    (λ c κs. let a = start (head (c .before)) .pre .0 in omega (arith, second-word a, a .least))
+    (λ c. omega (arith, few c, walked (head (meeting c)) .few, walked (head (meeting c)) .between .most))
+    (λ c κs. let t = met (meeting c) in let a = start (head (meeting c)) .pre .0 in
     (omega (arith, t .inside), omega (arith, second-word a, a .most), omega (arith, second-word a, a .least), t .rows))
-    (λ c. met (place (c .before)) .wrong (sym (c .before .fits2 .ensures) ∙ not-true (c .before .fits2 .result) (c .if1 .taken)))
-    (λ c κs. search needs)
-    (λ c. omega (arith, met (place (c .before .before .before)) .inside))
-    (λ c. omega (arith, went (c .before) .0))
-    (λ c. omega (arith, went (c .before .before) .0))
-    (λ c. omega (arith, went (c .before .before) .0, went (c .before .before) .2 .few))
-    (λ c. omega (arith, went (c .before .before) .0, went (c .before .before) .1))
-    (λ c. (refl, went (c .before .before) .2))
+    (λ c. met (meeting (behind (c .before))) .wrong (sym (c .before .fits2 .ensures) ∙ not-true (c .before .fits2 .result) (c .if1 .taken)))
+    (λ c. omega (arith, met (turnOf (c .before)) .inside))
+    (λ c. omega (arith, went (c .before) .room))
+    (λ c. omega (arith, went (turned c) .room))
+    (λ c. omega (arith, went (turned c) .room, went (turned c) .next .few))
+    (λ c. omega (arith, went (turned c) .room, went (turned c) .past))
+    (λ c. (refl, went (turned c) .next))
     (λ c. search needs)
     (λ c. found (c .before .before) (c .enum-told .given .1))
     (λ c. search needs)

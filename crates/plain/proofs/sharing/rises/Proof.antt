@@ -1,5 +1,5 @@
 -- The loop's invariant: the words before the i-th are on step, and the next place and the next word are known.
-use mathlib.Core.Path.{_≡_, refl, sym, ap, subst, _∙_}
+use mathlib.Core.Path.{_≡_, sym, ap, subst, _∙_}
 use Prim.Native.Nat.{ℕ, _+_, _-_, _*_, _≤_, _<_}
 use native.Mathlib.Omega.{arith}
 use lib.ListN.{length}
@@ -28,6 +28,13 @@ start c = c .before .before .before
 place-in : (c : tie.In-loop Inv-loop μ-loop) → c .before .loop .place < length (now (start c .args .table))
 place-in c = subst (λ (x : ℕ). x < length (now (start c .args .table))) (sym (c .before .loop .inv .1)) (start c .pre .0 .each (c .before .loop .i) (omega arith))
 
+-- the first word is on step by itself
+on-first : (s : tie.Start Inv-loop μ-loop) (j : ℕ) → j < 1 → OnStep (now (s .args .table)) (s .args .at) (s .args .by) (s .args .step) j
+on-first s j l =
+    let none : j ≡ 0 = omega arith in
+    let here : s .args .at + 0 * s .args .by ≡ s .args .at = omega arith in
+    rw none (ap (nth (now (s .args .table))) here ∙ omega arith)
+
 -- the word at a turn's place, where it is the one that is asked
 abbrev turn : tie.After-shared-slice-known2 Inv-loop μ-loop → tie.In-loop Inv-loop μ-loop
 turn c = c .before
@@ -49,9 +56,11 @@ rises-spec =
     Inv-loop
     μ-loop
     (λ c. omega (arith, first-in c))
+    (λ c. omega (arith, first-in c))
     (λ c. first-in (c .before))
     (λ c. omega (arith, c .shared-slice-known .given (c .before .args .at)))
-    (λ c. (omega arith, omega arith, omega arith, λ j l. absurd (omega arith)))
+    (λ c. omega (arith, c .shared-slice-known .given (c .before .args .at)))
+    (λ c. (omega arith, omega arith, omega arith, on-first (c .before)))
     (λ c. omega (arith, place-in c))
     (λ c. place-in (c .before))
     (λ c. omega (arith, c .shared-slice-known2 .given (turn c .before .loop .place)))

@@ -20,5 +20,5 @@ run-of-sums-spec =
     (λ c κs. search needs)
     (λ c. rw (sym (c .before .run-over .ensures) ∙ not-true (c .before .run-over .result) (c .if1 .taken)))
     (λ c. search needs)
-    (λ c κs. (has-column _ _ _ _ 2 (over-room _ _ _ _ _ _ (stands c)) (omega arith), omega arith, omega arith, omega arith))
+    (λ c κs. (has-column _ _ _ _ _ (over-room _ _ _ _ _ _ (stands c)) (omega arith), omega arith, omega arith, omega arith))
     (λ c. rw (stands (c .before)) (c .rises .ensures)))

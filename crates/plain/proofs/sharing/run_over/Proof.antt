@@ -24,5 +24,5 @@ run-over-spec =
     (λ c κs. search needs)
     (λ c. rw (stands (c .before .before), ne-eqb _ _ (λ e. c .if2 .taken (c .before .label .ensures ∙ e))))
     (λ c. search needs)
-    (λ c κs. (has-column _ _ _ _ 1 (run-room _ _ _ _ (stands (c .before .before))) (omega arith), omega arith, omega arith, omega arith))
+    (λ c κs. (has-column _ _ _ _ _ (run-room _ _ _ _ (stands (c .before .before))) (omega arith), omega arith, omega arith, omega arith))
     (λ c. rw (stands (c .before .before .before), eq-eqb _ _ (sym (c .before .before .label .ensures) ∙ c .before .if2 .left)) (c .rises .ensures)))

@@ -1,8 +1,0 @@
--- One wire, or another number of them.
-use borrow.Author.Needs.{needs}
-use borrow.Author.Tests.{eq-eqb, ne-eqb}
-use Rattle.plain.proofs.sharing.frames_together.Statement.{statement}
-use Rattle.plain.proofs.sharing.frames_together.Tie as tie
-
-pub frames-together-spec : {M : Type 1} → statement M
-frames-together-spec = tie.close (tie.spec (λ c. rw (eq-eqb _ _ (c .if1 .taken))) (λ c. rw (ne-eqb _ _ (c .if1 .left))))
