@@ -78,8 +78,8 @@ enum masked_rule {
     MASKED_TOO_MANY_PAIRS = 24,   /* where a count is asked, the free bits are at most 16: d-1 shares of each IN, and the random
                                      bits */
     MASKED_TOO_MANY_WIRES_READ = 25, /* where a count is asked, the probes read at most 8 wires */
-    MASKED_NOT_A_SHARING = 26     /* where whole sharings are asked, every frame but HEAD and OUT belongs to exactly one, and every row
-                                     of AND, REF and OUT is one */
+    MASKED_NOT_A_SHARING = 26     /* where whole sharings are asked for, every frame but HEAD and OUT belongs to exactly one, and every
+                                     row of AND, REF and OUT is one */
 };
 
 /* Checks a table: the words of all frames, one behind the other. Rules 1 to 14 and 22. (In a table, without lines, rule 6 is broken

@@ -41,7 +41,8 @@ MEANINGS = {
     23: "the buffer for the text has at least five bytes for each word of the table",
     24: "where a count is asked, the free bits are at most 16: d-1 shares of each IN, and the random bits",
     25: "where a count is asked, the probes read at most 8 wires",
-    26: "where whole sharings are asked, every frame but HEAD and OUT belongs to exactly one, and every row of AND, REF and OUT is one",
+    26: "where whole sharings are asked for, every frame but HEAD and OUT belongs to exactly one, and every row of AND, REF and OUT "
+        "is one",
 }
 
 

@@ -1,8 +1,9 @@
 """What `show plain` prints of an accepted circuit: where it is made of whole sharings, its plain circuit, the OUTs and the truth
 table; otherwise the frame that fits no sharing, in plain words.
 
-The yes or no is the proved call's; the sharings are sharings.py's. Where the two disagree, or where a proved evaluation adds up to
-another bit than the plain circuit gives, nothing is shown: that would be a fault of these tools.
+The yes or no is the proved call's; the sharings are sharings.py's. Where the two disagree, nothing is shown: that would be a fault of
+these tools. With at most 8 INs each set of secret bits is evaluated by the proved call too, and nothing is shown where a sharing adds
+up to another bit than the plain circuit gives. With more INs there is no evaluation.
 """
 from __future__ import annotations
 
@@ -14,7 +15,7 @@ from explain import Number, line_row, told
 from outcomes import Refusal, Trouble
 from sharings import Mixed, Sharing, Sharings
 
-# A truth table has a row for each set of secret bits, so 256 at most.
+# A truth table has a row, and an evaluation, for each set of secret bits, so 256 at most.
 MOST_INPUTS = 8
 # From this many INs on, the truth table is also told in hexadecimal, a row for each 16 sets.
 SBOX_INPUTS = 4
@@ -67,12 +68,14 @@ def listing(name: str, circuit: Circuit, table: array, sharings: Sharings) -> li
             f"{Number(len(sharings.outputs)):OUT}", ""]
     rows += gates(circuit.d, sharings.found)
     rows += [f"OUT {number} on line {frame + 1} is sharing {sharing}" for number, (frame, sharing) in enumerate(sharings.outputs)]
+    bits = []
+    if sharings.inputs <= MOST_INPUTS:
+        bits = bits_of(circuit.d, sharings)
+        hold_to_evaluations(name, circuit, table, sharings, bits)
     if not sharings.outputs:
         return rows + ["there is no OUT, so no truth table"]
     if sharings.inputs > MOST_INPUTS:
         return rows + ["", f"a truth table is shown for at most {MOST_INPUTS} INs, and here are {sharings.inputs}"]
-    bits = bits_of(circuit.d, sharings)
-    hold_to_evaluations(name, circuit, table, sharings, bits)
     return rows + truth(sharings, bits)
 
 

@@ -17,7 +17,7 @@ IN_RUNS = (CON, XOR, NOT, REG)
 @dataclass(frozen=True)
 class Sharing:
     """d wires, the i-th with label i: the frames that make them, and the numbers of the sharings that these take. `number` is that of
-    an IN among the INs, or the sum of constants modulo 2."""
+    an IN among the INs, or the sum of constants modulo 2; else it is 0."""
 
     kind: int
     frames: range
@@ -65,7 +65,7 @@ class Sharings:
         if kind == OUT:
             self.outputs.append((frame, parts[0]))
         else:
-            self._add(frame, 1, parts, self.inputs)
+            self._add(frame, 1, parts, self.inputs if kind == IN else 0)
         self.inputs += kind == IN
         return 1
 

@@ -28,7 +28,7 @@ use Rattle.frames.specs.Walk.{shapeCode, behind, stepAt}
 use Rattle.checker.specs.Internal.Spans.{spanOf}
 use Rattle.checker.specs.Internal.Adding.{headAlone, tallyOf, headNumber}
 use Rattle.checker.proofs.Spots.{judged, judged-refuse}
-use Rattle.checker.proofs.Represented.{Labelled}
+use Rattle.circuit.proofs.Noted.{Labelled}
 
 -- 1 to 4
 pub head-judged : (table : List ℕ) (room : ℕ) → headRule table room ≡ judged (headNumber table room) 0 (headNumber table room / 4)

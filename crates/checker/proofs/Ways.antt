@@ -34,7 +34,8 @@ use Rattle.checker.specs.Internal.Notes.{Represents}
 use Rattle.checker.specs.Internal.Spans.{latencyIn}
 use Rattle.checker.specs.Internal.Adding.{tallyOf, Bounded, FrameOf, Adds}
 use Rattle.checker.proofs.MadeNotes.{counts}
-use Rattle.checker.proofs.Represented.{represents, notes-more, notes-same, label-step}
+use Rattle.circuit.proofs.Noted.{label-step}
+use Rattle.checker.proofs.Represented.{represents, notes-more, notes-same}
 use Rattle.checker.proofs.Spanning.{highest-next, latency-is}
 use Rattle.checker.proofs.Placing.{judgementIn, laterRule, notesAdded, Placed, judgement, next, notes-next}
 use Rattle.checker.proofs.Checking.{Walking, here, AtFrame, met}

@@ -5,7 +5,8 @@ ghost use Prim.Native.Nat.{_+_, _*_, _≤_, _<_};
 ghost use lib.ListN.{length};
 ghost use lib.Seq.{sets};
 ghost use Rattle.circuit.specs.Limits.{mostShares};
-ghost use Rattle.checker.specs.Internal.Notes.{noted, labelNoted, stageFound, wireNumber, firstWord, innerWords, namedWords, madeWords};
+ghost use Rattle.circuit.specs.Answer.{labelNoted};
+ghost use Rattle.checker.specs.Internal.Notes.{noted, stageFound, wireNumber, firstWord, innerWords, namedWords, madeWords};
 
 // Both words of an inner wire.
 const INNER: u16 = 0xFFFF;

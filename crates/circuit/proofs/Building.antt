@@ -1,6 +1,6 @@
 -- Laws of every wire of a circuit of frames that fit, frame by frame. First of them: there are at most 8,192 wires, and no stage is over 255.
 use mathlib.Core.Path.{_≡_, refl, sym, ap, subst, subst₂, _∙_}
-use mathlib.Core.Bool.{Bool, false}
+use mathlib.Core.Bool.{Bool, true, false}
 use mathlib.Core.List.{List, [], _∷_, _++_, map, append-nil, append-assoc}
 use Prim.Native.Nat.{ℕ, suc, _+_, _≤_, _<_}
 use native.Mathlib.Omega.{arith}
@@ -13,7 +13,7 @@ use Rattle.circuit.specs.Lists.{nth}
 use Rattle.circuit.specs.Wires.{constant, isStop, Place, named, inner, Wire, _placed_}
 use Rattle.circuit.specs.Gadgets.{Part, r, R, B, m, M, u, U, v, V′, w, W, c, s, S, labels, gate, delay, inAND, inREF, index, gadget}
 use Rattle.circuit.specs.Kinds.{Kind, shape}
-use Rattle.circuit.specs.Circuit.{Circuit, size, empty, wireAt, place, showing, lookUp, labelShown, stageShown, isRegistered, stageOf, newStage, made, extend}
+use Rattle.circuit.specs.Circuit.{Circuit, size, empty, wireAt, place, showing, lookUp, isNamed, labelShown, stageShown, isRegistered, stageOf, newStage, made, extend}
 use Rattle.circuit.proofs.Base.{cases, AllFrom, Has, all-append, all-left, all-right, all-map, all-unmap, all-of, all-any}
 use Rattle.circuit.proofs.Numbered.{get-all, all-below, all-at, at-all, all-default}
 use Rattle.circuit.proofs.Parts.{index-at, InREF, fresh, added, ref-parts}
@@ -65,7 +65,7 @@ named-made k x l t h = cases (ltb x (size k)) (ltb-true x (size k))
     (λ e. let z : place k x ≡ inner 0 = ap (λ wire. wire .place) (List·getD-eq-default (k .wires) (constant false placed inner 0) (ltb-false x (size k) e)) in
     absurd (let y : _≡_ {A = ℕ} 0 1 = cc in omega arith))
 
--- and looking it up tells its label, its stage and whether it is registered
+-- and looking it up tells its label, its stage, whether it is registered, and that it is named
 pub label-told : (k : Circuit) (x : ℕ) {l t : ℕ} → place k x ≡ named l t → labelShown (lookUp k x) ≡ l
 label-told k x h = ap (λ p. labelShown (showing p (isStop (wireAt k x .gate)))) h
 
@@ -74,6 +74,9 @@ stage-told k x h = ap (λ p. stageShown (showing p (isStop (wireAt k x .gate))))
 
 pub registered-told : (k : Circuit) (x : ℕ) {l t : ℕ} → place k x ≡ named l t → isRegistered (lookUp k x) ≡ isStop (wireAt k x .gate)
 registered-told k x h = ap (λ p. isRegistered (showing p (isStop (wireAt k x .gate)))) h
+
+pub named-told : (k : Circuit) (x : ℕ) {l t : ℕ} → place k x ≡ named l t → isNamed (lookUp k x) ≡ true
+named-told k x h = ap (λ p. isNamed (showing p (isStop (wireAt k x .gate)))) h
 
 -- the places of a frame
 pub place-old : (k : Circuit) (ops : List ℕ) (kind : Kind) (x : ℕ) → x < size k → place (extend k ops kind) x ≡ place k x
@@ -103,6 +106,10 @@ pub build-more : (k : Circuit) (fs : List Frame) → (more : List Wire) × (buil
 build-more k [] = ([], sym (append-nil (k .wires)))
 build-more k (f ∷ fs) = let (more, e) = build-more (extend k (f .ops) (f .kind)) fs in
     (made k (f .ops) (f .kind) ++ more, e ∙ append-assoc (k .wires) (made k (f .ops) (f .kind)) more)
+
+-- so a wire stays as it is
+pub wire-kept : (k : Circuit) (fs : List Frame) (x : ℕ) → x < size k → wireAt (build k fs) x ≡ wireAt k x
+wire-kept k fs x l = let (new, e) = build-more k fs in ap (λ ws. getD ws x (constant false placed inner 0)) e ∙ List·getD-append (k .wires) new (constant false placed inner 0) x l
 
 -- frames before and after a place
 pub build-append : (k : Circuit) (fs gs : List Frame) → build k (fs ++ gs) ≡ build (build k fs) gs

@@ -8,6 +8,8 @@ pub mod Sizes
 pub mod Steps
 -- Laws of wires along frames that fit
 pub mod Building
+-- The words of the notes, and labels
+pub mod Noted
 -- Which wires are registered
 pub mod Registered
 -- The checker accepts exactly the tables whose frames fit

@@ -1,5 +1,5 @@
 -- Lemmas on lists whose elements are given, or asked for, by number.
-use mathlib.Core.Path.{_≡_, subst, subst₂, _∙_}
+use mathlib.Core.Path.{_≡_, refl, subst, subst₂, _∙_}
 use mathlib.Core.List.{List, [], _∷_, map}
 use Prim.Native.Nat.{ℕ, zero, suc, _+_, _<_}
 use native.Mathlib.Omega.{arith}
@@ -11,6 +11,12 @@ pub range-at : (n c i : ℕ) → i < c → nth (range n c) i ≡ n + i
 range-at n zero i l = absurd (omega arith)
 range-at n (suc c) zero l = omega arith
 range-at n (suc c) (suc i) l = range-at (suc n) c i (omega arith) ∙ omega arith
+
+-- the element at a number, behind a function
+pub map-at : {A B : Type 0} (f : A → B) (xs : List A) (n : ℕ) (d : B) (e : A) → n < length xs → getD (map f xs) n d ≡ f (getD xs n e)
+map-at f [] n d e l = absurd (omega arith)
+map-at f (x ∷ xs) zero d e l = refl
+map-at f (x ∷ xs) (suc n) d e l = map-at f xs n d e (omega arith)
 
 -- properties of every element of a list, with its number
 module _ {A : Type 0} (Q : ℕ → A → Type 0) where

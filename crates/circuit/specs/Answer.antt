@@ -1,9 +1,9 @@
 -- Document 01, "Calls and their sheets": the answers' numbers, and the notes after a call, with document 02's mark of registered wires.
 use mathlib.Core.Bool.{cond}
 use mathlib.Core.List.{List, [], _∷_}
-use Prim.Native.Nat.{ℕ, _+_}
+use Prim.Native.Nat.{ℕ, _+_, _*_, _%_}
 use Rattle.circuit.specs.Limits.{registeredNote, innerNote}
-use Rattle.circuit.specs.Lists.{concatMap, overwrite}
+use Rattle.circuit.specs.Lists.{concatMap, nth, overwrite}
 use Rattle.circuit.specs.Wires.{Wire}
 use Rattle.circuit.specs.Circuit.{Circuit, size, Lookup, found, hidden, shownBy}
 use Rattle.circuit.specs.Latency.{latency}
@@ -34,3 +34,7 @@ notesOf wires = concatMap wires (λ wire. note (shownBy wire))
 
 unfoldable pub notesAfter : Circuit → List ℕ → List ℕ
 notesAfter k notes = overwrite (notesOf (k .wires)) notes
+
+-- the label that notes give a wire that is named; 0 past their end
+abbrev pub labelNoted : List ℕ → (x : ℕ) → ℕ
+labelNoted notes x = nth notes (2 * x) % registeredNote

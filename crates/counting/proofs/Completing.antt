@@ -1,17 +1,16 @@
 -- Shares of secret bits in words, and that each of the eight pairs has its own sharing in them.
-use mathlib.Core.Path.{_≡_, refl, sym, ap, ap₂, subst, _∙_}
-use mathlib.Core.Bool.{Bool, true, false}
+use mathlib.Core.Path.{_≡_, refl, sym, ap, ap₂, _∙_}
+use mathlib.Core.Bool.{Bool, false}
 use mathlib.Core.List.{List, [], _∷_, _++_, map, map-append, map-map, append-assoc}
-use Prim.Native.Nat.{ℕ, zero, suc, _+_, _*_, _-_, _/_, _%_, _≤_, _<_}
+use Prim.Native.Nat.{ℕ, zero, suc, _+_, _*_, _/_, _%_, _≤_, _<_}
 use native.Mathlib.Nat.{zero-add}
 use native.Mathlib.Omega.{arith}
-use lib.Bits.{bitXor}
 use lib.ListN.{length, take, drop, getD, length-drop, length-take, length-map, take-append-drop, List·getD-map}
-use lib.Seq.{sets, ext-getD, getD-take, drop-cons, take-append-le, drop-append-le}
+use lib.Seq.{ext-getD, getD-take, take-append-le, drop-append-le}
 use Rattle.circuit.specs.Lists.{_⊕_, nth, range}
 use Rattle.circuit.specs.Circuit.{isSet}
-use Rattle.circuit.proofs.Base.{xor-assoc, no-flip, stores-append}
-use Rattle.semantics.specs.Values.{bits, byte, at}
+use Rattle.circuit.proofs.Base.{xor-assoc, no-flip}
+use Rattle.semantics.specs.Values.{bits, at}
 use Rattle.semantics.specs.Counts.{parity}
 use Rattle.gadgets.proofs.Bits.{set-byte}
 use Rattle.simulation.specs.Internal.Evaluating.{packed, Packs}
@@ -20,7 +19,7 @@ use Rattle.counting.specs.Internal.Lanes.{laneBit}
 use Rattle.counting.specs.Internal.Pairs.{completed, freeOf}
 use Rattle.counting.specs.Internal.Words.{FreeWords, sharesOf, allShares}
 use Rattle.counting.proofs.FreeBits.{packed-same, packed-all}
-use Rattle.counting.proofs.Numbered.{map-at}
+use Rattle.circuit.proofs.Numbered.{map-at}
 
 -- the bit of each pair, for each word
 abbrev Column : Type 0

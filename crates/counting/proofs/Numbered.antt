@@ -1,7 +1,7 @@
 -- All lists of free bits by their numbers; and the combinations of values by theirs.
 use mathlib.Core.Path.{_≡_, refl, sym, ap, ap₂, _∙_}
-use mathlib.Core.Bool.{Bool, true, false, cond, _&&_, Bool·beq}
-use mathlib.Core.List.{List, [], _∷_, _++_, map}
+use mathlib.Core.Bool.{Bool, true, false, Bool·beq}
+use mathlib.Core.List.{List, [], _∷_, map}
 use Prim.Native.Nat.{ℕ, zero, suc, _+_, _-_, _*_, _/_, _%_, _^_, _≤_, _<_}
 use native.Mathlib.Nat.{pow-suc}
 use native.Mathlib.Omega.{arith}
@@ -11,6 +11,7 @@ use lib.Seq.{getD-append-add}
 use borrow.Author.Tests.{ltb-true, ltb-false, eqb-true, eqb-false, eq-eqb, ne-eqb}
 use Rattle.circuit.specs.Circuit.{isSet}
 use Rattle.circuit.proofs.Base.{cases}
+use Rattle.circuit.proofs.Numbered.{map-at}
 use Rattle.semantics.specs.Values.{byte}
 use Rattle.semantics.specs.Counts.{alike}
 use Rattle.secrecy.proofs.Sums.{sumBits}
@@ -60,11 +61,6 @@ pub combinations-length : (n : ℕ) → length (combinations n) ≡ 2 ^ n
 combinations-length zero = refl
 combinations-length (suc n) = rw (pow-suc 2 n) (length-append (map (λ bs. false ∷ bs) (combinations n)) (map (λ bs. true ∷ bs) (combinations n))
     ∙ omega (arith, length-map (combinations n) (λ bs. false ∷ bs), length-map (combinations n) (λ bs. true ∷ bs), combinations-length n))
-
-pub map-at : {A B : Type 0} (f : A → B) (xs : List A) (n : ℕ) (d : B) (e : A) → n < length xs → getD (map f xs) n d ≡ f (getD xs n e)
-map-at f [] n d e l = absurd (omega arith)
-map-at f (x ∷ xs) zero d e l = refl
-map-at f (x ∷ xs) (suc n) d e l = map-at f xs n d e (omega arith)
 
 -- the combination of a number, below and from the half on
 combination-low : (k n : ℕ) → n < 2 ^ k → getD (combinations (suc k)) n [] ≡ false ∷ getD (combinations k) n []

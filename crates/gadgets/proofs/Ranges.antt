@@ -22,7 +22,7 @@ pub filter-append : (p : ℕ → Bool) (xs ys : List ℕ) → filter p (xs ++ ys
 filter-append p [] ys = refl
 filter-append p (x ∷ xs) ys = cases (p x) (λ e. rw (e, filter-append p xs ys)) (λ e. rw (e, filter-append p xs ys))
 
-filter-all : (p : ℕ → Bool) (n c : ℕ) → ((j : ℕ) → n ≤ j → j < n + c → p j ≡ true) → filter p (range n c) ≡ range n c
+pub filter-all : (p : ℕ → Bool) (n c : ℕ) → ((j : ℕ) → n ≤ j → j < n + c → p j ≡ true) → filter p (range n c) ≡ range n c
 filter-all p n zero h = refl
 filter-all p n (suc c) h = rw (h n (omega arith) (omega arith), filter-all p (suc n) c (λ j l k. h j (omega arith) (omega arith)))
 

@@ -1,7 +1,7 @@
 -- How a call ends: refused by the checker, refused by 26, or with a yes; and what a yes is good for.
-use mathlib.Core.Path.{_≡_, refl, sym, ap, subst, _∙_}
+use mathlib.Core.Path.{_≡_, sym, ap, subst, _∙_}
 use mathlib.Core.List.{List}
-use Prim.Native.Nat.{ℕ, zero, suc, _≤_}
+use Prim.Native.Nat.{ℕ, _≤_}
 use native.Mathlib.Omega.{arith}
 use lib.ListN.{length}
 use Rattle.circuit.specs.Circuit.{Circuit, empty}
@@ -11,18 +11,13 @@ use Rattle.circuit.proofs.Building.{Lawful, build-shares}
 use Rattle.circuit.proofs.Exact.{Accepted}
 use Rattle.circuit.proofs.Judging.{then-pass}
 use Rattle.semantics.specs.Calls.{circuitOf}
-use Rattle.checker.proofs.Represented.{Labelled, build-labelled, label-noted}
+use Rattle.circuit.proofs.Noted.{Labelled, build-labelled, label-noted}
 use Rattle.gadgets.specs.Internal.Accepting.{circuitIn}
 use Rattle.gadgets.proofs.Walking.{same-circuit}
 use Rattle.plain.specs.Sharings.{wholeOf, sharingsRule}
 use Rattle.plain.specs.Plain.{IsPlainOf}
-use Rattle.plain.specs.Internal.Tests.{Labels, misfit}
+use Rattle.plain.specs.Internal.Tests.{Labels}
 use Rattle.plain.proofs.Computing.{is-plain}
-
--- the number of a frame that does not fit is the judgement
-pub named-misfit : (frame : ℕ) → (frame ≡ 0 → ⊥) → misfit frame ≡ refuse 26 frame 0
-named-misfit zero h = absurd (h refl)
-named-misfit (suc frame) h = refl
 
 module _ (table notes : List ℕ) where
   pub refuses : {rule frame word : ℕ} → checked table (length notes) .judgement ≡ refuse rule frame word → sharingsRule table notes ≡ refuse rule frame word

@@ -13,16 +13,16 @@ use Rattle.circuit.specs.Lists.{nth}
 use Rattle.circuit.specs.Circuit.{Circuit, empty, place}
 use Rattle.circuit.specs.Rules.{Judgement, pass, refuse, need, checked}
 use Rattle.circuit.specs.Composition.{Frame, Row, AllFit, build}
-use Rattle.circuit.proofs.Numbered.{range-at}
+use Rattle.circuit.proofs.Numbered.{range-at, map-at}
 use Rattle.circuit.proofs.Judging.{never, need-pass}
 use Rattle.circuit.proofs.Building.{build-append, build-shares, fit-split}
 use Rattle.circuit.proofs.Exact.{Accepted, sound}
 use Rattle.semantics.specs.Values.{at}
-use Rattle.plain.specs.Sharings.{constant, Plain, none, fits, joined, further, runsFrom, Whole, going, wholeFrom, wholeOf}
+use Rattle.plain.specs.Sharings.{constant, Plain, none, fits, joined, further, groupsFrom, Whole, going, wholeFrom, wholeOf}
 use Rattle.plain.specs.Plain.{outRows, addedShares, rowsOf, IsPlainOf}
-use Rattle.plain.specs.Internal.Kept.{InRow, Kept}
+use Rattle.plain.proofs.Kept.{InRow, Kept}
 use Rattle.plain.proofs.Framed.{frames-in}
-use Rattle.plain.proofs.Found.{map-at, every-at}
+use Rattle.plain.proofs.Found.{every-at}
 use Rattle.plain.proofs.Keeping.{kept-start, kept-next}
 use Rattle.plain.proofs.Valued.{Given, values}
 use Rattle.plain.proofs.Summing.{Sums, sums-next}
@@ -56,8 +56,8 @@ module _ (on : Given) where
 
   -- all runs, `passed` frames going with one before them
   right-all : (before : List Frame) (f passed : ℕ) (gs : List Frame) (p : Plain) → fs ≡ before ++ drop passed gs → Right before p
-      → let w = wholeFrom (build (empty d) before) p (runsFrom d f passed gs) in w .judgement ≡ pass → Right fs (w .plain)
-  unfolding runsFrom wholeFrom
+      → let w = wholeFrom (build (empty d) before) p (groupsFrom d f passed gs) in w .judgement ≡ pass → Right fs (w .plain)
+  unfolding groupsFrom wholeFrom
   right-all before f passed [] p split h e = let all : fs ≡ before = split ∙ rw drop-nil (append-nil before) in subst (λ (l : List Frame). Right l p) (sym all) h
   right-all before f (suc n) (x ∷ gs) p split h e = right-all before (suc f) n gs p split h e
   right-all before f zero (x ∷ gs) p split h e =
@@ -66,7 +66,7 @@ module _ (on : Given) where
       let run = x ∷ rest in
       let k = build (empty d) before in
       let more = joined k p x rest (x .kind) in
-      let rs = runsFrom d (suc f) n gs in
+      let rs = groupsFrom d (suc f) n gs in
       let (j, goes) = going-pass (need (fits k p x rest (x .kind)) 26 f 0) p (wholeFrom (build k run) more rs) e in
       let parts : fs ≡ before ++ (run ++ drop n gs) = split ∙ ap (λ (l : List Frame). before ++ (x ∷ l)) (sym (take-append-drop n gs)) in
       let same = build-append (empty d) before run in
@@ -75,7 +75,7 @@ module _ (on : Given) where
       (subst (λ (c : Circuit). wholeFrom c more rs .judgement ≡ pass) (sym same) (sym (ap (λ w. w .judgement) goes) ∙ e)) in
       subst (λ (w : Whole). Right fs (w .plain)) (sym goes) (subst (λ (c : Circuit). Right fs (wholeFrom c more rs .plain)) same all)
 
-  right : wholeFrom (empty d) none (runsFrom d 1 0 fs) .judgement ≡ pass → Right fs (wholeFrom (empty d) none (runsFrom d 1 0 fs) .plain)
+  right : wholeFrom (empty d) none (groupsFrom d 1 0 fs) .judgement ≡ pass → Right fs (wholeFrom (empty d) none (groupsFrom d 1 0 fs) .plain)
   right = right-all [] 1 0 fs none refl (record { kept = kept-start d; sums = record { sound = refl; bounded = tt; outs = refl } })
 
 -- the wires of each sharing, by their labels and stage
@@ -98,9 +98,9 @@ module _ (table : List ℕ) (room : ℕ) (accepted : checked table room .judgeme
   abbrev given : (shares tape : List Bool) → Given
   given shares tape = record { d = a .d; fs = a .fs; least = a .least; fit = a .fit; shares = shares; tape = tape }
 
-  walk : wholeOf table ≡ wholeFrom (empty (a .d)) none (runsFrom (a .d) 1 0 (a .fs))
+  walk : wholeOf table ≡ wholeFrom (empty (a .d)) none (groupsFrom (a .d) 1 0 (a .fs))
   unfolding wholeOf
-  walk = ap₂ (λ (n : ℕ) (l : List Frame). wholeFrom (empty n) none (runsFrom n 1 0 l)) (ap (λ t. nth t 1) (a .table-is)) (frames-in a)
+  walk = ap₂ (λ (n : ℕ) (l : List Frame). wholeFrom (empty n) none (groupsFrom n 1 0 l)) (ap (λ t. nth t 1) (a .table-is)) (frames-in a)
 
   all-right : (shares tape : List Bool) → Right (given shares tape) (a .fs) (wholeOf table .plain)
   all-right shares tape = rw walk (right (given shares tape) (rw walk at fitting))
@@ -109,7 +109,7 @@ module _ (table : List ℕ) (room : ℕ) (accepted : checked table room .judgeme
   is-plain = rw (a .circuit-is) (record {
     each-once = all-right [] [] .kept .each-once;
     in-rows = rows-placed _ (wholeOf table .plain) (all-right [] [] .kept);
-    sharings = λ shares tape. all-right shares tape .sums .sound;
-    outputs = λ shares tape. let s = all-right shares tape .sums in
+    sharings-add = λ shares tape. all-right shares tape .sums .sound;
+    outputs-add = λ shares tape. let s = all-right shares tape .sums in
         ap (λ fs. addedShares (outRows fs) (values (given shares tape))) (frames-in a) ∙ s .outs ∙ ap (λ bs. map (at bs) (wholeOf table .plain .outputs)) (s .sound);
   })

@@ -1,4 +1,4 @@
--- The code's tests of a frame are the definition's, for every frame that fits.
+-- Kind by kind, the code's test of a frame that fits is the definition's.
 use mathlib.Core.Path.{_≡_, refl, sym, ap, ap₂, _∙_}
 use mathlib.Core.Bool.{_&&_}
 use mathlib.Core.List.{List, _∷_}
@@ -14,7 +14,7 @@ use Rattle.circuit.proofs.Sizes.{words-AND, words-REF, words-OUT}
 use Rattle.frames.specs.Walk.{kindCode, frameCode}
 use Rattle.plain.specs.Sharings.{Plain, fits, further}
 use Rattle.plain.specs.Internal.Tests.{rising, gateFits, frameFits, Labels}
-use Rattle.plain.specs.Internal.Kept.{Kept}
+use Rattle.plain.proofs.Kept.{Kept}
 use Rattle.plain.proofs.Runs.{one-CON, one-XOR, one-NOT, one-REG}
 use Rattle.plain.proofs.FrameTests.{row-exact, over-exact, sum-exact, constant-exact}
 

@@ -1,6 +1,6 @@
 -- The code's tests of words are the definition's tests of frames, where all frames before are in sharings.
-use mathlib.Core.Path.{_≡_, refl, sym, ap, _∙_}
-use mathlib.Core.Bool.{Bool, true, false}
+use mathlib.Core.Path.{_≡_, sym, ap, _∙_}
+use mathlib.Core.Bool.{Bool, true}
 use mathlib.Core.List.{List, [], map}
 use Prim.Native.Nat.{ℕ, _+_, _*_, _≤_, _<_}
 use native.Mathlib.Omega.{arith}
@@ -15,24 +15,18 @@ use Rattle.circuit.specs.Kinds.{Kind, words}
 use Rattle.circuit.specs.Circuit.{Circuit, size, place}
 use Rattle.circuit.specs.Composition.{Frame, frame, kindWord, wordsOf}
 use Rattle.circuit.proofs.Base.{and-right, and-both, Every}
-use Rattle.circuit.proofs.Numbered.{range-at}
+use Rattle.circuit.proofs.Numbered.{range-at, map-at}
 use Rattle.circuit.proofs.Sizes.{range-length}
 use Rattle.semantics.specs.Counts.{alike}
 use Rattle.plain.specs.Sharings.{Plain, isSharing}
 use Rattle.plain.specs.Internal.Tests.{rising, alikeFrom}
-use Rattle.plain.specs.Internal.Kept.{InRow, Kept}
-use Rattle.plain.proofs.Found.{in-a-row, map-at, range-map-at, every-found}
+use Rattle.plain.proofs.Kept.{InRow, Kept}
+use Rattle.plain.proofs.Found.{in-a-row, range-map-at, every-found}
 use Rattle.plain.proofs.Rising.{rises-each, each-rises, run-room}
 use Rattle.plain.proofs.Words.{Sized, words-run, run-words, word-at}
 
--- two tests that pass together are the same
-pub same-truth : (a b : Bool) → (a ≡ true → b ≡ true) → (b ≡ true → a ≡ true) → a ≡ b
-same-truth true b f g = sym (f refl)
-same-truth false true f g = g refl
-same-truth false false f g = refl
-
 -- a list by the numbers of its elements
-pub by-number : {A : Type 0} (g : A → ℕ) (xs : List A) (z : A) (w : ℕ → ℕ) (n : ℕ) → length xs ≡ n → ((i : ℕ) → i < n → g (getD xs i z) ≡ w i) → map g xs ≡ map w (labels n)
+by-number : {A : Type 0} (g : A → ℕ) (xs : List A) (z : A) (w : ℕ → ℕ) (n : ℕ) → length xs ≡ n → ((i : ℕ) → i < n → g (getD xs i z) ≡ w i) → map g xs ≡ map w (labels n)
 by-number g xs z w n e h = ext-getD 0 (map g xs) (map w (labels n)) (length-map xs g ∙ e ∙ sym (length-map (labels n) w ∙ range-length 0 n))
     (λ i l. let m : i < n = omega (arith, length-map xs g) in
     map-at g xs i 0 z (omega (arith, length-map xs g)) ∙ h i m ∙ sym (range-map-at w 0 n i 0 m ∙ (let z : 0 + i ≡ i = omega arith in ap w z)))
@@ -56,7 +50,8 @@ module _ (k : Circuit) (p : Plain) (kept : Kept k p) (w : ℕ → ℕ) where
   pub from-sharing : 0 < k .d → isSharing wires (p .sharings) ≡ true → SharingOf
   from-sharing some h =
       let o : InRow k wires = every-found (InRow k) wires (p .sharings) h (kept .rows) in
-      let at : (i : ℕ) → i < k .d → w i ≡ o .first + i = λ i l. (let z : i ≡ 0 + i = omega arith in ap w z) ∙ sym (range-map-at w 0 (k .d) i 0 l) ∙ ap (λ l. nth l i) (o .are) ∙ range-at (o .first) (k .d) i l in
+      let at : (i : ℕ) → i < k .d → w i ≡ o .first + i = λ i l. (let z : i ≡ 0 + i = omega arith in ap w z)
+      ∙ sym (range-map-at w 0 (k .d) i 0 l) ∙ ap (λ l. nth l i) (o .are) ∙ range-at (o .first) (k .d) i l in
       record {
         stage = o .stage;
         steps = λ i l. at i l ∙ omega (arith, at 0 some);
@@ -98,4 +93,5 @@ module _ (table : List ℕ) (at : ℕ) (fs : List Frame) (here : drop at table �
     -- and a word of each stands in its column
     pub column-is : Standing → (z : Frame) (c : ℕ) → c < words d kind → map (λ g. nth (g .ops) c) (take d fs) ≡ map (λ i. nth table (at + (1 + c) + i * step)) (labels d)
     column-is s z c l = by-number (λ g. nth (g .ops) c) (take d fs) z _ d (s .count)
-        (λ i m. sym (word-at d kind d fs z sized (s .kinds) (s .count) i m .1 c l) ∙ sym (word-is (1 + c + i * step)) ∙ (let e : at + (1 + c + i * step) ≡ at + (1 + c) + i * step = omega arith in ap (nth table) e))
+        (λ i m. sym (word-at d kind d fs z sized (s .kinds) (s .count) i m .1 c l)
+        ∙ sym (word-is (1 + c + i * step)) ∙ (let e : at + (1 + c + i * step) ≡ at + (1 + c) + i * step = omega arith in ap (nth table) e))

@@ -9,25 +9,25 @@ use lib.ListN.{length, getD}
 use borrow.Author.Tests.{eqb-true, eq-eqb}
 use Rattle.circuit.specs.Lists.{range, filter}
 use Rattle.circuit.proofs.Base.{cases, or-left, or-right, or-cases, and-left, and-right, and-both, Every}
-use Rattle.circuit.proofs.Numbered.{range-at}
+use Rattle.circuit.proofs.Numbered.{range-at, map-at}
 use Rattle.circuit.proofs.Sizes.{range-length}
 use Rattle.semantics.specs.Counts.{alike}
-use Rattle.semantics.proofs.Alike.{same-list, list-same}
+use Rattle.semantics.proofs.Alike.{same-list, alike-itself}
 use Rattle.plain.specs.Sharings.{Sharing, isSharing, numberOf}
 
 -- numbers that are alike one number, as many times: there are as many, and each is that number
-pub same-number : {A : Type 0} (g : A → ℕ) (c : ℕ) (xs : List A) (is : List ℕ) → alike eqb (map g xs) (map (λ i. c) is) ≡ true → Every (λ x. g x ≡ c) xs × (length xs ≡ length is)
-same-number g c [] [] h = (tt, refl)
-same-number g c [] (i ∷ is) h = absurd (false≢true h)
-same-number g c (x ∷ xs) [] h = absurd (false≢true h)
-same-number g c (x ∷ xs) (i ∷ is) h =
-    let (each, count) = same-number g c xs is (and-right (eqb (g x) c) _ h) in ((eqb-true (g x) c (and-left (eqb (g x) c) _ h), each), ap suc count)
+pub one-number : {A : Type 0} (g : A → ℕ) (c : ℕ) (xs : List A) (is : List ℕ) → alike eqb (map g xs) (map (λ i. c) is) ≡ true → Every (λ x. g x ≡ c) xs × (length xs ≡ length is)
+one-number g c [] [] h = (tt, refl)
+one-number g c [] (i ∷ is) h = absurd (false≢true h)
+one-number g c (x ∷ xs) [] h = absurd (false≢true h)
+one-number g c (x ∷ xs) (i ∷ is) h =
+    let (each, count) = one-number g c xs is (and-right (eqb (g x) c) _ h) in ((eqb-true (g x) c (and-left (eqb (g x) c) _ h), each), ap suc count)
 
-pub number-same : {A : Type 0} (g : A → ℕ) (c : ℕ) (xs : List A) (is : List ℕ) → Every (λ x. g x ≡ c) xs → length xs ≡ length is → alike eqb (map g xs) (map (λ i. c) is) ≡ true
-number-same g c [] [] h e = refl
-number-same g c [] (i ∷ is) h e = absurd (omega arith)
-number-same g c (x ∷ xs) [] h e = absurd (omega arith)
-number-same g c (x ∷ xs) (i ∷ is) h e = and-both (eqb (g x) c) _ (eq-eqb (g x) c (h .0)) (number-same g c xs is (h .1) (omega arith))
+pub all-one-number : {A : Type 0} (g : A → ℕ) (c : ℕ) (xs : List A) (is : List ℕ) → Every (λ x. g x ≡ c) xs → length xs ≡ length is → alike eqb (map g xs) (map (λ i. c) is) ≡ true
+all-one-number g c [] [] h e = refl
+all-one-number g c [] (i ∷ is) h e = absurd (omega arith)
+all-one-number g c (x ∷ xs) [] h e = absurd (omega arith)
+all-one-number g c (x ∷ xs) (i ∷ is) h e = and-both (eqb (g x) c) _ (eq-eqb (g x) c (h .0)) (all-one-number g c xs is (h .1) (omega arith))
 
 -- numbers in a row, from a number on
 pub in-a-row : (g : ℕ → ℕ) (n m c : ℕ) → ((i : ℕ) → i < c → g (n + i) ≡ m + i) → map g (range n c) ≡ range m c
@@ -37,12 +37,7 @@ in-a-row g n m (suc c) h =
     ap₂ (λ x xs. x ∷ xs) (ap g z ∙ h 0 (omega arith) ∙ omega arith)
     (in-a-row g (suc n) (suc m) c (λ i l. (let e : suc n + i ≡ n + suc i = omega arith in ap g e) ∙ h (suc i) (omega arith) ∙ omega arith))
 
--- the element at a number
-pub map-at : {A B : Type 0} (g : A → B) (xs : List A) (i : ℕ) (z : B) (y : A) → i < length xs → getD (map g xs) i z ≡ g (getD xs i y)
-map-at g [] i z y l = absurd (omega arith)
-map-at g (x ∷ xs) zero z y l = refl
-map-at g (x ∷ xs) (suc i) z y l = map-at g xs i z y (omega arith)
-
+-- the element at a number of a range
 pub range-map-at : {B : Type 0} (g : ℕ → B) (n c i : ℕ) (z : B) → i < c → getD (map g (range n c)) i z ≡ g (n + i)
 range-map-at g n c i z l = map-at g (range n c) i z 0 (omega (arith, range-length n c)) ∙ ap g (range-at n c i l)
 
@@ -56,17 +51,13 @@ pub filter-same : (p q : ℕ → Bool) (n c : ℕ) → ((j : ℕ) → n ≤ j �
 filter-same p q n zero h = refl
 filter-same p q n (suc c) h = rw (h n (omega arith) (omega arith)) (ap (λ l. cond (q n) (n ∷ l) l) (filter-same p q (suc n) c (λ j l k. h j (omega arith) (omega arith))))
 
-pub filter-true : (xs : List ℕ) → filter (λ x. true) xs ≡ xs
-filter-true [] = refl
-filter-true (x ∷ xs) = ap (λ l. x ∷ l) (filter-true xs)
-
 -- a sharing is one of more sharings, and of those that it ends
 pub is-more : (ws : List ℕ) (ss more : List Sharing) → isSharing ws ss ≡ true → isSharing ws (ss ++ more) ≡ true
 is-more ws [] more h = absurd (false≢true h)
 is-more ws (s ∷ ss) more h = or-cases (alike eqb ws (s .wires)) (isSharing ws ss) h (λ e. or-left _ _ e) (λ e. or-right (alike eqb ws (s .wires)) _ (is-more ws ss more e))
 
 pub is-last : (ss : List Sharing) (s : Sharing) → isSharing (s .wires) (ss ++ (s ∷ [])) ≡ true
-is-last [] s = or-left _ false (list-same (s .wires))
+is-last [] s = or-left _ false (alike-itself (s .wires))
 is-last (t ∷ ss) s = or-right (alike eqb (s .wires) (t .wires)) _ (is-last ss s)
 
 -- what holds of the wires of every sharing, or of those at the number of one, holds of wires that are a sharing

@@ -1,4 +1,4 @@
--- The code's tests of a frame are the definition's, kind by kind.
+-- The code's tests of a row, of a run over rows and of a run of constants are the definition's.
 use mathlib.Core.Path.{_≡_, sym, ap, subst, _∙_}
 use mathlib.Core.Bool.{Bool, true, _&&_}
 use mathlib.Core.List.{List, _∷_, map}
@@ -15,20 +15,20 @@ use Rattle.circuit.specs.Kinds.{Kind, words}
 use Rattle.circuit.specs.Circuit.{Circuit, size, place, lookUp, labelShown}
 use Rattle.circuit.specs.Composition.{Frame, frame, Row, AllFit, build, kindWord, wordsOf}
 use Rattle.circuit.proofs.Base.{and-left, and-right, and-both, Every}
-use Rattle.circuit.proofs.Building.{named-made, label-told, fit-split, Lawful, InTime}
-use Rattle.circuit.proofs.Numbered.{all-get}
+use Rattle.circuit.proofs.Building.{named-made, label-told, fit-split, Lawful, InTime, wire-kept}
+use Rattle.circuit.proofs.Numbered.{all-get, map-at}
 use Rattle.semantics.specs.Counts.{alike}
-use Rattle.checker.specs.Internal.Notes.{labelNoted}
+use Rattle.semantics.proofs.Reading.{same-test}
+use Rattle.circuit.specs.Answer.{labelNoted}
 use Rattle.plain.specs.Sharings.{Plain, isSharing, isRun}
 use Rattle.plain.specs.Internal.Tests.{rising, alikeFrom, overRow}
-use Rattle.plain.specs.Internal.Kept.{Kept}
-use Rattle.semantics.proofs.Alike.{same-list, list-same}
-use Rattle.plain.proofs.Found.{map-at, range-map-at}
-use Rattle.plain.proofs.Rising.{rises-each, each-rises, each-same, same-each}
-use Rattle.plain.proofs.Growing.{wire-kept}
-use Rattle.plain.proofs.Runs.{Single, labelBy, MadeBy, Run, run-shown, shown-run, run-wires}
+use Rattle.plain.proofs.Kept.{Kept}
+use Rattle.semantics.proofs.Alike.{same-list, alike-itself}
+use Rattle.plain.proofs.Found.{range-map-at}
+use Rattle.plain.proofs.Rising.{rises-each, each-rises, maps-same, same-maps}
+use Rattle.plain.proofs.Runs.{Single, labelBy, MadeBy, Run, run-shown, run-holds, run-wires}
 use Rattle.plain.proofs.Words.{Sized, fit-sized}
-use Rattle.plain.proofs.Exactness.{same-truth, to-sharing, SharingOf, from-sharing, word-is, Standing, to-standing, from-standing, column-is}
+use Rattle.plain.proofs.Exactness.{to-sharing, SharingOf, from-sharing, word-is, Standing, to-standing, from-standing, column-is}
 
 -- a frame of the kind with these words, behind the circuit k, at a place of the table, with others behind it
 module _ (k : Circuit) (p : Plain) (kept : Kept k p) (ge : fewestShares ≤ k .d) (time : Lawful InTime k) (table notes : List ℕ) (at : ℕ)
@@ -49,16 +49,18 @@ module _ (k : Circuit) (p : Plain) (kept : Kept k p) (ge : fewestShares ≤ k .d
   kind-at = (let e : at ≡ at + 0 = omega arith in ap (nth table) e) ∙ word-is table at (f ∷ later) here 0
 
   op-at : (c : ℕ) → c < words d kind → nth table (at + (1 + c)) ≡ nth ops c
-  op-at c l = word-is table at (f ∷ later) here (1 + c) ∙ (let e : 1 + c ≡ suc c = omega arith in ap (nth (wordsOf (f ∷ later))) e) ∙ List·getD-append ops (wordsOf later) 0 c (omega (arith, sized .0))
+  op-at c l = word-is table at (f ∷ later) here (1 + c)
+      ∙ (let e : 1 + c ≡ suc c = omega arith in ap (nth (wordsOf (f ∷ later))) e) ∙ List·getD-append ops (wordsOf later) 0 c (omega (arith, sized .0))
 
   -- a row of d words
   pub row-exact : (from t : ℕ) → from + d ≤ words d kind → Row k ops from t → rising table (at + (1 + from)) 1 d 1 ≡ isSharing (map (λ i. nth ops (from + i)) (labels d)) (p .sharings)
   row-exact from t room row =
       let w : ℕ → ℕ = λ i. nth ops (from + i) in
       let first : place k (w 0) ≡ named 0 t = row 0 (omega arith) in
-      let word : (i : ℕ) → i < d → nth table (at + (1 + from) + i * 1) ≡ w i = λ i l. (let e : at + (1 + from) + i * 1 ≡ at + (1 + (from + i)) = omega arith in ap (nth table) e) ∙ op-at (from + i) (omega arith) in
+      let word : (i : ℕ) → i < d → nth table (at + (1 + from) + i * 1) ≡ w i = λ i l.
+      (let e : at + (1 + from) + i * 1 ≡ at + (1 + (from + i)) = omega arith in ap (nth table) e) ∙ op-at (from + i) (omega arith) in
       let start : nth table (at + (1 + from)) ≡ w 0 = op-at from (omega arith) ∙ (let e : from ≡ from + 0 = omega arith in ap (nth ops) e) in
-      same-truth _ _
+      same-test _ _
       (λ h. to-sharing k p kept w first (λ i l. sym (word i l) ∙ rises-each table (at + (1 + from)) 1 d 1 h i l ∙ omega (arith, start)))
       (λ h. each-rises table (at + (1 + from)) 1 d 1 (λ i l. word i l ∙ from-sharing k p kept w (omega arith) h .steps i l ∙ omega (arith, start)))
 
@@ -132,7 +134,8 @@ module _ (k : Circuit) (p : Plain) (kept : Kept k p) (ge : fewestShares ≤ k .d
     from-column h c m one = from-sharing k p kept (w c) (omega arith) (rw (column h c m) at one)
 
     -- over one row: NOT, REG, and XOR by its first words
-    module _ (some : 0 < words d kind) (names : (o : List ℕ) → labelBy s after o ≡ labelShown (lookUp after (nth o 0))) (l t : ℕ) (first : place k (nth ops 0) ≡ named l t) (marked : labelNoted notes (nth ops 0) ≡ l) where
+    module _ (some : 0 < words d kind) (names : (o : List ℕ) → labelBy s after o ≡ labelShown (lookUp after (nth o 0))) (l t : ℕ)
+        (first : place k (nth ops 0) ≡ named l t) (marked : labelNoted notes (nth ops 0) ≡ l) where
       over-to : overRow table notes at step d (nth ops 0) ≡ true → (isRun k p f rest && isColumn 0) ≡ true
       unfolding overRow
       over-to h =
@@ -141,9 +144,10 @@ module _ (k : Circuit) (p : Plain) (kept : Kept k p) (ge : fewestShares ≤ k .d
           let zeroth : l ≡ 0 = sym marked ∙ eqb-true _ 0 (and-right (alikeFrom table at step d) _ both) in
           let one = to-column stands 0 t some (first ∙ ap (λ j. named j t) zeroth) (and-right (alikeFrom table at step d && eqb (labelNoted notes (nth ops 0)) 0) (rising table (at + 1) step d 1) h) in
           let of = from-column stands 0 some one in
-          and-both (isRun k p f rest) (isColumn 0) (shown-run k p f rest (to-run stands (λ i j.
+          and-both (isRun k p f rest) (isColumn 0) (run-holds k p f rest (to-run stands (λ i j.
           let there = of .placed i j in
-          names (opsAt i) ∙ ap (λ x. labelShown (lookUp after x)) (word-of stands 0 some i j) ∙ label-told after (w 0 i) (ap (λ x. x .place) (wire-kept k run (w 0 i) (named-made k _ i _ there)) ∙ there)))) one
+          names (opsAt i) ∙ ap (λ x. labelShown (lookUp after x)) (word-of stands 0 some i j)
+          ∙ label-told after (w 0 i) (ap (λ x. x .place) (wire-kept k run (w 0 i) (named-made k _ i _ there)) ∙ there)))) one
 
       -- where the first words are a sharing, their label is 0
       first-share : (isRun k p f rest && isColumn 0) ≡ true → Stands × (l ≡ 0)
@@ -162,7 +166,7 @@ module _ (k : Circuit) (p : Plain) (kept : Kept k p) (ge : fewestShares ≤ k .d
           (from-steps 0 some (from-column stands 0 some (and-right (isRun k p f rest) (isColumn 0) h) .steps))
 
       pub over-exact : overRow table notes at step d (nth ops 0) ≡ (isRun k p f rest && isColumn 0)
-      over-exact = same-truth _ _ over-to over-from
+      over-exact = same-test _ _ over-to over-from
 
       -- over two rows: the second words too
       pub sum-exact : 1 < words d kind → place k (nth ops 1) ≡ named l t
@@ -170,7 +174,7 @@ module _ (k : Circuit) (p : Plain) (kept : Kept k p) (ge : fewestShares ≤ k .d
       sum-exact more second =
           let over = overRow table notes at step d (nth ops 0) in
           let whole = isRun k p f rest && isColumn 0 in
-          same-truth _ _
+          same-test _ _
           (λ h. let o = over-to (and-left over _ h) in let (stands, zeroth) = first-share o in
           and-both whole (isColumn 1) o (to-column stands 1 t more (second ∙ ap (λ j. named j t) zeroth) (and-right over _ h)))
           (λ h. let o = and-left whole (isColumn 1) h in
@@ -190,7 +194,7 @@ module _ (k : Circuit) (p : Plain) (kept : Kept k p) (ge : fewestShares ≤ k .d
           let stands : Stands = to-standing table at (f ∷ later) here d kind sized inside kind-at (and-right (eqb (nth ops 0) 0) _ both) in
           let zeroth : nth ops 0 ≡ 0 = eqb-true (nth ops 0) 0 (and-left (eqb (nth ops 0) 0) (alikeFrom table at step d) both) in (
             stands,
-            shown-run k p f rest (to-run stands (λ i l. tells (opsAt i) ∙ word-of stands 0 (omega arith) i l
+            run-holds k p f rest (to-run stands (λ i l. tells (opsAt i) ∙ word-of stands 0 (omega arith) i l
                 ∙ to-steps 0 (omega arith) (and-right (eqb (nth ops 0) 0 && alikeFrom table at step d) _ h) i l ∙ omega (arith, start 0 (omega arith)))),
           )
 
@@ -198,7 +202,8 @@ module _ (k : Circuit) (p : Plain) (kept : Kept k p) (ge : fewestShares ≤ k .d
       labels-from h =
           let r = run-shown k p f rest h in
           let stands = to-stands r in
-          let is : (i : ℕ) → i < d → w 0 i ≡ i = λ i l. sym (tells (opsAt i) ∙ word-of stands 0 (omega arith) i l) ∙ sym (label-of (r .kinds) i (omega (arith, r .count))) ∙ r .labelled i l in (
+          let is : (i : ℕ) → i < d → w 0 i ≡ i = λ i l.
+          sym (tells (opsAt i) ∙ word-of stands 0 (omega arith) i l) ∙ sym (label-of (r .kinds) i (omega (arith, r .count))) ∙ r .labelled i l in (
             stands,
             and-both (eqb (nth ops 0) 0 && alikeFrom table at step d) _
                 (and-both (eqb (nth ops 0) 0) _ (eq-eqb _ 0 (sym (start 0 (omega arith)) ∙ is 0 (omega arith))) (from-standing table at (f ∷ later) here d kind sized inside kind-at stands))
@@ -206,11 +211,12 @@ module _ (k : Circuit) (p : Plain) (kept : Kept k p) (ge : fewestShares ≤ k .d
           )
 
       stage-exact : Stands → rising table (at + 3) step d 0 ≡ oneStage
-      stage-exact stands = same-truth _ _
-          (λ h. rw (column stands 2 many, each-same (w 2) (λ i. nth ops 2) d (λ i l. rises-each table (at + 3) step d 0 h i l ∙ omega (arith, op-at 2 many))) (list-same (map (λ i. nth ops 2) (labels d))))
-          (λ h. each-rises table (at + 3) step d 0 (λ i l. same-each (w 2) (λ i. nth ops 2) d (sym (column stands 2 many) ∙ same-list _ _ h) i l ∙ omega (arith, op-at 2 many)))
+      stage-exact stands = same-test _ _
+          (λ h. rw (column stands 2 many, maps-same (w 2) (λ i. nth ops 2) d (λ i l. rises-each table (at + 3) step d 0 h i l ∙ omega (arith, op-at 2 many)))
+          (alike-itself (map (λ i. nth ops 2) (labels d))))
+          (λ h. each-rises table (at + 3) step d 0 (λ i l. same-maps (w 2) (λ i. nth ops 2) d (sym (column stands 2 many) ∙ same-list _ _ h) i l ∙ omega (arith, op-at 2 many)))
 
       pub constant-exact : (labelled && rising table (at + 3) step d 0) ≡ (isRun k p f rest && oneStage)
-      constant-exact = same-truth _ _
+      constant-exact = same-test _ _
           (λ h. let (stands, r) = labels-to (and-left labelled _ h) in and-both (isRun k p f rest) oneStage r (sym (stage-exact stands) ∙ and-right labelled _ h))
           (λ h. let (stands, r) = labels-from (and-left (isRun k p f rest) oneStage h) in and-both labelled _ r (stage-exact stands ∙ and-right (isRun k p f rest) oneStage h))

@@ -12,7 +12,7 @@ use Rattle.circuit.specs.Composition.{Frame, AllFit, done, next, wordsOf}
 use Rattle.circuit.proofs.Building.{Lawful, InTime, intime-step}
 use Rattle.circuit.proofs.Fitting.{kind-known, fit-meets}
 use Rattle.circuit.proofs.Exact.{Accepted}
-use Rattle.plain.specs.Sharings.{framesFrom, framesIn, runsFrom}
+use Rattle.plain.specs.Sharings.{framesFrom, framesIn, groupsFrom}
 
 -- words passed over, and frames passed over
 words-skip : (d n : ℕ) (xs : List ℕ) → framesFrom d n xs ≡ framesFrom d 0 (drop n xs)
@@ -21,11 +21,11 @@ words-skip d n [] = rw drop-nil
 words-skip d zero (x ∷ xs) = refl
 words-skip d (suc n) (x ∷ xs) = words-skip d n xs
 
-pub runs-skip : (d f n : ℕ) (fs : List Frame) → runsFrom d f n fs ≡ runsFrom d (f + n) 0 (drop n fs)
-unfolding runsFrom
-runs-skip d f n [] = rw drop-nil
-runs-skip d f zero (x ∷ fs) = let e : f ≡ f + 0 = omega arith in ap (λ (m : ℕ). runsFrom d m 0 (x ∷ fs)) e
-runs-skip d f (suc n) (x ∷ fs) = let e : suc f + n ≡ f + suc n = omega arith in runs-skip d (suc f) n fs ∙ ap (λ (m : ℕ). runsFrom d m 0 (drop n fs)) e
+pub groups-skip : (d f n : ℕ) (fs : List Frame) → groupsFrom d f n fs ≡ groupsFrom d (f + n) 0 (drop n fs)
+unfolding groupsFrom
+groups-skip d f n [] = rw drop-nil
+groups-skip d f zero (x ∷ fs) = let e : f ≡ f + 0 = omega arith in ap (λ (m : ℕ). groupsFrom d m 0 (x ∷ fs)) e
+groups-skip d f (suc n) (x ∷ fs) = let e : suc f + n ≡ f + suc n = omega arith in groups-skip d (suc f) n fs ∙ ap (λ (m : ℕ). groupsFrom d m 0 (drop n fs)) e
 
 -- frames that fit are read back from their words
 frames-of : (k : Circuit) (fs : List Frame) → fewestShares ≤ k .d → Lawful InTime k → AllFit k fs → framesFrom (k .d) 0 (wordsOf fs) ≡ fs

@@ -10,28 +10,21 @@ use lib.ListN.{length, getD, length-append, length-map, List·getD-append}
 use lib.Seq.{getD-append-add}
 use borrow.Author.Tests.{ltb-true, ltb-false}
 use Rattle.circuit.specs.Lists.{range, filter, concatMap}
-use Rattle.circuit.specs.Wires.{isStop, named, Wire}
+use Rattle.circuit.specs.Wires.{named, Wire}
 use Rattle.circuit.specs.Gadgets.{labels}
 use Rattle.circuit.specs.Kinds.{Kind}
-use Rattle.circuit.specs.Circuit.{Circuit, size, wireAt, place, showing, shownBy, lookUp, isNamed, made}
+use Rattle.circuit.specs.Circuit.{Circuit, size, place, shownBy, lookUp, isNamed, made}
 use Rattle.circuit.specs.Composition.{Frame, frame, build}
 use Rattle.circuit.proofs.Base.{cases, clash, every-append, every-imp, concatMap-append, all-map, all-any}
 use Rattle.circuit.proofs.Numbered.{all-default}
 use Rattle.circuit.proofs.Sizes.{labels-map}
-use Rattle.circuit.proofs.Building.{named-made, build-more, build-shares}
+use Rattle.circuit.proofs.Building.{named-made, named-told, build-shares, wire-kept}
 use Rattle.semantics.proofs.Solving.{nothing}
-use Rattle.gadgets.proofs.Ranges.{range-split, filter-append, filter-none}
+use Rattle.gadgets.proofs.Ranges.{range-split, filter-append, filter-all, filter-none}
 use Rattle.plain.specs.Sharings.{PlainGate, Sharing, Plain, isSharing}
 use Rattle.plain.specs.Plain.{rowsOf}
-use Rattle.plain.specs.Internal.Kept.{InRow, Kept}
-use Rattle.plain.proofs.Found.{range-map-at, filter-same, filter-true, is-more, is-last}
-
--- a wire stays as it is when frames are added
-pub wire-kept : (k : Circuit) (fs : List Frame) (x : ℕ) → x < size k → wireAt (build k fs) x ≡ wireAt k x
-wire-kept k fs x l = let (new, e) = build-more k fs in ap (λ ws. getD ws x nothing) e ∙ List·getD-append (k .wires) new nothing x l
-
-pub named-told : (k : Circuit) (x : ℕ) {l t : ℕ} → place k x ≡ named l t → isNamed (lookUp k x) ≡ true
-named-told k x h = ap (λ p. isNamed (showing p (isStop (wireAt k x .gate)))) h
+use Rattle.plain.proofs.Kept.{InRow, Kept}
+use Rattle.plain.proofs.Found.{range-map-at, filter-same, is-more, is-last}
 
 -- what frames add: wires that are not named, and behind them d wires with the labels 0 to d−1 and one stage
 pub record Grown (k : Circuit) (run : List Frame) : Type 0 where
@@ -109,7 +102,7 @@ module _ (k : Circuit) (run : List Frame) where
         ∙ ap₂ (λ xs ys. xs ++ ys)
         (h .each-once ∙ filter-same _ isNow 0 (size k) (λ x l m. ap (λ w. isNamed (shownBy w)) (sym (wire-kept k run x (omega arith))))
         ∙ sym (append-nil _) ∙ ap (λ l. filter isNow (range 0 (size k)) ++ l) (sym (filter-none isNow (size k) (g .inside) hidden-at)))
-        (append-nil (new .wires) ∙ ap (λ n. range n (k .d)) start ∙ sym (filter-same isNow (λ x. true) (size k + g .inside) (k .d) named-at ∙ filter-true _))
+        (append-nil (new .wires) ∙ ap (λ n. range n (k .d)) start ∙ sym (filter-all isNow (size k + g .inside) (k .d) named-at))
         ∙ sym parts
 
     pub kept-more : Kept after more

@@ -17,8 +17,8 @@ use Rattle.circuit.proofs.Building.{named-made}
 use Rattle.semantics.specs.Counts.{alike}
 use Rattle.semantics.proofs.Solving.{nothing}
 use Rattle.plain.specs.Sharings.{Plain, none, isSharing, isRun, fits, joined, further}
-use Rattle.plain.specs.Internal.Kept.{InRow, Kept}
-use Rattle.plain.proofs.Found.{same-number, every-at, every-found}
+use Rattle.plain.proofs.Kept.{InRow, Kept}
+use Rattle.plain.proofs.Found.{one-number, every-at, every-found}
 use Rattle.plain.proofs.Growing.{Grown, kept-more, kept-same, grown-by}
 use Rattle.plain.proofs.Runs.{Single, one-CON, one-XOR, one-NOT, one-REG, run-shown, run-grown, column-stage}
 
@@ -61,7 +61,7 @@ module _ (k : Circuit) (p : Plain) (ops : List ℕ) (rest : List Frame) (h : Kep
   grown-constants fit e =
       let first = frame CON ops in
       let r = run-shown k p first rest (and-left _ _ e) in
-      let each = same-number (λ f. nth (f .ops) 2) (nth ops 2) (runOf CON) (labels (k .d)) (and-right (isRun k p first rest) _ e) .0 in
+      let each = one-number (λ f. nth (f .ops) 2) (nth ops 2) (runOf CON) (labels (k .d)) (and-right (isRun k p first rest) _ e) .0 in
       run-grown k first rest one-CON r fit (nth ops 2) (λ i l. every-at (λ f. nth (f .ops) 2 ≡ nth ops 2) (runOf CON) each i first (omega (arith, r .count)))
 
   grown-input : Grown k (frame IN ops ∷ [])

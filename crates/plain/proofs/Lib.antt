@@ -4,6 +4,7 @@ pub mod Examples
 pub mod Framed
 pub mod Found
 -- What the sharings so far have to do with the circuit so far
+pub mod Kept
 pub mod Growing
 pub mod Runs
 pub mod Keeping

@@ -11,8 +11,8 @@ use borrow.Author.Tests.{leb-true}
 use Rattle.circuit.specs.Lists.{nth, range}
 use Rattle.circuit.specs.Gadgets.{labels}
 use Rattle.circuit.proofs.Base.{cases, and-left}
-use Rattle.semantics.proofs.Alike.{same-list, list-same}
-use Rattle.checker.specs.Internal.Notes.{labelNoted}
+use Rattle.semantics.proofs.Alike.{same-list, alike-itself}
+use Rattle.circuit.specs.Answer.{labelNoted}
 use Rattle.plain.specs.Internal.Tests.{rising, Has, alikeFrom, overRow}
 
 -- two lists that are given by number
@@ -28,11 +28,11 @@ module _ (f g : ℕ → ℕ) where
   from-each m (suc c) h (suc i) l = subst (λ (n : ℕ). f n ≡ g n) (omega arith) (from-each (suc m) c (ap (drop 1) h) i (omega arith))
 
   -- for each label
-  pub each-same : (n : ℕ) → ((i : ℕ) → i < n → f i ≡ g i) → map f (labels n) ≡ map g (labels n)
-  each-same n h = each-from 0 n (λ i l. subst (λ (j : ℕ). f j ≡ g j) (omega arith) (h i l))
+  pub maps-same : (n : ℕ) → ((i : ℕ) → i < n → f i ≡ g i) → map f (labels n) ≡ map g (labels n)
+  maps-same n h = each-from 0 n (λ i l. subst (λ (j : ℕ). f j ≡ g j) (omega arith) (h i l))
 
-  pub same-each : (n : ℕ) → map f (labels n) ≡ map g (labels n) → (i : ℕ) → i < n → f i ≡ g i
-  same-each n h i l = subst (λ (j : ℕ). f j ≡ g j) (omega arith) (from-each 0 n h i l)
+  pub same-maps : (n : ℕ) → map f (labels n) ≡ map g (labels n) → (i : ℕ) → i < n → f i ≡ g i
+  same-maps n h i l = subst (λ (j : ℕ). f j ≡ g j) (omega arith) (from-each 0 n h i l)
 
 -- words that rise: each is the first plus so many steps
 abbrev pub OnStep : List ℕ → (at by step i : ℕ) → Type 0
@@ -41,11 +41,11 @@ OnStep table at by step i = nth table (at + i * by) ≡ nth table at + i * step
 module _ (table : List ℕ) (at by n step : ℕ) where
   pub rises-each : rising table at by n step ≡ true → (i : ℕ) → i < n → OnStep table at by step i
   unfolding rising
-  rises-each h i l = same-each (λ i. nth table (at + i * by)) (λ i. nth table at + i * step) n (same-list _ _ h) i l
+  rises-each h i l = same-maps (λ i. nth table (at + i * by)) (λ i. nth table at + i * step) n (same-list _ _ h) i l
 
   pub each-rises : ((i : ℕ) → i < n → OnStep table at by step i) → rising table at by n step ≡ true
   unfolding rising
-  each-rises h = rw (each-same (λ i. nth table (at + i * by)) (λ i. nth table at + i * step) n h) (list-same (map (λ i. nth table at + i * step) (labels n)))
+  each-rises h = rw (maps-same (λ i. nth table (at + i * by)) (λ i. nth table at + i * step) n h) (alike-itself (map (λ i. nth table at + i * step) (labels n)))
 
   pub not-rising : (i : ℕ) → i < n → (OnStep table at by step i → ⊥) → rising table at by n step ≡ false
   not-rising i l differ = cases (rising table at by n step) (λ e. absurd (differ (rises-each e i l))) (λ e. e)

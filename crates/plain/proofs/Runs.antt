@@ -15,17 +15,17 @@ use Rattle.circuit.specs.Kinds.{Kind, CON, XOR, NOT, REG, kindOf, shape}
 use Rattle.circuit.specs.Circuit.{Circuit, size, wireAt, place, isSet, shownBy, lookUp, labelShown, stageShown, newStage, made, extend}
 use Rattle.circuit.specs.Composition.{Frame, Fits, fit-CON, fit-XOR, fit-NOT, fit-REG, AllFit, done, next, build, kindWord}
 use Rattle.circuit.proofs.Base.{and-left, and-right, and-both, Every, every-imp, AllFrom}
-use Rattle.circuit.proofs.Numbered.{range-at, all-get}
+use Rattle.circuit.proofs.Numbered.{range-at, all-get, map-at}
 use Rattle.circuit.proofs.Sizes.{range-length}
-use Rattle.circuit.proofs.Building.{named-made, label-told, stage-told, size-extend}
+use Rattle.circuit.proofs.Building.{named-made, label-told, stage-told, size-extend, wire-kept}
 use Rattle.circuit.proofs.Fitting.{kind-known}
 use Rattle.semantics.specs.Counts.{alike}
 use Rattle.semantics.proofs.Solving.{nothing}
 use Rattle.plain.specs.Sharings.{Plain, isRun}
-use Rattle.plain.specs.Internal.Kept.{InRow}
-use Rattle.semantics.proofs.Alike.{same-list, list-same}
-use Rattle.plain.proofs.Found.{same-number, number-same, in-a-row, map-at, range-map-at}
-use Rattle.plain.proofs.Growing.{wire-kept, Grown}
+use Rattle.plain.proofs.Kept.{InRow}
+use Rattle.semantics.proofs.Alike.{same-list, alike-itself}
+use Rattle.plain.proofs.Found.{one-number, all-one-number, in-a-row, range-map-at}
+use Rattle.plain.proofs.Growing.{Grown}
 
 -- the kinds that make one wire, and its gate
 pub data Single : Kind → Type 0 where
@@ -101,7 +101,7 @@ pub run-shown : (k : Circuit) (p : Plain) (first : Frame) (rest : List Frame) �
 run-shown k p first rest h =
     let run = first ∷ rest in
     let word : Frame → ℕ = λ f. kindWord (f .kind) in
-    let (each, count) = same-number word (word first) run (labels (k .d)) (and-left _ _ h) in
+    let (each, count) = one-number word (word first) run (labels (k .d)) (and-left _ _ h) in
     let label : ℕ → ℕ = λ x. labelShown (lookUp (build k run) x) in
     let shown = same-list (map label (range (size k) (k .d))) (labels (k .d)) (and-right (alike eqb (map word run) (map (λ i. word first) (labels (k .d)))) _ h) in
     record {
@@ -110,12 +110,12 @@ run-shown k p first rest h =
       labelled = λ i l. sym (range-map-at label (size k) (k .d) i 0 l) ∙ ap (λ xs. nth xs i) shown ∙ range-at 0 (k .d) i l ∙ zero-add i;
     }
 
-pub shown-run : (k : Circuit) (p : Plain) (first : Frame) (rest : List Frame) → Run k (first ∷ rest) (first .kind) → isRun k p first rest ≡ true
-shown-run k p first rest r =
+pub run-holds : (k : Circuit) (p : Plain) (first : Frame) (rest : List Frame) → Run k (first ∷ rest) (first .kind) → isRun k p first rest ≡ true
+run-holds k p first rest r =
     let run = first ∷ rest in
     and-both _ _
-    (number-same (λ f. kindWord (f .kind)) (kindWord (first .kind)) run (labels (k .d)) (every-imp _ _ run (λ f. ap kindWord) (r .kinds)) (r .count ∙ sym (range-length 0 (k .d))))
-    (let e = in-a-row (λ x. labelShown (lookUp (build k run) x)) (size k) 0 (k .d) (λ i l. r .labelled i l ∙ omega arith) in rw e (list-same (labels (k .d))))
+    (all-one-number (λ f. kindWord (f .kind)) (kindWord (first .kind)) run (labels (k .d)) (every-imp _ _ run (λ f. ap kindWord) (r .kinds)) (r .count ∙ sym (range-length 0 (k .d))))
+    (let e = in-a-row (λ x. labelShown (lookUp (build k run) x)) (size k) 0 (k .d) (λ i l. r .labelled i l ∙ omega arith) in rw e (alike-itself (labels (k .d))))
 
 -- a run of d wires, labelled in order, whose frames have one stage
 module _ (k : Circuit) (first : Frame) (rest : List Frame) {kind : Kind} (s : Single kind) (r : Run k (first ∷ rest) kind) (fit : AllFit k (first ∷ rest)) where

@@ -17,7 +17,7 @@ use Rattle.circuit.specs.Composition.{Frame, frame, AllFit, build}
 use Rattle.circuit.proofs.Base.{no-flip, Every, concatMap-append}
 use Rattle.circuit.proofs.Parts.{label-lt}
 use Rattle.circuit.proofs.Sizes.{and-size, ref-size}
-use Rattle.circuit.proofs.Building.{Lawful, build-more, build-append, build-shares, fit-split, size-extend}
+use Rattle.circuit.proofs.Building.{Lawful, build-more, build-append, build-shares, fit-split, size-extend, wire-kept}
 use Rattle.semantics.specs.Values.{at, xorSum, value, valuesOf}
 use Rattle.semantics.specs.Counts.{parity, secretsOf}
 use Rattle.semantics.proofs.Randoms.{randomsIn}
@@ -29,7 +29,6 @@ use Rattle.gadgets.proofs.Framing.{inputs-more}
 use Rattle.plain.specs.Sharings.{PlainGate, secret, constant, same, inverse, sum, product, Plain, isSharing, numberOf, odd, isRun}
 use Rattle.plain.specs.Plain.{plainValue, outRows, addedShares, rowsOf}
 use Rattle.plain.proofs.Found.{range-map-at, number-at}
-use Rattle.plain.proofs.Growing.{wire-kept}
 use Rattle.plain.proofs.Runs.{Single, one-CON, one-XOR, one-NOT, one-REG, gateBy, Run, run-shown, run-size, run-wire, column-at}
 use Rattle.plain.proofs.Added.{sum-row, sum-places, sum-odd, flips, parity-sum, secret-at}
 

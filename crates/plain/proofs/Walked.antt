@@ -16,7 +16,7 @@ use Rattle.circuit.specs.Circuit.{Circuit, empty, place}
 use Rattle.circuit.specs.Rules.{pass, refuse, need}
 use Rattle.circuit.specs.Composition.{Frame, frame, Fits, fit-IN, fit-CON, fit-XOR, fit-NOT, fit-REG, fit-AND, fit-REF, fit-OUT, AllFit, next, build, wordsOf}
 use Rattle.circuit.proofs.Base.{Every, and-left}
-use Rattle.circuit.proofs.Building.{named-made, build-append, build-intime, fit-split, Lawful, InTime}
+use Rattle.circuit.proofs.Building.{named-made, build-append, build-intime, fit-split, Lawful, InTime, wire-kept}
 use Rattle.circuit.proofs.Sizes.{words-AND, words-REF, words-OUT}
 use Rattle.frames.specs.declared.walk.Frame.{Frame as FrameCode}
 use Rattle.frames.specs.declared.kinds.Shape.{Shape as ShapeCode}
@@ -26,11 +26,10 @@ use Rattle.frames.specs.declared.walk.Step.the-variants.{Next, Refused, End}
 use Rattle.frames.specs.Walk.{kindCode, shapeCode, frameCode, behind, stepAt}
 use Rattle.gadgets.specs.Internal.Accepting.{AcceptedTable, circuitIn, Between}
 use Rattle.gadgets.proofs.Walking.{second-word, so-far, between-start, fitting, same-d, all-built, ended, step-is}
-use Rattle.plain.specs.Sharings.{Plain, none, isRun, fits, joined, further, runsFrom, going, wholeFrom, wholeOf}
+use Rattle.plain.specs.Sharings.{Plain, none, isRun, fits, joined, further, groupsFrom, going, wholeFrom, wholeOf}
 use Rattle.plain.specs.Internal.Tests.{frameFits, RowsIn, Labels, misfit}
-use Rattle.plain.specs.Internal.Kept.{Kept}
-use Rattle.plain.proofs.Framed.{frames-in, runs-skip}
-use Rattle.plain.proofs.Growing.{wire-kept}
+use Rattle.plain.proofs.Kept.{Kept}
+use Rattle.plain.proofs.Framed.{frames-in, groups-skip}
 use Rattle.plain.proofs.Keeping.{kept-start, kept-next}
 use Rattle.plain.proofs.Runs.{run-shown}
 use Rattle.plain.proofs.Words.{Sized, fit-sized, run-words, words-behind}
@@ -44,7 +43,7 @@ pub record WholeTo (table : List ℕ) (at number : ℕ) : Type 0 where
   pub kept : Kept (so-far accepted between) plain
   pub some : 1 ≤ number
   pub few : number ≤ at
-  pub same : wholeOf table .judgement ≡ wholeFrom (so-far accepted between) plain (runsFrom (accepted .d) number 0 (between .after)) .judgement
+  pub same : wholeOf table .judgement ≡ wholeFrom (so-far accepted between) plain (groupsFrom (accepted .d) number 0 (between .after)) .judgement
 
 pub whole-start : {table : List ℕ} → AcceptedTable table → WholeTo table 2 1
 unfolding wholeOf
@@ -55,14 +54,19 @@ whole-start {table} a = record {
   kept = kept-start (a .d);
   some = omega arith;
   few = omega arith;
-  same = ap₂ (λ d fs. wholeFrom (empty d) none (runsFrom d 1 0 fs) .judgement) (second-word a) (frames-in a);
+  same = ap₂ (λ d fs. wholeFrom (empty d) none (groupsFrom d 1 0 fs) .judgement) (second-word a) (frames-in a);
 }
+
+-- the number of a frame that does not fit is the judgement
+pub named-misfit : (frame : ℕ) → 1 ≤ frame → misfit frame ≡ refuse 26 frame 0
+named-misfit zero l = absurd (omega arith)
+named-misfit (suc frame) l = refl
 
 one-more : (n : ℕ) → 1 ≤ 1 + n
 one-more n = omega arith
 
 -- how many frames go with the first, by the wires that it makes
-pub further-is : (d : ℕ) → fewestShares ≤ d → (kind : Kind) → cond (eqb (shape d kind .wires) 1) (d - 1) 0 ≡ further d kind
+further-is : (d : ℕ) → fewestShares ≤ d → (kind : Kind) → cond (eqb (shape d kind .wires) 1) (d - 1) 0 ≡ further d kind
 unfolding shape
 further-is d ge HEAD = refl
 further-is d ge IN = rw (ne-eqb d 1 (λ e. omega arith))
@@ -145,24 +149,20 @@ module _ {table notes : List ℕ} {at number : ℕ} (h : WholeTo table at number
     along = 1 + further (k .d) (f .kind)
 
     judged : wholeOf table .judgement ≡ going (need isFit 26 number 0) (h .plain) (wholeFrom (build k (f ∷ rest)) (joined k (h .plain) f rest (f .kind))
-        (runsFrom (k .d) (number + along) 0 (drop (further (k .d) (f .kind)) later))) .judgement
-    unfolding wholeFrom runsFrom
+        (groupsFrom (k .d) (number + along) 0 (drop (further (k .d) (f .kind)) later))) .judgement
+    unfolding wholeFrom groupsFrom
     judged =
         let n = further (k .d) (f .kind) in
         let e′ : suc number + n ≡ number + along = omega arith in
-        h .same ∙ ap₂ (λ m fs. wholeFrom k (h .plain) (runsFrom m number 0 fs) .judgement) (sym (same-d a b)) e
+        h .same ∙ ap₂ (λ m fs. wholeFrom k (h .plain) (groupsFrom m number 0 fs) .judgement) (sym (same-d a b)) e
         ∙ ap (λ rs. going (need isFit 26 number 0) (h .plain) (wholeFrom (build k (f ∷ rest)) (joined k (h .plain) f rest (f .kind)) rs) .judgement)
-        (runs-skip (k .d) (suc number) n later ∙ ap (λ m. runsFrom (k .d) m 0 (drop n later)) e′)
+        (groups-skip (k .d) (suc number) n later ∙ ap (λ m. groupsFrom (k .d) m 0 (drop n later)) e′)
 
     sized-one : length (f .ops) ≡ words (k .d) (f .kind)
     sized-one = fit-sized k (f ∷ later) least time fit .0
 
     refused : isFit ≡ false → wholeOf table .judgement ≡ misfit number
-    refused z = judged ∙ rw z (named-by number (h .some))
-      where
-        named-by : (n : ℕ) → 1 ≤ n → refuse 26 n 0 ≡ misfit n
-        named-by zero l = absurd (omega arith)
-        named-by (suc n) l = refl
+    refused z = judged ∙ rw z (sym (named-misfit number (h .some)))
 
     -- the frames that go together, where they fit
     module _ (z : isFit ≡ true) where
@@ -215,7 +215,7 @@ module _ {table notes : List ℕ} {at number : ℕ} (h : WholeTo table at number
             (kept-next k (h .plain) f rest (fit-split k run (drop n later) (subst (AllFit k) split-here fit) .0) (omega (arith, ap length taken, count)) (h .kept) z);
         some = omega (arith, h .some);
         few = omega (arith, h .few, mul-le-mul-left along (one-more (words (k .d) (f .kind))));
-        same = judged ∙ rw z (ap₂ (λ c m. wholeFrom c (joined k (h .plain) f rest (f .kind)) (runsFrom m (number + along) 0 (drop n later)) .judgement) (sym grown) (same-d a b));
+        same = judged ∙ rw z (ap₂ (λ c m. wholeFrom c (joined k (h .plain) f rest (f .kind)) (groupsFrom m (number + along) 0 (drop n later)) .judgement) (sym grown) (same-d a b));
       }
 
   -- the walk at the end of frames that fit, of which so many go with the first
@@ -253,9 +253,14 @@ module _ {table notes : List ℕ} {at number : ℕ} (h : WholeTo table at number
   rows-in (fit-REF ops t len first p o) l = omega (arith, words-REF (k .d))
   rows-in (fit-OUT ops t len p q) l = omega (arith, words-OUT (k .d))
 
-  meeting : (f : Frame) (later : List Frame) → b .after ≡ f ∷ later → Fits k (f .kind) (f .ops) → Turn (k .d) (frameCode (kindCode (f .kind)) (f .ops)) (shapeCode (k .d) (f .kind)) (behind (k .d) at (words (k .d) (f .kind)))
+  -- the turn that meets a frame, with d shares
+  abbrev MeetsFrame : Frame → ℕ → Type 0
+  MeetsFrame f d = Turn d (frameCode (kindCode (f .kind)) (f .ops)) (shapeCode d (f .kind)) (behind d at (words d (f .kind)))
+
+  meeting : (f : Frame) (later : List Frame) → b .after ≡ f ∷ later → Fits k (f .kind) (f .ops) → MeetsFrame f (k .d)
   meeting f later e fits =
-      let inside : at + 1 + words (k .d) (f .kind) ≤ length table = omega (arith, b .most, length-drop at table, ap length (here f later e), length-append (f .ops) (wordsOf later), sized-one f later e) in
+      let inside : at + 1 + words (k .d) (f .kind) ≤ length table =
+      omega (arith, b .most, length-drop at table, ap length (here f later e), length-append (f .ops) (wordsOf later), sized-one f later e) in
       record {
         inside = inside;
         rows = rows-in fits inside;
@@ -264,8 +269,8 @@ module _ {table notes : List ℕ} {at number : ℕ} (h : WholeTo table at number
       }
 
   ending : b .after ≡ [] → wholeOf table .judgement ≡ pass
-  unfolding wholeFrom runsFrom
-  ending e = h .same ∙ ap (λ fs. wholeFrom k (h .plain) (runsFrom (a .d) number 0 fs) .judgement) e
+  unfolding wholeFrom groupsFrom
+  ending e = h .same ∙ ap (λ fs. wholeFrom k (h .plain) (groupsFrom (a .d) number 0 fs) .judgement) e
 
   abbrev pub Meets : ℕ → Step → Type 0
   Meets d (Next fr sh wk) = Turn d fr sh wk
@@ -280,4 +285,4 @@ module _ {table notes : List ℕ} {at number : ℕ} (h : WholeTo table at number
 
       go : (after : List Frame) → b .after ≡ after → AllFit k after → Meets (a .d) (stepAt table (a .d) at)
       go [] z fit = subst (Meets (a .d)) (sym (ended a b z)) (ending z)
-      go (f ∷ later) z (next fits few more) = subst (Meets (a .d)) (sym (step-is a b f later z fits few)) (at-d (λ m. Turn m (frameCode (kindCode (f .kind)) (f .ops)) (shapeCode m (f .kind)) (behind m at (words m (f .kind)))) (meeting f later z fits))
+      go (f ∷ later) z (next fits few more) = subst (Meets (a .d)) (sym (step-is a b f later z fits few)) (at-d (MeetsFrame f) (meeting f later z fits))

@@ -47,8 +47,8 @@ pub record IsPlainOf (table : List ℕ) (k : Circuit) (p : Plain) : Type 0 where
   -- the wires of a sharing have the labels 0 to d−1 and one stage
   pub in-rows : (n : ℕ) → n < length (p .sharings) → (t : ℕ) × Row k (getD (rowsOf p) n []) 0 t
   -- for all shares and tapes, the added shares of every sharing are its plain value on the added inputs
-  pub sharings : (shares tape : List Bool)
+  pub sharings-add : (shares tape : List Bool)
       → addedShares (rowsOf p) (valuesOf (k .wires) shares tape) ≡ plainValues p (secretsOf (k .d) (k .inputs) shares)
   -- and so are those of every OUT
-  pub outputs : (shares tape : List Bool)
+  pub outputs-add : (shares tape : List Bool)
       → addedShares (outRows (framesIn table)) (valuesOf (k .wires) shares tape) ≡ map (at (plainValues p (secretsOf (k .d) (k .inputs) shares))) (p .outputs)

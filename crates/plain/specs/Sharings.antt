@@ -36,7 +36,7 @@ pub record Plain : Type 0 where
 abbrev pub none : Plain
 none = record { sharings = []; outputs = [] }
 
--- whether wires are one of the sharings; its number, the first of them having 0
+-- whether wires are one of the sharings; its number, the first of them having 0 (where they are none, how many sharings there are)
 abbrev pub isSharing : List ℕ → List Sharing → Bool
 isSharing ws [] = false
 isSharing ws (s ∷ ss) = alike eqb ws (s .wires) || isSharing ws ss
@@ -49,7 +49,7 @@ abbrev pub odd : ℕ → Bool
 odd zero = false
 odd (suc n) = not (odd n)
 
--- frames in a row behind the circuit k and its plain circuit p: `first` and `rest`, as many as make one sharing
+-- frames in a row behind the circuit k and its plain circuit p: `first`, and `rest`, the frames that go with it as far as there are any
 module _ (k : Circuit) (p : Plain) (first : Frame) (rest : List Frame) where
   abbrev d : ℕ
   d = k .d
@@ -115,34 +115,34 @@ further d REF = 0
 further d OUT = 0
 
 -- frames that go together, with the number of the first
-pub record Run : Type 0 where
+pub record Group : Type 0 where
   pub number : ℕ
   pub first : Frame
   pub rest : List Frame
 
--- the runs of frames from the number f on; `passed` of the frames go with one before them
-unfoldable pub runsFrom : (d f passed : ℕ) → List Frame → List Run
-runsFrom d f passed [] = []
-runsFrom d f (suc n) (x ∷ fs) = runsFrom d (suc f) n fs
-runsFrom d f zero (x ∷ fs) =
+-- frames from the number f on, cut into such groups; `passed` of the frames go with one before them
+unfoldable pub groupsFrom : (d f passed : ℕ) → List Frame → List Group
+groupsFrom d f passed [] = []
+groupsFrom d f (suc n) (x ∷ fs) = groupsFrom d (suc f) n fs
+groupsFrom d f zero (x ∷ fs) =
     let n = further d (x .kind) in
-    record { number = f; first = x; rest = take n fs } ∷ runsFrom d (suc f) n fs
+    record { number = f; first = x; rest = take n fs } ∷ groupsFrom d (suc f) n fs
 
--- the plain circuit of the runs before the first that does not fit, or of all; and the judgement
+-- the plain circuit of the groups before the first that does not fit, or of all; and the judgement
 pub record Whole : Type 0 where
   pub plain : Plain
   pub judgement : Judgement
 
 abbrev pub going : Judgement → Plain → Whole → Whole
-going pass p further = further
-going (refuse rule frame word) p further = record { plain = p; judgement = refuse rule frame word }
+going pass p rest = rest
+going (refuse rule frame word) p rest = record { plain = p; judgement = refuse rule frame word }
 
-unfoldable pub wholeFrom : Circuit → Plain → List Run → Whole
+unfoldable pub wholeFrom : Circuit → Plain → List Group → Whole
 wholeFrom k p [] = record { plain = p; judgement = pass }
-wholeFrom k p (r ∷ rs) =
-    let kind = r .first .kind in
-    going (need (fits k p (r .first) (r .rest) kind) 26 (r .number) 0) p
-    (wholeFrom (build k (r .first ∷ r .rest)) (joined k p (r .first) (r .rest) kind) rs)
+wholeFrom k p (g ∷ gs) =
+    let kind = g .first .kind in
+    going (need (fits k p (g .first) (g .rest) kind) 26 (g .number) 0) p
+    (wholeFrom (build k (g .first ∷ g .rest)) (joined k p (g .first) (g .rest) kind) gs)
 
 -- the frames that words make. A frame's words are counted by its kind; `passed` words of a frame that has begun come first
 unfoldable pub framesFrom : (d passed : ℕ) → List ℕ → List Frame
@@ -155,9 +155,9 @@ abbrev pub framesIn : List ℕ → List Frame
 framesIn table = framesFrom (nth table 1) 0 (drop 2 table)
 
 unfoldable pub wholeOf : List ℕ → Whole
-wholeOf table = let d = nth table 1 in wholeFrom (empty d) none (runsFrom d 1 0 (framesIn table))
+wholeOf table = let d = nth table 1 in wholeFrom (empty d) none (groupsFrom d 1 0 (framesIn table))
 
--- a call with notes: the checker's judgement; then 26, a frame, or the first frame of a run, fits none of these
+-- a call with notes: the checker's judgement; then 26, where a frame, or the first frame of a run, fits none of these
 unfoldable pub sharingsRule : (table notes : List ℕ) → Judgement
 sharingsRule table notes = checked table (length notes) .judgement then wholeOf table .judgement
 

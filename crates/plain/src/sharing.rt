@@ -7,7 +7,7 @@ ghost use lib.Dec.{eqb};
 ghost use lib.ListN.{length};
 ghost use Rattle.gadgets.specs.Internal.Accepting.{AcceptedTable, circuitIn};
 ghost use Rattle.plain.specs.Sharings.{wholeOf};
-ghost use Rattle.plain.specs.Internal.Tests.{rising, Has, alikeFrom, overRow, gateFits, frameFits, RowsIn, Labels, misfit};
+ghost use Rattle.plain.specs.Internal.Tests.{rising, Has, alikeFrom, overRow, frameFits, RowsIn, Labels, misfit};
 use checker::notes;
 use frames::randoms::random_bits;
 use frames::walk::Frame;
@@ -87,7 +87,7 @@ fn run_of_constants(table: &[u16], at: usize, n: usize, label: u16) -> bool
     rises(table, at + 3, 4, n, 0)
 }
 
-// Whether the rows a and b of an AND, from a place on, are sharings.
+// Whether the rows a and b of an AND, from a place on, are sharings. (The check has asked that a row begins with label 0.)
 fn two_rows(table: &[u16], at: usize, n: usize) -> bool
     requires { ⌜ (at + n + n ≤ length (now table)) × (n ≤ 8) × (1 ≤ n) ⌝ }
     ensures { λ r. ⌜ r ≡ (rising (now (table .entry)) at 1 n 1 && rising (now (table .entry)) (at + n) 1 n 1) ⌝ }
@@ -159,6 +159,7 @@ pub(crate) fn first_misfit(table: &[u16], notes: &[u16]) -> usize
             Step::End => {
                 return 0;
             }
+            // never in an accepted table
             Step::Refused { rule: _ } => {
                 return 0;
             }

@@ -14,6 +14,6 @@ same-list [] (y ∷ ys) h = absurd (false≢true h)
 same-list (x ∷ xs) [] h = absurd (false≢true h)
 same-list (x ∷ xs) (y ∷ ys) h = ap₂ (λ z zs. z ∷ zs) (eqb-true x y (and-left (eqb x y) (alike eqb xs ys) h)) (same-list xs ys (and-right (eqb x y) (alike eqb xs ys) h))
 
-pub list-same : (xs : List ℕ) → alike eqb xs xs ≡ true
-list-same [] = refl
-list-same (x ∷ xs) = and-both (eqb x x) (alike eqb xs xs) (eqb-refl x) (list-same xs)
+pub alike-itself : (xs : List ℕ) → alike eqb xs xs ≡ true
+alike-itself [] = refl
+alike-itself (x ∷ xs) = and-both (eqb x x) (alike eqb xs xs) (eqb-refl x) (alike-itself xs)

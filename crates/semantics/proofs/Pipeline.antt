@@ -3,7 +3,7 @@
 use mathlib.Core.Path.{_≡_, refl, sym, ap, subst, _∙_}
 use mathlib.Core.Bool.{Bool, true, false, cond}
 use mathlib.Core.List.{List, _∷_, _++_, map}
-use Prim.Native.Nat.{ℕ, zero, suc, _+_, _*_, _≤_, _<_}
+use Prim.Native.Nat.{ℕ, zero, suc, _+_, _≤_, _<_}
 use native.Mathlib.Nat.{zero-add}
 use native.Mathlib.Omega.{arith}
 use lib.ListN.{length, getD, take, drop, List·getD-append, List·getD-map}
@@ -17,7 +17,7 @@ use Rattle.circuit.specs.Composition.{Frame, frame, Fits, fit-OUT, AllFit, buil
 use Rattle.circuit.proofs.Base.{Every, every-of, every-in, every-imp, below-more}
 use Rattle.circuit.proofs.Numbered.{all-get, at-all}
 use Rattle.circuit.proofs.Sizes.{labels-map}
-use Rattle.circuit.proofs.Building.{named-made, row-first, build-more, build-append, build-shares, fit-split}
+use Rattle.circuit.proofs.Building.{named-made, row-first, build-append, build-shares, fit-split, wire-kept}
 use Rattle.circuit.proofs.Exact.{sound}
 use Rattle.semantics.specs.Values.{bits, byte, at, value, isRandom, valuesOf}
 use Rattle.semantics.specs.Probes.{operands}
@@ -63,7 +63,7 @@ module _ (ws : List Wire) (shares tapes : ℕ → List ℕ) (start : List ℕ) w
 
 -- a wire keeps its place when frames are added, and an OUT that fits names wires at its stage
 place-kept : (k : Circuit) (more : List Frame) (x : ℕ) → x < size k → place (build k more) x ≡ place k x
-place-kept k more x l = let (new, e) = build-more k more in ap (λ us. getD us x nothing .place) e ∙ ap (λ w. w .place) (List·getD-append (k .wires) new nothing x l)
+place-kept k more x l = ap (λ w. w .place) (wire-kept k more x l)
 
 out-place : (k : Circuit) (ops : List ℕ) → fewestShares ≤ k .d → Fits k OUT ops → (i : ℕ) → i < k .d → (t : ℕ) × (place k (nth ops i) ≡ named i t) × (newStage k ops OUT ≡ t)
 unfolding newStage

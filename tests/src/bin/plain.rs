@@ -170,19 +170,13 @@ impl Tally {
     }
 }
 
-/// A masked S-box: the answer is yes, all fits, and its plain circuit has the S-box's table.
+/// A masked S-box within the limits: the answer is yes, all fits, and its plain circuit has the S-box's table.
 fn sbox(calls: &dyn Calls, random: &mut Random, sbox: &Sbox, d: usize) -> Result<String, String> {
     let table = mask(&sbox.netlist, d).builder.table;
     let (circuit, refusal) = walk(&table, Rules::All);
     let answer = check_sharings(calls, &table);
-    if let Some(refusal) = refusal {
-        return match answer.result == refusal.rule {
-            true => Ok(format!("does not fit, refused {}", refusal.rule)),
-            false => Err(format!("{answer:?}, to be refused {}", refusal.rule)),
-        };
-    }
-    if answer.result != 0 {
-        return Err(format!("{answer:?}"));
+    if answer.result != 0 || refusal.is_some() {
+        return Err(format!("{answer:?}, the second program says {refusal:?}, to be a yes"));
     }
     Tally::default().fits(calls, random, &table, &circuit)?;
     let plain = plain_circuit(&circuit).map_err(|refusal| format!("{refusal:?}"))?;
@@ -193,6 +187,36 @@ fn sbox(calls: &dyn Calls, random: &mut Random, sbox: &Sbox, d: usize) -> Result
     let [wires, ..] = answer.numbers;
     let (gates, rows) = (plain.gates.len(), sbox.table.len());
     Ok(format!("{wires} wires, {gates} sharings: yes, its table right in {rows} rows"))
+}
+
+/// A masked S-box with too many wires: both programs refuse it by 14.
+fn too_large(calls: &dyn Calls, sbox: &Sbox, d: usize) -> Result<String, String> {
+    let table = mask(&sbox.netlist, d).builder.table;
+    let (_, refusal) = walk(&table, Rules::All);
+    let answer = check_sharings(calls, &table);
+    match (answer.result, refusal.as_ref().map(|refusal| refusal.rule)) {
+        (14, Some(14)) => Ok("does not fit, refused 14".to_string()),
+        _ => Err(format!("{answer:?}, the second program says {refusal:?}, to be refused 14")),
+    }
+}
+
+/// The S-boxes with 2 to 8 shares; gives how many passed and how many failed.
+fn sboxes(calls: &dyn Calls, random: &mut Random) -> [u64; 2] {
+    let [mut passed, mut failed] = [0; 2];
+    // each with the most shares that fit
+    for (masked, most) in [(present(), 8), (aes(), 5)] {
+        for d in 2..=8 {
+            let result = match d <= most {
+                true => sbox(calls, random, &masked, d),
+                false => too_large(calls, &masked, d),
+            };
+            passed += u64::from(result.is_ok());
+            failed += u64::from(result.is_err());
+            let line = result.unwrap_or_else(|what| format!("FAILED: {what}"));
+            println!("{} d {d}: {line}", masked.name);
+        }
+    }
+    [passed, failed]
 }
 
 fn main() {
@@ -213,14 +237,8 @@ fn main() {
         }
     }
     let missing = tally.print();
-    let random = &mut Random::new(seed);
-    for (masked, d) in [present(), aes()].iter().flat_map(|sbox| (2..=8).map(move |d| (sbox, d))) {
-        let result = sbox(calls.as_ref(), random, masked, d);
-        passed += u64::from(result.is_ok());
-        failed += u64::from(result.is_err());
-        let line = result.unwrap_or_else(|what| format!("FAILED: {what}"));
-        println!("{} d {d}: {line}", masked.name);
-    }
+    let [right, wrong] = sboxes(calls.as_ref(), &mut Random::new(seed));
+    (passed, failed) = (passed + right, failed + wrong);
     println!("plain: {passed} passed, {failed} failed");
     if missing > 0 && count >= 1000 {
         println!("plain: {missing} of the numbers above are 0");

@@ -260,3 +260,16 @@ fn altered(
     }
     frames
 }
+
+#[cfg(test)]
+mod tests {
+    use super::*;
+
+    /// The counts of what was met go by `way as usize`.
+    #[test]
+    fn ways_stand_in_the_order_of_the_enum() {
+        for (at, (way, ..)) in WAYS.iter().enumerate() {
+            assert_eq!(*way as usize, at);
+        }
+    }
+}

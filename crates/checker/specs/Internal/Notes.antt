@@ -18,10 +18,6 @@ foundIn first t = cond (eqb first innerNote) Inner (Named (first % registeredNot
 abbrev pub noted : List ℕ → (wires x : ℕ) → Found
 noted notes wires x = cond (ltb x wires) (foundIn (nth notes (2 * x)) (nth notes (2 * x + 1))) Missing
 
--- the label that they give a wire, where it is named; 0 past their end
-abbrev pub labelNoted : List ℕ → (x : ℕ) → ℕ
-labelNoted notes x = nth notes (2 * x) % registeredNote
-
 -- what a circuit says of a wire
 abbrev pub shown : Lookup → Found
 shown (found l t registered) = Named l t registered

@@ -1,7 +1,8 @@
 -- The call ends in one of three ways, each a judgement; what it promises follows from that judgement.
 use mathlib.Core.Path.{_≡_, refl, sym, ap, subst, _∙_}
 use mathlib.Core.List.{List}
-use Prim.Native.Nat.{ℕ}
+use Prim.Native.Nat.{ℕ, zero, suc, _≤_}
+use native.Mathlib.Omega.{arith}
 use lib.ListN.{length}
 use borrow.Author.Needs.{needs}
 use denote.Ref.{now}
@@ -16,7 +17,8 @@ use Rattle.gadgets.proofs.Walking.{least-notes}
 use Rattle.plain.specs.Sharings.{wholeOf, sharingsRule, sharingsAnswer}
 use Rattle.plain.specs.Plain.{IsPlainOf}
 use Rattle.plain.specs.Internal.Tests.{Labels, misfit}
-use Rattle.plain.proofs.Calling.{named-misfit, refuses, comes-to, plain-where, labels-noted}
+use Rattle.plain.proofs.Walked.{named-misfit}
+use Rattle.plain.proofs.Calling.{refuses, comes-to, plain-where, labels-noted}
 use Rattle.plain.proofs.check_sharings.Statement.{statement}
 use Rattle.plain.proofs.check_sharings.Tie as tie
 
@@ -50,6 +52,10 @@ entry c = c .before .before
 judged : (c : tie.After-first-misfit) {j : Judgement} → misfit (c .first-misfit .result) ≡ j → let g = checked-at (entry c) in sharingsRule (table g) (notes g) ≡ j
 judged c e = let g = checked-at (entry c) in comes-to (table g) (notes g) (passes (entry c)) (c .first-misfit .ensures ∙ e)
 
+some : (n : ℕ) → (n ≡ 0 → ⊥) → 1 ≤ n
+some zero h = absurd (h refl)
+some (suc n) h = omega arith
+
 pub check-sharings-spec : {M : Type 1} → statement M
 check-sharings-spec =
     tie.close
@@ -60,7 +66,7 @@ check-sharings-spec =
     (λ c κs. let v = c .before in let g = checked-at v in
     (least-notes (accepts v), subst (λ ns. Labels ns (circuitIn (table g))) (sym (g .check .ensures .1 .0)) (labels-noted (table g) (notes g) (accepts v))))
     (λ c. search needs)
-    (λ c. promised (checked-at (entry (c .before))) (judged (c .before) (named-misfit _ (c .if1 .taken))) refl)
+    (λ c. promised (checked-at (entry (c .before))) (judged (c .before) (named-misfit _ (some (c .before .first-misfit .result) (c .if1 .taken)))) refl)
     (λ c. search needs)
     (λ c. let g = checked-at (entry (c .before)) in
     promised g (judged (c .before) (ap misfit (c .if1 .left))) (g .check .ensures .0 ∙ ap (answer (circuitOf (table g) (notes g))) (passes (entry (c .before))))))

@@ -15,7 +15,7 @@ use Rattle.frames.specs.declared.walk.Gate.{Gate as GateCode}
 use Rattle.frames.specs.declared.walk.Gate.the-variants as gate
 use Rattle.frames.specs.declared.walk.Frame.{Frame as FrameCode}
 use Rattle.frames.specs.declared.walk.Frame.the-variants as frame
-use Rattle.checker.specs.Internal.Notes.{labelNoted}
+use Rattle.circuit.specs.Answer.{labelNoted}
 
 -- whether n words, from a place on and then every `by` places, are the first of them plus so many times `step`
 unfoldable pub rising : List ℕ → (at by n step : ℕ) → Bool
