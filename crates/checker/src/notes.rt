@@ -55,7 +55,7 @@ pub(crate) fn look_up(notes: &[u16], wires: usize, wire: u16) -> Found
     }
 }
 
-// The label that the notes give a wire, which has to be a named one that they hold; 0 past their end.
+// The label that the notes give a wire, where it is a named one; 0 past their end.
 pub fn label(notes: &[u16], wire: u16) -> u16
     ensures { λ r. ⌜ r ≡ labelNoted (now (notes .entry)) wire ⌝ }
 {

@@ -5,10 +5,8 @@ use mathlib.Core.Bool.{Bool, true, false}
 use mathlib.Core.List.{List, [], _∷_, _++_, map, append-nil, append-assoc}
 use Prim.Native.Nat.{ℕ, zero, suc, _+_, _≤_, _<_}
 use native.Mathlib.Nat.{zero-add, min-le-left}
-use native.Mathlib.Omega.{arith}
 use lib.ListN.{length, getD, take, drop, length-take, take-append-drop}
 use lib.Seq.{drop-nil}
-use Rattle.circuit.specs.Limits.{fewestShares}
 use Rattle.circuit.specs.Lists.{nth}
 use Rattle.circuit.specs.Circuit.{Circuit, empty, place}
 use Rattle.circuit.specs.Rules.{Judgement, pass, refuse, need, checked}
@@ -27,7 +25,7 @@ use Rattle.plain.proofs.Keeping.{kept-start, kept-next}
 use Rattle.plain.proofs.Valued.{Given, values}
 use Rattle.plain.proofs.Summing.{Sums, sums-next}
 
--- what a run that does not end the walk shows
+-- what a group that does not end the walk shows
 going-pass : (j : Judgement) (p : Plain) (w : Whole) → going j p w .judgement ≡ pass → (j ≡ pass) × (going j p w ≡ w)
 going-pass pass p w h = (refl, refl)
 going-pass (refuse rule frame word) p w h = never rule frame word h
@@ -47,14 +45,13 @@ module _ (on : Given) where
       let run = first ∷ rest in
       let same-shares : k .d ≡ d = build-shares (empty d) before in
       let few : length rest ≤ further (k .d) (first .kind) = rw same-shares l in
-      let ge : fewestShares ≤ k .d = omega (arith, on .least) in
       let fit-run = fit-split k run after (fit-split (empty d) before (run ++ after) (subst (AllFit (empty d)) split (on .fit)) .1) .0 in
       record {
         kept = rw (build-append (empty d) before run) (kept-next k p first rest fit-run few (h .kept) e);
         sums = sums-next on before p (h .sums) (first .ops) rest after (first .kind) split few e;
       }
 
-  -- all runs, `passed` frames going with one before them
+  -- all groups, `passed` frames going with one before them
   right-all : (before : List Frame) (f passed : ℕ) (gs : List Frame) (p : Plain) → fs ≡ before ++ drop passed gs → Right before p
       → let w = wholeFrom (build (empty d) before) p (groupsFrom d f passed gs) in w .judgement ≡ pass → Right fs (w .plain)
   unfolding groupsFrom wholeFrom

@@ -1,38 +1,32 @@
 -- Words in a row: each is the first plus so many steps; and the places that such words have.
-use mathlib.Core.Path.{_≡_, refl, ap, ap₂, subst}
+use mathlib.Core.Path.{_≡_, sym, ap, _∙_}
 use mathlib.Core.Bool.{true, false, _&&_}
-use mathlib.Core.List.{List, _∷_, map}
-use Prim.Native.Nat.{ℕ, zero, suc, _+_, _*_, _≤_, _<_}
+use mathlib.Core.List.{List, map}
+use Prim.Native.Nat.{ℕ, _+_, _*_, _≤_, _<_}
 use native.Mathlib.Nat.{mul-le-mul-left, mul-le-mul-right}
 use native.Mathlib.Omega.{arith}
 use lib.Dec.{leb, eqb}
-use lib.ListN.{length, drop}
+use lib.ListN.{length}
 use borrow.Author.Tests.{leb-true}
-use Rattle.circuit.specs.Lists.{nth, range}
+use Rattle.circuit.specs.Lists.{nth}
 use Rattle.circuit.specs.Gadgets.{labels}
 use Rattle.circuit.proofs.Base.{cases, and-left}
 use Rattle.semantics.proofs.Alike.{same-list, alike-itself}
 use Rattle.circuit.specs.Answer.{labelNoted}
+use Rattle.circuit.proofs.Parts.{label-lt}
+use Rattle.gadgets.proofs.Ranges.{map-on}
 use Rattle.plain.specs.Internal.Tests.{rising, Has, alikeFrom, overRow}
+use Rattle.plain.proofs.Found.{range-map-at}
 
--- two lists that are given by number
+-- two lists that are given by their labels
 module _ (f g : ℕ → ℕ) where
-  each-from : (m c : ℕ) → ((i : ℕ) → i < c → f (m + i) ≡ g (m + i)) → map f (range m c) ≡ map g (range m c)
-  each-from m zero h = refl
-  each-from m (suc c) h = ap₂ (λ a b. a ∷ b) (subst (λ (n : ℕ). f n ≡ g n) (omega arith) (h 0 (omega arith)))
-      (each-from (suc m) c (λ i l. subst (λ (n : ℕ). f n ≡ g n) (omega arith) (h (suc i) (omega arith))))
-
-  from-each : (m c : ℕ) → map f (range m c) ≡ map g (range m c) → (i : ℕ) → i < c → f (m + i) ≡ g (m + i)
-  from-each m zero h i l = absurd (omega arith)
-  from-each m (suc c) h zero l = subst (λ (n : ℕ). f n ≡ g n) (omega arith) (ap (λ xs. nth xs 0) h)
-  from-each m (suc c) h (suc i) l = subst (λ (n : ℕ). f n ≡ g n) (omega arith) (from-each (suc m) c (ap (drop 1) h) i (omega arith))
-
-  -- for each label
   pub maps-same : (n : ℕ) → ((i : ℕ) → i < n → f i ≡ g i) → map f (labels n) ≡ map g (labels n)
-  maps-same n h = each-from 0 n (λ i l. subst (λ (j : ℕ). f j ≡ g j) (omega arith) (h i l))
+  maps-same n h = map-on f g (labels n) (λ i k. h i (label-lt n i k))
 
   pub same-maps : (n : ℕ) → map f (labels n) ≡ map g (labels n) → (i : ℕ) → i < n → f i ≡ g i
-  same-maps n h i l = subst (λ (j : ℕ). f j ≡ g j) (omega arith) (from-each 0 n h i l)
+  same-maps n h i l =
+      let z : i ≡ 0 + i = omega arith in
+      ap f z ∙ sym (range-map-at f 0 n i 0 l) ∙ ap (λ xs. nth xs i) h ∙ range-map-at g 0 n i 0 l ∙ sym (ap g z)
 
 -- words that rise: each is the first plus so many steps
 abbrev pub OnStep : List ℕ → (at by step i : ℕ) → Type 0
