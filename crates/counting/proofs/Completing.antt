@@ -1,6 +1,6 @@
--- Shares of secret bits in words, and that each of the eight pairs has its own sharing in them.
+-- Shares of secret bits in words, and that each pair has its own sharing in them.
 use mathlib.Core.Path.{_≡_, refl, sym, ap, ap₂, _∙_}
-use mathlib.Core.Bool.{Bool, false}
+use mathlib.Core.Bool.{Bool, true, false}
 use mathlib.Core.List.{List, [], _∷_, _++_, map, map-append, map-map, append-assoc}
 use Prim.Native.Nat.{ℕ, zero, suc, _+_, _*_, _/_, _%_, _≤_, _<_}
 use native.Mathlib.Nat.{zero-add}
@@ -10,6 +10,8 @@ use lib.Seq.{ext-getD, getD-take, take-append-le, drop-append-le}
 use Rattle.circuit.specs.Lists.{_⊕_, nth, range}
 use Rattle.circuit.specs.Circuit.{isSet}
 use Rattle.circuit.proofs.Base.{xor-assoc, no-flip}
+use Rattle.circuit.proofs.Numbered.{range-at, map-at}
+use Rattle.circuit.proofs.Sizes.{range-length}
 use Rattle.semantics.specs.Values.{bits, at}
 use Rattle.semantics.specs.Counts.{parity}
 use Rattle.gadgets.proofs.Bits.{set-byte}
@@ -17,9 +19,9 @@ use Rattle.simulation.specs.Internal.Evaluating.{packed, Packs}
 use Rattle.simulation.proofs.Packing.{packed-xor, packed-none}
 use Rattle.counting.specs.Internal.Lanes.{laneBit}
 use Rattle.counting.specs.Internal.Pairs.{completed, freeOf}
-use Rattle.counting.specs.Internal.Words.{FreeWords, sharesOf, allShares}
-use Rattle.counting.proofs.FreeBits.{packed-same, packed-all}
-use Rattle.circuit.proofs.Numbered.{map-at}
+use Rattle.counting.specs.Internal.Words.{ones, FreeWords, sharesOf, allShares}
+use Rattle.counting.proofs.Numbered.{range-next}
+use Rattle.counting.proofs.WordBits.{packed-same, packed-all}
 
 -- the bit of each pair, for each word
 abbrev Column : Type 0
@@ -29,33 +31,20 @@ Column = ℕ → Bool
 abbrev lane : ℕ → List Column → List Bool
 lane l cs = map (λ col. col l) cs
 
-abbrev words : List Column → List ℕ
-words cs = map (packed 8) cs
-
-map-take : {A B : Type 0} (f : A → B) (n : ℕ) (xs : List A) → map f (take n xs) ≡ take n (map f xs)
+pub map-take : {A B : Type 0} (f : A → B) (n : ℕ) (xs : List A) → map f (take n xs) ≡ take n (map f xs)
 map-take f zero xs = refl
 map-take f (suc n) [] = refl
 map-take f (suc n) (x ∷ xs) = ap (λ r. f x ∷ r) (map-take f n xs)
 
-map-drop : {A B : Type 0} (f : A → B) (n : ℕ) (xs : List A) → map f (drop n xs) ≡ drop n (map f xs)
+pub map-drop : {A B : Type 0} (f : A → B) (n : ℕ) (xs : List A) → map f (drop n xs) ≡ drop n (map f xs)
 map-drop f zero xs = refl
 map-drop f (suc n) [] = refl
 map-drop f (suc n) (x ∷ xs) = map-drop f n xs
-
-packs-columns : (cs : List Column) → Packs 8 (λ l. lane l cs) (words cs)
-packs-columns cs i =
-    let none : Column = λ l. false in
-    ap (getD (words cs) i) (sym (packed-none 8)) ∙ List·getD-map (packed 8) cs i none ∙ packed-same 8 (getD cs i none) (λ l. at (lane l cs) i) (λ l h. sym (List·getD-map (λ (col : Column). col l) cs i none))
 
 -- a secret bit: columns, and the one that completes them
 lastOf : Column → List Column → List Column
 lastOf x [] = x ∷ []
 lastOf x (col ∷ cs) = col ∷ lastOf (λ l. x l ⊕ col l) cs
-
-last-words : (x : Column) (cs : List Column) → words (lastOf x cs) ≡ sharesOf (packed 8 x) (words cs)
-unfolding lastOf sharesOf
-last-words x [] = refl
-last-words x (col ∷ cs) = ap (λ r. packed 8 col ∷ r) (last-words (λ l. x l ⊕ col l) cs ∙ ap (λ y. sharesOf y (words cs)) (packed-xor 8 x col))
 
 last-lane : (l : ℕ) (x : Column) (cs : List Column) → lane l (lastOf x cs) ≡ lane l cs ++ (x l ⊕ parity (lane l cs)) ∷ []
 unfolding lastOf
@@ -67,14 +56,6 @@ columnsOf : ℕ → List Bool → List Column → List Column
 columnsOf n [] cs = []
 columnsOf n (z ∷ zs) cs = lastOf (λ l. z) (take n cs) ++ columnsOf n zs (drop n cs)
 
-columns-words : (n : ℕ) (secrets : List ℕ) (cs : List Column) → ((x : ℕ) → nth secrets x ≤ 1) → words (columnsOf n (bits secrets) cs) ≡ allShares n secrets (words cs)
-unfolding columnsOf allShares
-columns-words n [] cs h = refl
-columns-words n (z ∷ zs) cs h =
-    map-append (packed 8) (lastOf (λ l. isSet z) (take n cs)) (columnsOf n (bits zs) (drop n cs))
-    ∙ ap₂ _++_ (last-words (λ l. isSet z) (take n cs) ∙ ap₂ sharesOf (packed-all (isSet z) ∙ ap (λ m. 255 * m) (sym (set-byte z (h 0)))) (map-take (packed 8) n cs))
-    (columns-words n zs (drop n cs) (λ x. h (suc x)) ∙ ap (allShares n zs) (map-drop (packed 8) n cs))
-
 columns-lane : (l n : ℕ) (zs : List Bool) (cs : List Column) → lane l (columnsOf n zs cs) ≡ completed n zs (lane l cs)
 unfolding columnsOf completed
 columns-lane l n [] cs = refl
@@ -84,31 +65,17 @@ columns-lane l n (z ∷ zs) cs =
     (columns-lane l n zs (drop n cs) ∙ ap (completed n zs) (map-drop (λ (col : Column). col l) n cs))
     ∙ append-assoc (take n (lane l cs)) ((z ⊕ parity (take n (lane l cs))) ∷ []) (completed n zs (drop n (lane l cs)))
 
--- the free bits of eight pairs
-freeColumns : (batch free : ℕ) → List Column
-freeColumns b n = map (λ i l. laneBit i (8 * b + l)) (range 0 n)
-
-pub range-next : {A : Type 0} (f : ℕ → A) (m n : ℕ) → map f (range (suc m) n) ≡ map (λ i. f (suc i)) (range m n)
-range-next f m zero = refl
-range-next f m (suc n) = ap (λ r. f (suc m) ∷ r) (range-next f (suc m) n)
+-- the free bits of pairs, from a number on
+freeColumns : (base free : ℕ) → List Column
+freeColumns b n = map (λ i l. laneBit i (b + l)) (range 0 n)
 
 free-digits : (n t : ℕ) → freeOf n t ≡ map (λ i. laneBit i t) (range 0 n)
 free-digits zero t = refl
 free-digits (suc n) t = ap (λ r. isSet (t % 2) ∷ r) (free-digits n (t / 2) ∙ sym (range-next (λ i. laneBit i t) 0 n))
 
-free-lane : (b n l : ℕ) → lane l (freeColumns b n) ≡ freeOf n (8 * b + l)
+free-lane : (b n l : ℕ) → lane l (freeColumns b n) ≡ freeOf n (b + l)
 unfolding freeColumns
-free-lane b n l = map-map (λ (col : Column). col l) (λ i j. laneBit i (8 * b + j)) (range 0 n) ∙ sym (free-digits n (8 * b + l))
-
--- their words are those that the code has
-range-length : (m n : ℕ) → length (range m n) ≡ n
-range-length m zero = refl
-range-length m (suc n) = ap suc (range-length (suc m) n)
-
-range-at : (m n i : ℕ) → i < n → nth (range m n) i ≡ m + i
-range-at m zero i h = absurd (omega arith)
-range-at m (suc n) zero h = omega arith
-range-at m (suc n) (suc i) h = range-at (suc m) n i (omega arith) ∙ omega arith
+free-lane b n l = map-map (λ (col : Column). col l) (λ i j. laneBit i (b + j)) (range 0 n) ∙ sym (free-digits n (b + l))
 
 -- words behind those that are taken do not matter
 shares-append : (n : ℕ) (zs xs ys : List ℕ) → n * length zs ≤ length xs → allShares n zs (xs ++ ys) ≡ allShares n zs xs
@@ -118,33 +85,71 @@ shares-append n (z ∷ zs) xs ys l =
     let long : n ≤ length xs = omega arith in
     rw (take-append-le n xs ys long, drop-append-le n xs ys long, shares-append n zs (drop n xs) ys (rw (length-drop n xs) (omega arith)))
 
-module _ {b n : ℕ} {ws : List ℕ} (f : FreeWords b n ws) (most : n ≤ 16) where
-  abbrev cols : List Column
-  cols = freeColumns b n
+-- words of so many pairs
+module _ (lanes : ℕ) where
+  abbrev words : List Column → List ℕ
+  words cs = map (packed lanes) cs
 
-  sized : length (take n ws) ≡ n
-  sized = length-take n ws ∙ omega (arith, f .sized)
+  -- the words that secret bits complete to: each bit in all pairs
+  abbrev wholes : List ℕ → List ℕ
+  wholes secrets = map (λ z. packed lanes (λ l. true) * z) secrets
 
-  free-words : take n ws ≡ words cols
-  unfolding freeColumns
-  free-words = ext-getD 0 (take n ws) (words cols)
-      (sized ∙ sym (length-map (map (λ i l. laneBit i (8 * b + l)) (range 0 n)) (packed 8) ∙ length-map (range 0 n) (λ i l. laneBit i (8 * b + l)) ∙ range-length 0 n))
-      (λ i h. let l : i < n = omega (arith, sized) in
-      getD-take n ws i 0 l ∙ f .are i l ∙ sym (ap (λ r. nth r i) (map-map (packed 8) (λ i l. laneBit i (8 * b + l)) (range 0 n))
-      ∙ map-at (λ j. packed 8 (λ l. laneBit j (8 * b + l))) (range 0 n) i 0 0 (omega (arith, range-length 0 n)) ∙ ap (λ j. packed 8 (λ l. laneBit j (8 * b + l))) (range-at 0 n i l ∙ zero-add i)))
+  packs-columns : (cs : List Column) → Packs lanes (λ l. lane l cs) (words cs)
+  packs-columns cs i =
+      let none : Column = λ l. false in
+      ap (getD (words cs) i) (sym (packed-none lanes)) ∙ List·getD-map (packed lanes) cs i none
+      ∙ packed-same lanes (getD cs i none) (λ l. at (lane l cs) i) (λ l h. sym (List·getD-map (λ (col : Column). col l) cs i none))
 
-  -- the sharing and the tape of each pair
-  module _ (others : ℕ) (secrets : List ℕ) (few : others * length secrets ≤ n) where
-    pub shares-packed : ((x : ℕ) → nth secrets x ≤ 1) → Packs 8 (λ l. completed others (bits secrets) (freeOf n (8 * b + l))) (allShares others secrets ws)
-    shares-packed bit i =
-        ap (λ r. nth r i) (ap (allShares others secrets) (sym (take-append-drop n ws)) ∙ shares-append others secrets (take n ws) (drop n ws) (omega (arith, sized))
-        ∙ ap (allShares others secrets) free-words ∙ sym (columns-words others secrets cols bit))
-        ∙ packs-columns (columnsOf others (bits secrets) cols) i
-        ∙ packed-same 8 (λ l. at (lane l (columnsOf others (bits secrets) cols)) i) (λ l. at (completed others (bits secrets) (freeOf n (8 * b + l))) i)
-        (λ l h. ap (λ r. at r i) (columns-lane l others (bits secrets) cols ∙ ap (completed others (bits secrets)) (free-lane b n l)))
+  last-words : (x : Column) (cs : List Column) → words (lastOf x cs) ≡ sharesOf (packed lanes x) (words cs)
+  unfolding lastOf sharesOf
+  last-words x [] = refl
+  last-words x (col ∷ cs) = ap (λ r. packed lanes col ∷ r) (last-words (λ l. x l ⊕ col l) cs ∙ ap (λ y. sharesOf y (words cs)) (packed-xor lanes x col))
 
-    pub tape-packed : Packs 8 (λ l. drop (others * length secrets) (freeOf n (8 * b + l))) (drop (others * length secrets) (take n ws))
-    tape-packed i =
-        let s = others * length secrets in
-        ap (λ r. nth r i) (ap (drop s) free-words ∙ sym (map-drop (packed 8) s cols)) ∙ packs-columns (drop s cols) i
-        ∙ packed-same 8 (λ l. at (lane l (drop s cols)) i) (λ l. at (drop s (freeOf n (8 * b + l))) i) (λ l h. ap (λ r. at r i) (map-drop (λ (col : Column). col l) s cols ∙ ap (drop s) (free-lane b n l)))
+  columns-words : (n : ℕ) (secrets : List ℕ) (cs : List Column) → ((x : ℕ) → nth secrets x ≤ 1) → words (columnsOf n (bits secrets) cs) ≡ allShares n (wholes secrets) (words cs)
+  unfolding columnsOf allShares
+  columns-words n [] cs h = refl
+  columns-words n (z ∷ zs) cs h =
+      map-append (packed lanes) (lastOf (λ l. isSet z) (take n cs)) (columnsOf n (bits zs) (drop n cs))
+      ∙ ap₂ _++_ (last-words (λ l. isSet z) (take n cs) ∙ ap₂ sharesOf (packed-all lanes (isSet z) ∙ ap (λ m. packed lanes (λ l. true) * m) (sym (set-byte z (h 0)))) (map-take (packed lanes) n cs))
+      (columns-words n zs (drop n cs) (λ x. h (suc x)) ∙ ap (allShares n (wholes zs)) (map-drop (packed lanes) n cs))
+
+  -- the words of free bits from a number on, and what the sharing and the tape of each pair are in them
+  module _ (base free : ℕ) (ws : List ℕ) (long : free ≤ length ws) (are : (i : ℕ) → i < free → nth ws i ≡ packed lanes (λ l. laneBit i (base + l))) where
+    abbrev cols : List Column
+    cols = freeColumns base free
+
+    sized : length (take free ws) ≡ free
+    sized = length-take free ws ∙ omega arith
+
+    free-words : take free ws ≡ words cols
+    unfolding freeColumns
+    free-words =
+        let digit : ℕ → Column = λ i l. laneBit i (base + l) in
+        ext-getD 0 (take free ws) (words cols) (sized ∙ sym (length-map (map digit (range 0 free)) (packed lanes) ∙ length-map (range 0 free) digit ∙ range-length 0 free))
+        (λ i h. let l : i < free = omega (arith, sized) in
+        getD-take free ws i 0 l ∙ are i l ∙ sym (ap (λ r. nth r i) (map-map (packed lanes) digit (range 0 free))
+        ∙ map-at (λ j. packed lanes (digit j)) (range 0 free) i 0 0 (omega (arith, range-length 0 free)) ∙ ap (λ j. packed lanes (digit j)) (range-at 0 free i l ∙ zero-add i)))
+
+    module _ (others : ℕ) (secrets : List ℕ) (few : others * length secrets ≤ free) where
+      sharing-packed : ((x : ℕ) → nth secrets x ≤ 1) → Packs lanes (λ l. completed others (bits secrets) (freeOf free (base + l))) (allShares others (wholes secrets) ws)
+      sharing-packed bit i =
+          ap (λ r. nth r i) (ap (allShares others (wholes secrets)) (sym (take-append-drop free ws))
+          ∙ shares-append others (wholes secrets) (take free ws) (drop free ws) (rw (length-map secrets (λ z. packed lanes (λ l. true) * z)) (omega (arith, sized)))
+          ∙ ap (allShares others (wholes secrets)) free-words ∙ sym (columns-words others secrets cols bit))
+          ∙ packs-columns (columnsOf others (bits secrets) cols) i
+          ∙ packed-same lanes (λ l. at (lane l (columnsOf others (bits secrets) cols)) i) (λ l. at (completed others (bits secrets) (freeOf free (base + l))) i)
+          (λ l h. ap (λ r. at r i) (columns-lane l others (bits secrets) cols ∙ ap (completed others (bits secrets)) (free-lane base free l)))
+
+      drawn-packed : Packs lanes (λ l. drop (others * length secrets) (freeOf free (base + l))) (drop (others * length secrets) (take free ws))
+      drawn-packed i =
+          let s = others * length secrets in
+          ap (λ r. nth r i) (ap (drop s) free-words ∙ sym (map-drop (packed lanes) s cols)) ∙ packs-columns (drop s cols) i
+          ∙ packed-same lanes (λ l. at (lane l (drop s cols)) i) (λ l. at (drop s (freeOf free (base + l))) i) (λ l h. ap (λ r. at r i) (map-drop (λ (col : Column). col l) s cols ∙ ap (drop s) (free-lane base free l)))
+
+-- the same of 64 pairs, as the code has them
+module _ {number free : ℕ} {ws : List ℕ} (f : FreeWords number free ws) (most : free ≤ 16) (others : ℕ) (secrets : List ℕ) (few : others * length secrets ≤ free) where
+  pub shares-packed : ((x : ℕ) → nth secrets x ≤ 1) → Packs 64 (λ l. completed others (bits secrets) (freeOf free (64 * number + l))) (allShares others (map (λ z. ones * z) secrets) ws)
+  shares-packed = sharing-packed 64 (64 * number) free ws (omega (arith, f .sized)) (f .are) others secrets few
+
+  pub tape-packed : Packs 64 (λ l. drop (others * length secrets) (freeOf free (64 * number + l))) (drop (others * length secrets) (take free ws))
+  tape-packed = drawn-packed 64 (64 * number) free ws (omega (arith, f .sized)) (f .are) others secrets few

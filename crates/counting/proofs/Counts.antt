@@ -1,31 +1,26 @@
 -- The list of counts that is written is that of the definition.
 use mathlib.Core.Path.{_≡_, refl, sym, ap, ap₂, subst, _∙_}
-use mathlib.Core.Bool.{Bool}
+use mathlib.Core.Bool.{Bool, true, false}
 use mathlib.Core.List.{List, [], _∷_, _++_, map}
 use Prim.Native.Nat.{ℕ, zero, suc, _+_, _*_, _-_, _^_, _≤_, _<_}
 use native.Mathlib.Nat.{zero-add}
 use native.Mathlib.Omega.{arith}
 use lib.ListN.{length, take, drop, getD, length-map, length-drop}
-use lib.Seq.{sets, sets-eq, length-take-le, take-all, getD-drop}
+use lib.Seq.{sets, sets-eq, length-take-le, getD-drop}
 use Rattle.circuit.specs.Lists.{nth, range, concatMap, overwrite}
 use Rattle.circuit.specs.Circuit.{Circuit, isSet}
 use Rattle.circuit.proofs.Base.{In, in-head, in-tail, range-in}
 use Rattle.semantics.specs.Values.{bits}
-use Rattle.gadgets.specs.Internal.Accepting.{AcceptedTable, circuitIn}
+use Rattle.gadgets.specs.Internal.Accepting.{circuitIn}
 use Rattle.counting.specs.Counting.{combinations, readWires, pairCount, countOf, numbersOf, countList}
 use Rattle.counting.specs.Internal.Pairs.{shownOf}
 use Rattle.counting.specs.Internal.Listing.{fourOf, listOf}
-use Rattle.counting.specs.Internal.Tallying.{Numbered, Countable, ReadIn, Tallied, ListsCounts}
-use Rattle.counting.proofs.Numbered.{pow-mono, combinations-length}
+use Rattle.counting.specs.Internal.Tallying.{Numbered, Countable, ReadIn, setOf, Tallied, ListsCounts}
+use Rattle.counting.proofs.Numbered.{pow-mono, by-place, combinations-length}
 use Rattle.counting.proofs.Shown.{count-shown}
-use Rattle.counting.proofs.Completing.{range-next}
-use Rattle.counting.proofs.Batches.{some-shares, part, part-is}
+use Rattle.counting.proofs.Batches.{some-shares}
 
--- a list by its places, and lists for the elements of a list
-by-place : {A : Type 0} (xs : List A) (d : A) → xs ≡ map (λ n. getD xs n d) (range 0 (length xs))
-by-place [] d = refl
-by-place (x ∷ xs) d = ap (λ r. x ∷ r) (by-place xs d ∙ sym (range-next (λ n. getD (x ∷ xs) n d) 0 (length xs)))
-
+-- lists for the elements of a list
 each-map : {A B : Type 0} (g : ℕ → A) (f : A → List B) (xs : List ℕ) → concatMap (map g xs) f ≡ concatMap xs (λ x. f (g x))
 each-map g f [] = refl
 each-map g f (x ∷ xs) = ap (λ r. f (g x) ++ r) (each-map g f xs)
@@ -79,33 +74,29 @@ few-taken (suc n) [] h x = omega arith
 few-taken (suc n) (y ∷ ys) h zero = h 0
 few-taken (suc n) (y ∷ ys) h (suc x) = few-taken n ys (λ z. h (suc z)) x
 
-module _ {table : List ℕ} {inputs randoms wires : ℕ} (n : Numbered table inputs randoms wires) (secrets : List ℕ) (both : length secrets ≡ inputs + inputs) (bit : (x : ℕ) → nth secrets x ≤ 1) where
-  abbrev one : List ℕ
-  one = part 0 inputs secrets
+module _ {table : List ℕ} {inputs randoms : ℕ} (n : Numbered table inputs randoms) (secrets : List ℕ) (both : length secrets ≡ inputs + inputs) (bit : (x : ℕ) → nth secrets x ≤ 1) where
+  pub set-countable : (second : Bool) → Countable table (setOf table second secrets)
+  set-countable false = record {
+    accepted = n .accepted;
+    few = n .few;
+    sized = length-take-le (circuitIn table .inputs) secrets (omega (arith, n .inputs-are));
+    bit = few-taken (circuitIn table .inputs) secrets bit;
+  }
+  set-countable true = record {
+    accepted = n .accepted;
+    few = n .few;
+    sized = length-drop (circuitIn table .inputs) secrets ∙ omega (arith, n .inputs-are);
+    bit = λ x. rw (getD-drop (circuitIn table .inputs) secrets x 0) (bit (circuitIn table .inputs + x));
+  }
 
-  abbrev other : List ℕ
-  other = part inputs (length secrets) secrets
-
-  first-is : one ≡ take inputs secrets
-  first-is = part-is 0 inputs secrets (omega arith) (omega arith)
-
-  second-is : other ≡ drop inputs secrets
-  second-is = part-is inputs (length secrets) secrets (omega arith) (omega arith) ∙ ap (drop inputs) (take-all (length secrets) secrets (omega arith))
-
-  pub first-set : Countable table one
-  first-set = rw first-is (record { accepted = n .accepted; few = n .few; sized = length-take-le inputs secrets (omega arith) ∙ n .inputs-are; bit = few-taken inputs secrets bit })
-
-  pub second-set : Countable table other
-  second-set = rw second-is (record { accepted = n .accepted; few = n .few; sized = length-drop inputs secrets ∙ omega (arith, n .inputs-are); bit = λ x. rw (getD-drop inputs secrets x 0) (bit (inputs + x)) })
-
-  pub lists : {read first second : List ℕ} {found : ℕ} → ReadIn table read found → Tallied table one (take found read) first → Tallied table other (take found read) second
+  pub lists : {read first second : List ℕ} {found : ℕ} → ReadIn table read found → Tallied table (setOf table false secrets) (take found read) first → Tallied table (setOf table true secrets) (take found read) second
       → (old : List ℕ) {new : List ℕ} → 1024 ≤ length old → (count pairs : ℕ) → count ≡ 2 ^ found → pairs ≡ pairCount (circuitIn table) → new ≡ sets old 0 (listOf first second pairs 0 count)
       → ListsCounts table secrets inputs (take found read) old new
   lists {read} {first} {second} {found} r t u old room count pairs count-is pairs-are f =
       let sized : length (take found read) ≡ found = length-take-le found read (omega (arith, r .few, r .sized)) in
       let c = circuitIn table in
       record {
-        is = λ probes e. sheet-is first-set second-set t u (omega (arith, sized, r .few)) probes e old room
+        is = λ probes e. sheet-is (set-countable false) (set-countable true) t u (omega (arith, sized, r .few)) probes e old room
             (f ∙ ap₂ (λ p m. sets old 0 (listOf first second p 0 m)) pairs-are (count-is ∙ ap (λ m. 2 ^ m) (sym sized)))
-            ∙ ap₂ (λ x y. overwrite (countList c probes (bits x) (bits y)) old) first-is second-is;
+            ∙ ap (λ m. overwrite (countList c probes (bits (take m secrets)) (bits (drop m secrets))) old) (sym (n .inputs-are));
       }

@@ -1,25 +1,25 @@
--- Bits of eight pairs in bytes, and the numbers that they make up.
+-- Bits of eight pairs in a byte of each column, and the numbers that they make up.
 use mathlib.Core.Path.{_≡_, refl, sym, ap, ap₂, _∙_}
-use mathlib.Core.Bool.{Bool, true, false, _&&_, cond}
+use mathlib.Core.Bool.{Bool, true, false, _&&_}
 use mathlib.Core.List.{List, [], _∷_, _++_, map, map-append}
 use Prim.Native.Nat.{ℕ, zero, suc, _+_, _*_, _/_, _%_, _^_, _≤_, _<_}
-use native.Mathlib.Nat.{pow-suc}
+use native.Mathlib.Nat.{pow-suc, zero-add}
 use native.Mathlib.Numerals.{add-one}
 use native.Mathlib.Omega.{arith}
-use lib.Bits.{bitAnd}
+use lib.Bits.{bitAnd, and-block}
 use lib.Dec.{ltb, eqb}
-use lib.ListN.{length, take, length-append, length-map}
-use lib.Seq.{take-suc}
+use lib.ListN.{length, length-append, length-map}
 use borrow.Author.Tests.{ltb-true, ltb-false, eqb-true}
-use Rattle.circuit.specs.Lists.{nth}
-use Rattle.circuit.specs.Circuit.{isSet}
+use Rattle.circuit.specs.Lists.{range}
 use Rattle.circuit.proofs.Base.{cases, and-left, and-right}
+use Rattle.circuit.proofs.Sizes.{range-length}
 use Rattle.semantics.specs.Values.{byte}
 use Rattle.gadgets.proofs.Bits.{set-byte}
-use Rattle.simulation.specs.Internal.Evaluating.{packed}
+use Rattle.gadgets.proofs.Ranges.{range-split}
 use Rattle.counting.specs.Internal.Pairs.{numberOf}
-use Rattle.counting.specs.Internal.Lanes.{laneBit, spreadOf, gathered, shownOn}
+use Rattle.counting.specs.Internal.Lanes.{laneBit, spreadOf, gathered, shownBy}
 use Rattle.counting.proofs.Numbered.{pow-mono, number-lt}
+use Rattle.counting.proofs.WordBits.{lane-part}
 
 -- a test that holds of all numbers below another
 allTo : (ℕ → Bool) → ℕ → Bool
@@ -60,19 +60,14 @@ two-halves b =
     joined : (h x y z w : ℕ) → (((h * 256 + x) * 256 + y) * 256 + z) * 256 + w ≡ h * 0x100000000 + ((((0 * 256 + x) * 256 + y) * 256 + z) * 256 + w)
     joined h x y z w = omega arith
 
--- lanes
-pub packed-lane : (n l : ℕ) (f : ℕ → Bool) → l < n → laneBit l (packed n f) ≡ f l
-packed-lane zero l f h = absurd (omega arith)
-packed-lane (suc n) zero f h = digit (f 0)
-  where
-    digit : (b : Bool) → isSet ((packed n (λ l. f (suc l)) * 2 + byte b) % 2) ≡ b
-    digit true = let e : (packed n (λ l. f (suc l)) * 2 + 1) % 2 ≡ 1 = omega arith in rw e
-    digit false = let e : (packed n (λ l. f (suc l)) * 2 + 0) % 2 ≡ 0 = omega arith in rw e
-packed-lane (suc n) (suc l) f h = ap (laneBit l) (half (f 0)) ∙ packed-lane n l (λ i. f (suc i)) (omega arith)
-  where
-    half : (b : Bool) → (packed n (λ l. f (suc l)) * 2 + byte b) / 2 ≡ packed n (λ l. f (suc l))
-    half true = omega arith
-    half false = omega arith
+-- the bits of a byte, both halves spread by one product
+pub byte-spread : (b : ℕ) → b < 256 → bitAnd ((b / 16 * 0x100000000 + b % 16) * 0x00204081) 0x0101010101010101 ≡ spreadOf 8 b
+byte-spread b h =
+    let high = b / 16 in
+    let low = b % 16 in
+    let e : (high * 0x100000000 + low) * 0x00204081 ≡ high * 0x00204081 * 0x100000000 + low * 0x00204081 = omega arith in
+    ap (λ n. bitAnd n 0x0101010101010101) e ∙ and-block 32 (high * 0x00204081) 0x01010101 (low * 0x00204081) 0x01010101 (omega arith) (omega arith)
+    ∙ ap₂ (λ x y. x * 0x100000000 + y) (half-spread high (omega arith)) (half-spread low (omega arith)) ∙ sym (two-halves b)
 
 pub spread-lanes : (n b : ℕ) → spreadOf n b ≡ gathered n (λ l. byte (laneBit l b))
 unfolding spreadOf gathered
@@ -105,24 +100,23 @@ number-next [] b = omega arith
 number-next (true ∷ bs) b = rw (length-append bs (b ∷ []), add-one (length bs), pow-suc 2 (length bs)) (omega (arith, number-next bs b))
 number-next (false ∷ bs) b = omega (arith, number-next bs b)
 
-pub half-small : (b : ℕ) → spreadOf 4 b < 0x100000000
-unfolding spreadOf
-half-small b = omega arith
-
 -- what eight pairs show on one wire more
-pub shown-small : (values wires : List ℕ) (l : ℕ) → length wires ≤ 8 → shownOn values wires l < 256
-shown-small values wires l few =
-    let bs = map (λ x. laneBit l (nth values x)) wires in
-    let n = number-lt bs in
-    omega (arith, n, pow-mono 8 (length bs) (omega (arith, length-map wires (λ x. laneBit l (nth values x)))))
+pub shown-small : (columns : ℕ → ℕ) (found l : ℕ) → found ≤ 8 → shownBy columns found l < 256
+shown-small columns found l few =
+    let bs = map (λ i. laneBit l (columns i)) (range 0 found) in
+    omega (arith, number-lt bs, pow-mono 8 (length bs) (omega (arith, length-map (range 0 found) (λ i. laneBit l (columns i)), range-length 0 found)))
 
-pub gather-turn : (values read : List ℕ) (i : ℕ) → i < length read → (numbers : ℕ) → numbers ≡ gathered 8 (shownOn values (take i read))
-    → 2 * numbers + spreadOf 8 (nth values (nth read i)) ≡ gathered 8 (shownOn values (take (i + 1) read))
-gather-turn values read i l numbers e =
-    let b = nth values (nth read i) in
-    ap₂ (λ x y. 2 * x + y) e (spread-lanes 8 b) ∙ gathered-twice 8 (shownOn values (take i read)) (λ j. byte (laneBit j b))
-    ∙ gathered-same 8 (λ j. 2 * shownOn values (take i read) j + byte (laneBit j b)) (shownOn values (take (i + 1) read))
-    (λ j h. rw (add-one i, take-suc read i 0 l, map-append) (sym (number-next (map (λ x. laneBit j (nth values x)) (take i read)) (laneBit j b))))
+shown-next : (columns : ℕ → ℕ) (i l : ℕ) → shownBy columns (i + 1) l ≡ 2 * shownBy columns i l + byte (laneBit l (columns i))
+shown-next columns i l =
+    let bit : ℕ → Bool = λ j. laneBit l (columns j) in
+    ap (λ r. numberOf (map bit r)) (range-split 0 i 1 ∙ ap (λ n. range 0 i ++ n ∷ []) (zero-add i)) ∙ ap numberOf (map-append bit (range 0 i) (i ∷ [])) ∙ number-next (map bit (range 0 i)) (bit i)
+
+pub gather-turn : (columns : ℕ → ℕ) (i numbers : ℕ) → numbers ≡ gathered 8 (shownBy columns i) → 2 * numbers + spreadOf 8 (columns i % 256) ≡ gathered 8 (shownBy columns (i + 1))
+gather-turn columns i numbers e =
+    let b = columns i % 256 in
+    ap₂ (λ x y. 2 * x + y) e (spread-lanes 8 b) ∙ gathered-twice 8 (shownBy columns i) (λ l. byte (laneBit l b))
+    ∙ gathered-same 8 (λ l. 2 * shownBy columns i l + byte (laneBit l b)) (shownBy columns (i + 1))
+    (λ l h. ap (λ t. 2 * shownBy columns i l + byte t) (lane-part 8 l (columns i) h) ∙ sym (shown-next columns i l))
 
 -- the first of them
 pub gathered-first : (n rest : ℕ) (f : ℕ → ℕ) → f 0 < 256 → rest ≡ gathered (suc n) f → (rest % 256 ≡ f 0) × (rest / 256 ≡ gathered n (λ l. f (suc l)))

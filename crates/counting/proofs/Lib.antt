@@ -7,9 +7,11 @@ pub mod Shown
 pub mod Marked
 -- The list as it is written
 pub mod Written
--- Eight pairs at once
+-- Many pairs at once
+pub mod WordBits
 pub mod Gathering
 pub mod Adding
+pub mod Columns
 pub mod FreeBits
 pub mod Completing
 pub mod Sharing
@@ -21,3 +23,7 @@ pub mod Counts
 -- The rules of the call
 pub mod Judging
 pub mod Calling
+-- The variables' words, and lists written one by one
+pub mod Filling
+-- What a batch shows, from the variables' words
+pub mod Preparing

@@ -9,6 +9,7 @@ use lib.Dec.{ltb, eqb}
 use lib.ListN.{length, getD, length-append, length-map, List·getD-append}
 use lib.Seq.{getD-append-add}
 use borrow.Author.Tests.{ltb-true, ltb-false, eqb-true, eqb-false, eq-eqb, ne-eqb}
+use Rattle.circuit.specs.Lists.{range}
 use Rattle.circuit.specs.Circuit.{isSet}
 use Rattle.circuit.proofs.Base.{cases}
 use Rattle.circuit.proofs.Numbered.{map-at}
@@ -28,6 +29,15 @@ pow-mono (suc m) n l = cases (ltb n (suc m))
 pub sum-to-same : (n : ℕ) (f g : ℕ → ℕ) → ((t : ℕ) → t < n → f t ≡ g t) → sumTo n f ≡ sumTo n g
 sum-to-same zero f g h = refl
 sum-to-same (suc n) f g h = ap₂ _+_ (sum-to-same n f g (λ t l. h t (omega arith))) (h n (omega arith))
+
+-- numbers one further, and a list by its places
+pub range-next : {A : Type 0} (f : ℕ → A) (m n : ℕ) → map f (range (suc m) n) ≡ map (λ i. f (suc i)) (range m n)
+range-next f m zero = refl
+range-next f m (suc n) = ap (λ r. f (suc m) ∷ r) (range-next f (suc m) n)
+
+pub by-place : {A : Type 0} (xs : List A) (d : A) → xs ≡ map (λ n. getD xs n d) (range 0 (length xs))
+by-place [] d = refl
+by-place (x ∷ xs) d = ap (λ r. x ∷ r) (by-place xs d ∙ sym (range-next (λ n. getD (x ∷ xs) n d) 0 (length xs)))
 
 -- numbers in pairs, the even one first
 sum-pairs : (n : ℕ) (f : ℕ → ℕ) → sumTo (n * 2) f ≡ sumTo n (λ t. f (t * 2 + 0)) + sumTo n (λ t. f (t * 2 + 1))

@@ -3,9 +3,11 @@ pub mod Pairs
 -- The wires that are read, and the list of counts
 pub mod Reading
 pub mod Listing
--- Eight pairs at once
+-- Many pairs at once
 pub mod Lanes
 pub mod Words
+-- Shares and random bits as sums
+pub mod Preparing
 -- All pairs of one set
 pub mod Tallying
 -- The rules before 25

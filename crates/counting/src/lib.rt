@@ -14,8 +14,10 @@ mod lanes;
 mod listing;
 mod numbers;
 mod pairs;
+mod prepare;
 mod read;
 mod tally;
+mod variables;
 
 use checker::Verdict;
 

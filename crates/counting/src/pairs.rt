@@ -1,43 +1,44 @@
-// Eight pairs of a sharing and a tape at once: their free bits, and the shares of given secret bits.
+// 64 pairs of a sharing and a tape at once: words of their free bits, and the shares of given secret bits.
 ghost use mathlib.Core.Path.{_≡_};
-ghost use Prim.Native.Nat.{ℕ, _+_, _*_, _≤_};
+ghost use Prim.Native.Nat.{_+_, _*_, _≤_, _<_};
 ghost use lib.ListN.{length, take, drop};
 ghost use lib.Seq.{sets};
-ghost use Rattle.circuit.specs.Lists.{nth};
-ghost use Rattle.counting.specs.Internal.Words.{FreeWords, sharesOf, allShares};
+ghost use Rattle.counting.specs.Internal.Words.{freeWord, sharesOf, allShares};
 
-// The free bits of eight pairs, whose numbers follow each other: of the lowest three each pair has its own, the others are the same.
-pub(crate) fn free_words(batch: usize, free: usize) -> [u8; 16]
-    requires { ⌜ free ≤ 16 ⌝ }
-    ensures { λ r. ⌜ FreeWords batch free r ⌝ }
+// The word of a bit that all 64 pairs have.
+pub(crate) const ONES: u64 = 0xFFFF_FFFF_FFFF_FFFF;
+
+// The word of a free bit of 64 pairs, whose numbers follow each other: of the lowest six each pair has its own, the others are the same.
+pub(crate) fn free_word(i: usize, number: usize) -> u64
+    requires { ⌜ i < 16 ⌝ }
+    ensures { λ r. ⌜ r ≡ freeWord i number ⌝ }
 {
-    let mut words = [0u8; 16];
-    words[0] = 0xAA;
-    words[1] = 0xCC;
-    words[2] = 0xF0;
-    let mut rest = batch;
-    let mut i = 3;
-    while i < free {
-        words[i] = 255 * (rest % 2) as u8;
-        rest = rest / 2;
-        i += 1;
+    if 5 < i {
+        return ONES * ((number >> (i - 6)) % 2) as u64;
     }
-    words
+    match i {
+        0 => 0xAAAA_AAAA_AAAA_AAAA,
+        1 => 0xCCCC_CCCC_CCCC_CCCC,
+        2 => 0xF0F0_F0F0_F0F0_F0F0,
+        3 => 0xFF00_FF00_FF00_FF00,
+        4 => 0xFFFF_0000_FFFF_0000,
+        _ => 0xFFFF_FFFF_0000_0000,
+    }
 }
 
-// The shares of a secret bit: free words, and the one that completes them.
+// The shares of a secret bit: free words, and the one that completes them to a given word.
 fn complete_one(
-    words: &[u8; 16],
+    words: &[u64; 16],
     from: usize,
     others: usize,
-    secret: u8,
-    shares: &mut [u8; 32],
+    whole: u64,
+    shares: &mut [u64; 32],
     at: usize,
 )
-    requires { ⌜ (from + others ≤ 16) × (at + others + 1 ≤ 32) × (secret ≤ 1) × (length (now words) ≡ 16) × (length (now shares) ≡ 32) ⌝ }
-    ensures { λ _. ⌜ now (shares .exit) ≡ sets (now (shares .entry)) at (sharesOf (255 * secret) (take others (drop from (now (words .entry))))) ⌝ }
+    requires { ⌜ (from + others ≤ 16) × (at + others + 1 ≤ 32) × (length (now words) ≡ 16) × (length (now shares) ≡ 32) ⌝ }
+    ensures { λ _. ⌜ now (shares .exit) ≡ sets (now (shares .entry)) at (sharesOf whole (take others (drop from (now (words .entry))))) ⌝ }
 {
-    let mut last = 255 * secret;
+    let mut last = whole;
     let mut i = 0;
     while i < others {
         let word = words[from + i];
@@ -48,16 +49,16 @@ fn complete_one(
     shares[at + others] = last;
 }
 
-// The shares of all secret bits.
-pub(crate) fn complete(words: &[u8; 16], secrets: &[u8], others: usize, shares: &mut [u8; 32])
-    requires { ⌜ (1 ≤ others) × (others * length (now secrets) ≤ 16) × ((x : ℕ) → nth (now secrets) x ≤ 1) × (length (now words) ≡ 16) × (length (now shares) ≡ 32) ⌝ }
-    ensures { λ _. ⌜ now (shares .exit) ≡ sets (now (shares .entry)) 0 (allShares others (now (secrets .entry)) (now (words .entry))) ⌝ }
+// The shares of all secret bits, from the words that they complete to.
+pub(crate) fn complete(words: &[u64; 16], lasts: &[u64], others: usize, shares: &mut [u64; 32])
+    requires { ⌜ (1 ≤ others) × (others * length (now lasts) ≤ 16) × (length (now words) ≡ 16) × (length (now shares) ≡ 32) ⌝ }
+    ensures { λ _. ⌜ now (shares .exit) ≡ sets (now (shares .entry)) 0 (allShares others (now (lasts .entry)) (now (words .entry))) ⌝ }
 {
     let mut from = 0;
     let mut at = 0;
     let mut j = 0;
-    while j < secrets.len() {
-        complete_one(words, from, others, secrets[j], shares, at);
+    while j < lasts.len() {
+        complete_one(words, from, others, lasts[j], shares, at);
         from += others;
         at += others + 1;
         j += 1;

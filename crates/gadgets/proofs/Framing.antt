@@ -1,25 +1,26 @@
 -- A frame that fits a circuit: what its code rests on, and the gates of its wires.
 use mathlib.Core.Path.{_≡_, refl, sym, ap, subst, _∙_}
+use mathlib.Core.Bool.{true, false}
 use mathlib.Core.List.{List, [], _∷_, _++_, map}
 use Prim.Native.Nat.{ℕ, suc, _+_, _*_, _-_, _≤_, _<_}
 use native.Mathlib.Omega.{arith}
-use lib.ListN.{length, getD, length-append, List·getD-append}
+use lib.ListN.{length, getD, length-append, length-map, List·getD-append}
 use lib.Seq.{getD-append-add}
 use Rattle.circuit.specs.Lists.{nth}
-use Rattle.circuit.specs.Wires.{Gate, input, constant, reg, inverse, sum, named, Wire, _placed_}
-use Rattle.circuit.specs.Gadgets.{labels}
+use Rattle.circuit.specs.Wires.{Gate, input, constant, reg, inverse, sum, named, inner, Wire, _placed_}
+use Rattle.circuit.specs.Gadgets.{Part, labels, gate, delay, inAND, index, gadget}
 use Rattle.circuit.specs.Kinds.{Kind, HEAD, IN, CON, XOR, NOT, REG, AND, REF, OUT, shape}
-use Rattle.circuit.specs.Circuit.{Circuit, size, isSet, newStage, made, extend}
+use Rattle.circuit.specs.Circuit.{Circuit, size, place, shownBy, lookUp, isNamed, stageShown, isSet, newStage, made, extend}
 use Rattle.circuit.specs.Composition.{Frame, Fits, fit-IN, fit-CON, fit-XOR, fit-NOT, fit-REG, fit-AND, fit-REF, fit-OUT, build}
-use Rattle.circuit.proofs.Base.{AllFrom}
+use Rattle.circuit.proofs.Base.{AllFrom, all-map, all-any}
 use Rattle.circuit.proofs.Building.{named-made, size-extend}
-use Rattle.circuit.proofs.Numbered.{all-at, get-all}
-use Rattle.circuit.proofs.Sizes.{made-size}
+use Rattle.circuit.proofs.Numbered.{all-at, get-all, all-default}
+use Rattle.circuit.proofs.Sizes.{made-size, and-size}
 use Rattle.frames.specs.Walk.{kindCode, frameCode}
-use Rattle.gadgets.specs.Internal.Places.{wordA, wordB}
+use Rattle.gadgets.specs.Internal.Places.{wordA, wordB, crossStart}
 use Rattle.semantics.proofs.Solving.{nothing, gateAt}
 use Rattle.gadgets.specs.Internal.Gates.{FrameGates}
-use Rattle.gadgets.specs.Internal.Frames.{frameWires, FrameEarly, FrameSupplied}
+use Rattle.gadgets.specs.Internal.Frames.{frameWires, FrameEarly, FrameSupplied, FrameNames, FrameHides}
 use Rattle.gadgets.proofs.Placed.{and-gates, ref-gates}
 
 -- the numbers of a circuit grow
@@ -55,6 +56,17 @@ frame-early k _ _ (fit-REG x l t p o) = named-made k x l t p
 frame-early k _ _ (fit-AND ops t len first p q o) = (len, (λ i l. named-made k (nth ops (1 + i)) i (suc t) (p i l)), (λ i l. named-made k (nth ops (1 + k .d + i)) i t (q i l)))
 frame-early k _ _ (fit-REF ops t len first p o) = (omega (arith, len), (λ i l. named-made k (nth ops (1 + i)) i t (p i l)))
 frame-early k _ _ (fit-OUT ops t len p q) = tt
+
+-- what holds of every wire that is named holds of those that it names
+pub frame-names : (k : Circuit) (P : ℕ → Type 0) → ((x l t : ℕ) → place k x ≡ named l t → P x) → (kind : Kind) (ops : List ℕ) → Fits k kind ops → FrameNames (frameCode (kindCode kind) ops) (k .d) ops P
+frame-names k P told _ _ (fit-IN t o) = tt
+frame-names k P told _ _ (fit-CON l b t p q o) = tt
+frame-names k P told _ _ (fit-XOR x y l t p q) = (told x l t p, told y l t q)
+frame-names k P told _ _ (fit-NOT x l t p) = told x l t p
+frame-names k P told _ _ (fit-REG x l t p o) = told x l t p
+frame-names k P told _ _ (fit-AND ops t len first p q o) = ((λ i l. told _ i (suc t) (p i l)), (λ i l. told _ i t (q i l)))
+frame-names k P told _ _ (fit-REF ops t len first p o) = λ i l. told _ i t (p i l)
+frame-names k P told _ _ (fit-OUT ops t len p q) = tt
 
 pub frame-supplied : (d from used shares tape : ℕ) (ops : List ℕ) (kind : Kind) → from + d * shape d kind .inputs ≤ shares → used + shape d kind .randoms ≤ tape
     → FrameSupplied (frameCode (kindCode kind) ops) d from used shares tape
@@ -107,3 +119,21 @@ frame-gates k ops more REG = one-gate k ops REG more (reg (nth ops 0)) (omega ar
 frame-gates k ops more AND = and-gates (k .wires) more (k .d) (wordA ops) (wordB (k .d) ops) _ _
 frame-gates k ops more REF = ref-gates (k .wires) more (k .d) (wordA ops) (wordA ops) _ _
 frame-gates k ops more OUT = tt
+
+-- the wires inside AND are hidden
+and-hides : (k : Circuit) (ops : List ℕ) (more : List Wire) (x : ℕ) → size k ≤ x → x < size k + crossStart (k .d) (k .d) → isNamed (shownBy (getD ((k .wires ++ made k ops AND) ++ more) x nothing)) ≡ false
+unfolding made gadget shape
+and-hides k ops more x l u =
+    let i = x - size k in
+    let e : x ≡ size k + i = omega arith in
+    let inside = inAND (k .d) in
+    let inner-few : i < length inside = omega (arith, and-size (k .d)) in
+    let part : Part → Wire = λ p. gate (k .d) (λ j. nth ops (1 + j)) (λ j. nth ops (1 + k .d + j)) (λ q. size k + index q inside) p placed inner (stageShown (lookUp k (nth ops (1 + k .d))) + delay p) in
+    ap (λ n. isNamed (shownBy (getD ((k .wires ++ made k ops AND) ++ more) n nothing))) e
+    ∙ ap (λ w. isNamed (shownBy w)) (List·getD-append (k .wires ++ made k ops AND) more nothing (size k + i) (omega (arith, length-append (k .wires) (made k ops AND), made-size k ops AND))
+    ∙ getD-append-add (k .wires) (made k ops AND) i nothing ∙ List·getD-append (map part inside) _ nothing i (omega (arith, length-map inside part)))
+    ∙ all-default (λ w. isNamed (shownBy w) ≡ false) nothing refl 0 (map part inside) i (all-map _ part 0 inside (all-any _ (λ y p. refl) 0 inside))
+
+pub frame-hides : (k : Circuit) (ops : List ℕ) (more : List Wire) (kind : Kind)
+    → FrameHides (frameCode (kindCode kind) ops) (k .d) (size k) (λ x. isNamed (shownBy (getD ((k .wires ++ made k ops kind) ++ more) x nothing)) ≡ false)
+frame-hides k ops more = elim [ HEAD ↦ tt | IN ↦ tt | CON ↦ tt | XOR ↦ tt | NOT ↦ tt | REG ↦ tt | AND ↦ and-hides k ops more | REF ↦ tt | OUT ↦ tt ]

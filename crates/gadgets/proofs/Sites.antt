@@ -1,5 +1,5 @@
 -- The number of each part of AND and of REF, in closed form.
-use mathlib.Core.Path.{_≡_, refl, ap, _∙_}
+use mathlib.Core.Path.{_≡_, refl, ap, ap₂, _∙_}
 use mathlib.Core.Bool.{true, cond}
 use mathlib.Core.List.{List, [], _∷_}
 use Prim.Native.Nat.{ℕ, zero, suc, _+_, _*_, _-_, _≤_, _<_}
@@ -42,6 +42,17 @@ row-most d i (suc k) h = simp add-suc (omega (arith, row-next d (i + k) (omega a
 
 pub row-few : (d i : ℕ) → i ≤ d → rowStart d i ≤ pairs d
 row-few d i h = let e : i + (d - i) ≡ d = omega arith in rw (e, row-last d) at (row-most d i (d - i) (omega arith))
+
+-- the pairs before a row, and those from it on, are all
+pub row-rest : (d i : ℕ) → i < d → rowStart d i + pairs (d - i) ≡ pairs d
+row-rest d i h =
+    let m = d - suc i in
+    let d-is : d ≡ i + suc m = omega arith in
+    let before : 2 * rowStart d i ≡ i * (i + 1 + 2 * m) = row-twice d i (omega arith) ∙ ap (λ n. i * n) (omega arith) in
+    let rest : d - i ≡ suc m = omega arith in
+    let later : pairs (d - i) * 2 ≡ suc m * m = ap (λ n. pairs n * 2) rest ∙ pairs-twice (suc m) ∙ ap (λ n. suc m * n) (omega arith) in
+    let all : pairs d * 2 ≡ (i + suc m) * (i + m) = pairs-twice d ∙ ap₂ _*_ d-is (omega arith) in
+    omega (arith, before, later, all)
 
 -- the place of a pair is one of all pairs
 pub pair-lt : (d i j : ℕ) → i < d → j < d → (j ≡ i → ⊥) → pairSite d i j < pairs d

@@ -1,22 +1,22 @@
 -- The walk over an accepted table: it stands between two of its frames, and each step meets the next.
 use mathlib.Core.Path.{_≡_, refl, sym, ap, subst, _∙_}
-use mathlib.Core.Bool.{true, _&&_}
+use mathlib.Core.Bool.{true, false, _&&_}
 use mathlib.Core.List.{List, [], _∷_, _++_, append-assoc}
 use Prim.Native.Nat.{ℕ, suc, _+_, _*_, _≤_, _<_}
 use native.Mathlib.Omega.{arith}
 use lib.Dec.{leb}
-use lib.ListN.{length, drop, length-append, length-drop}
+use lib.ListN.{length, getD, drop, length-append, length-drop}
 use lib.Seq.{drop-drop, getD-drop, take-at, drop-at}
 use borrow.Author.Tests.{lt-ltb, le-ltb, le-leb}
 use Rattle.circuit.specs.Limits.{wireLimit, tableLimit, notesRoom}
 use Rattle.circuit.specs.Lists.{nth}
-use Rattle.circuit.specs.Wires.{Wire}
+use Rattle.circuit.specs.Wires.{named, Wire}
 use Rattle.circuit.specs.Kinds.{Kind, kindOf, pairs, shape, words}
-use Rattle.circuit.specs.Circuit.{Circuit, size, empty, made, extend}
+use Rattle.circuit.specs.Circuit.{Circuit, size, empty, place, shownBy, lookUp, isNamed, made, extend}
 use Rattle.circuit.specs.Rules.{checked}
 use Rattle.circuit.specs.Composition.{Frame, Fits, fit-IN, fit-CON, fit-XOR, fit-NOT, fit-REG, fit-AND, fit-REF, fit-OUT, AllFit, next, build, kindWord, wordsOf}
 use Rattle.circuit.proofs.Base.{and-both}
-use Rattle.circuit.proofs.Building.{build-more, build-append, build-shares, build-intime, fit-split, size-extend}
+use Rattle.circuit.proofs.Building.{build-more, build-append, build-shares, build-intime, fit-split, size-extend, named-made, named-told, wire-kept}
 use Rattle.circuit.proofs.Fitting.{kind-known, fit-meets}
 use Rattle.circuit.proofs.Exact.{Accepted, complete, accepted-size}
 use Rattle.semantics.proofs.Earlier.{accepted-early}
@@ -28,11 +28,11 @@ use Rattle.frames.specs.declared.kinds.Shape.{Shape as ShapeCode}
 use Rattle.frames.specs.Randoms.{listedPairs}
 use Rattle.frames.specs.Walk.{kindCode, shapeCode, frameCode, operandsAt, behind, stepAt}
 use Rattle.frames.proofs.RandomBits.{listed-right}
-use Rattle.semantics.proofs.Solving.{gateAt, OrderedFrom}
+use Rattle.semantics.proofs.Solving.{nothing, gateAt, OrderedFrom}
 use Rattle.gadgets.specs.Internal.Gates.{FrameGates}
-use Rattle.gadgets.specs.Internal.Frames.{frameWires, Small, FrameEarly, FrameSupplied}
+use Rattle.gadgets.specs.Internal.Frames.{frameWires, Small, FrameEarly, FrameSupplied, FrameNames, FrameHides}
 use Rattle.gadgets.specs.Internal.Accepting.{AcceptedTable, circuitIn, Between}
-use Rattle.gadgets.proofs.Framing.{inputs-more, randoms-more, wires-same, frame-early, frame-supplied, frame-gates}
+use Rattle.gadgets.proofs.Framing.{inputs-more, randoms-more, wires-same, frame-early, frame-names, frame-supplied, frame-gates, frame-hides}
 
 -- a table accepted with any notes is accepted with the shortest, and has the same circuit
 pub least-notes : {table : List ℕ} {room : ℕ} → Accepted table room → AcceptedTable table
@@ -89,6 +89,8 @@ pub record Met {table : List ℕ} (a : AcceptedTable table) {at : ℕ} (b : Betw
   pub early : FrameEarly fr d w (operandsAt table d at)
   pub supplied : (used shares tape : ℕ) → from + d * sh .inputs ≤ shares → used + sh .randoms ≤ tape → FrameSupplied fr d from used shares tape
   pub gates : FrameGates fr d w from (operandsAt table d at) (gateAt (whole a .wires))
+  pub names : FrameNames fr d (operandsAt table d at) (λ x. isNamed (lookUp (whole a) x) ≡ true)
+  pub hides : FrameHides fr d w (λ x. isNamed (lookUp (whole a) x) ≡ false)
   pub same : wk .d ≡ d
   pub place : wk .at ≡ at + 1 + words d (kindOf (nth table at))
   pub later : at + 2 ≤ wk .at
@@ -123,6 +125,10 @@ module _ {table : List ℕ} (a : AcceptedTable table) {at : ℕ} (b : Between ta
 
   pub randoms-grow : k .randoms ≤ whole a .randoms
   randoms-grow = rw all-built (randoms-more k (b .after))
+
+  -- a wire that is named there is named in the whole
+  named-whole : (x l t : ℕ) → place k x ≡ named l t → isNamed (lookUp (whole a) x) ≡ true
+  named-whole x l t h = ap (λ (c : Circuit). isNamed (lookUp c x)) all-built ∙ ap (λ w. isNamed (shownBy w)) (wire-kept k (b .after) x (named-made k x l t h)) ∙ named-told k x h
 
   pub ended : b .after ≡ [] → stepAt table (a .d) at ≡ End
   ended e = rw (le-ltb at (length table) (omega (arith, length-drop at table, ap length (b .rest ∙ ap wordsOf e))))
@@ -199,6 +205,8 @@ module _ {table : List ℕ} (a : AcceptedTable table) {at : ℕ} (b : Between ta
           early = rw ops-are (at-d (λ n. FrameEarly (frameCode (kindCode kind) (f .ops)) n (size k) (f .ops)) (frame-early k kind (f .ops) fits));
           supplied = λ used shares tape. frame-supplied (a .d) (k .inputs * a .d) used shares tape (f .ops) kind;
           gates = rw (ops-are, wires-are) (at-d (λ n. FrameGates (frameCode (kindCode kind) (f .ops)) n (size k) (k .inputs * n) (f .ops) (gateAt ((k .wires ++ made k (f .ops) kind) ++ more))) (frame-gates k (f .ops) more kind));
+          names = rw ops-are (at-d (λ n. FrameNames (frameCode (kindCode kind) (f .ops)) n (f .ops) (λ x. isNamed (lookUp (whole a) x) ≡ true)) (frame-names k (λ x. isNamed (lookUp (whole a) x) ≡ true) named-whole kind (f .ops) fits));
+          hides = rw wires-are (at-d (λ n. FrameHides (frameCode (kindCode kind) (f .ops)) n (size k) (λ x. isNamed (shownBy (getD ((k .wires ++ made k (f .ops) kind) ++ more) x nothing)) ≡ false)) (frame-hides k (f .ops) more kind));
           same = refl;
           place = rw (word-is, kind-known kind);
           later = omega (arith, fit-wide fits, meets .2);

@@ -2,7 +2,7 @@
 ghost use mathlib.Core.Path.{_≡_};
 ghost use Prim.Native.Nat.{_+_, _*_, _/_, _-_, _≤_, _<_};
 ghost use lib.ListN.{length};
-ghost use Rattle.gadgets.specs.Internal.Places.{wordA, wordB, rowStart, pairSite, slotOf, crossStart, pairAt, productAt, crossAt, outAt, sumAt};
+ghost use Rattle.gadgets.specs.Internal.Places.{wordA, wordB, rowStart, pairSite, slotOf, crossStart, pairAt, productAt, crossAt, outAt, maskAt, sumAt};
 ghost use Rattle.gadgets.specs.Internal.Frames.{Small};
 use frames::randoms::random_bits;
 
@@ -20,6 +20,14 @@ fn twice_row_start(d: usize, i: usize) -> usize
     ensures { λ r. ⌜ (r ≡ 2 * rowStart d i) × (r ≤ 128) ⌝ }
 {
     i * (2 * d - i - 1)
+}
+
+// The pairs of shares that come before those whose lower share is i.
+fn row_start(d: usize, i: usize) -> usize
+    requires { ⌜ (i < d) × (d ≤ 8) ⌝ }
+    ensures { λ r. ⌜ (r ≡ rowStart d i) × (r ≤ 28) ⌝ }
+{
+    pairs(d) - pairs(d - i)
 }
 
 // The place of AND's r of two different shares among its wires r and R, of which each pair has one.
@@ -81,6 +89,20 @@ pub fn out_at(d: usize, first: usize, i: usize) -> usize
     ensures { λ r. ⌜ (r ≡ outAt d first i) × (r ≤ first + 520) ⌝ }
 {
     first + cross_start(d, d) + i
+}
+
+// Where a random bit of the shares i and j stands, behind those before its gadget.
+pub fn mask_at(d: usize, first: usize, i: usize, j: usize) -> usize
+    requires { ⌜ Small first d × (i < d) × (j < d) ⌝ }
+    ensures { λ r. ⌜ (r ≡ maskAt d first i j) × (r ≤ first + 40) ⌝ }
+{
+    if i < j {
+        return first + row_start(d, i) + (j - i - 1);
+    }
+    if j < i {
+        return first + row_start(d, j) + (i - j - 1);
+    }
+    first
 }
 
 // REF's sum of the share i.

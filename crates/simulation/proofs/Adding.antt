@@ -12,7 +12,7 @@ use Rattle.gadgets.proofs.Ranges.{range-turn, range-end, others-split}
 use Rattle.simulation.specs.Internal.Filling.{Values, wordSum}
 
 -- the sum of two digits is one, and it does not matter in which order three are added
-digit : (x y : ℕ) → x < 2 → y < 2 → differ x y < 2
+pub digit : (x y : ℕ) → x < 2 → y < 2 → differ x y < 2
 digit zero y h k = k
 digit (suc zero) zero h k = h
 digit (suc zero) (suc zero) h k = omega arith
@@ -28,7 +28,7 @@ digit-assoc (suc zero) (suc zero) (suc (suc z)) h k l = absurd (omega arith)
 digit-assoc (suc zero) (suc (suc y)) z h k l = absurd (omega arith)
 digit-assoc (suc (suc x)) y z h k l = absurd (omega arith)
 
-low : (a b : ℕ) → bitXor a b % 2 ≡ differ (a % 2) (b % 2)
+pub low : (a b : ℕ) → bitXor a b % 2 ≡ differ (a % 2) (b % 2)
 low a b = omega (arith, xor-step a b, digit (a % 2) (b % 2) (omega arith) (omega arith))
 
 pub xor-assoc : (a b e : ℕ) → bitXor (bitXor a b) e ≡ bitXor a (bitXor b e)
@@ -53,7 +53,7 @@ wordSum-map f g [] = refl
 wordSum-map f g (x ∷ xs) = ap (bitXor (f (g x))) (wordSum-map f g xs)
 
 -- (a + b) + (e + h) = (a + e) + (b + h)
-middle : (a b e h : ℕ) → bitXor (bitXor a b) (bitXor e h) ≡ bitXor (bitXor a e) (bitXor b h)
+pub middle : (a b e h : ℕ) → bitXor (bitXor a b) (bitXor e h) ≡ bitXor (bitXor a e) (bitXor b h)
 middle a b e h = xor-assoc a b (bitXor e h) ∙ ap (bitXor a) (sym (xor-assoc b e h) ∙ ap (λ z. bitXor z h) (xor-comm b e) ∙ xor-assoc e b h) ∙ sym (xor-assoc a e (bitXor b h))
 
 pub wordSum-xor : (f g : Values) (xs : List ℕ) → wordSum xs (λ i. bitXor (f i) (g i)) ≡ bitXor (wordSum xs f) (wordSum xs g)

@@ -34,7 +34,7 @@ use Rattle.simulation.proofs.Packing.{wordValue, packed-value}
 use Rattle.simulation.proofs.Ranks.{pairs-rank, masks-rank}
 
 -- different shares, where the one is among the others of the other
-apart : (d i j : ℕ) → i < d → In j (others d i) → (j < d) × (j ≡ i → ⊥)
+pub apart : (d i j : ℕ) → i < d → In j (others d i) → (j < d) × (j ≡ i → ⊥)
 apart d i j l h = let o = others-pair d i j l h in (o .snd, λ e. eqb-false i j (o .apart) (sym e))
 
 module _ (ws : List Wire) (early : OrderedFrom 0 ws) (ones : ℕ) (shares tape : List ℕ)

@@ -32,7 +32,7 @@ module _ (op : ℕ → ℕ → ℕ) (o : Bool → Bool → Bool) (none : op 0 0 
 pub packed-xor : (n : ℕ) (f g : ℕ → Bool) → packed n (λ l. f l ⊕ g l) ≡ bitXor (packed n f) (packed n g)
 packed-xor = packed-both bitXor _⊕_ refl byte-xor xor-block
 
-packed-and : (n : ℕ) (f g : ℕ → Bool) → packed n (λ l. f l && g l) ≡ bitAnd (packed n f) (packed n g)
+pub packed-and : (n : ℕ) (f g : ℕ → Bool) → packed n (λ l. f l && g l) ≡ bitAnd (packed n f) (packed n g)
 packed-and = packed-both bitAnd _&&_ refl byte-and and-block
 
 pub packed-none : (n : ℕ) → packed n (λ l. false) ≡ 0

@@ -1,5 +1,5 @@
 -- Hexadecimal digits and words, as the code reads them.
-use mathlib.Core.Path.{_≡_, ap, _∙_}
+use mathlib.Core.Path.{_≡_, sym, ap, _∙_}
 use mathlib.Core.Bool.{true, _&&_, false≢true}
 use mathlib.Core.List.{List, [], _∷_}
 use Prim.Native.Nat.{ℕ, suc, _+_, _*_, _≤_}
@@ -10,7 +10,7 @@ use lib.Seq.{drop-cons}
 use borrow.Author.Tests.{leb-true, le-leb, lt-leb}
 use Rattle.circuit.proofs.Base.{cases, and-left, and-right}
 use Rattle.text.specs.Lines.{lineFeed, isDecimal, isLetter, isDigit, digit, areDigits, word}
-use Rattle.text.specs.Internal.Scan.{isMark, feedOf, noCode, digitCode, markCode, pairCode, isWord, valueIn}
+use Rattle.text.specs.Internal.Scan.{isMark, feedOf, noCode, digitCode, markCode, pairCode, Coded, isWord, valueIn}
 
 digit-small : (b : ℕ) → isDigit b ≡ true → digit b ≤ 15
 digit-small b h = cases (isDecimal b)
@@ -39,6 +39,10 @@ pub record Known (b : ℕ) : Type 0 where
 known : (b : ℕ) → isDigit b ≡ true → Known b
 unfolding digitCode
 known b h = record { is = h; value = rw h; small = digit-small b h }
+
+-- two digits
+pair-value : {a b : ℕ} → Known a → Known b → (pairCode a b ≡ digit a * 16 + digit b) × (pairCode a b ≤ 255)
+pair-value p q = (omega (arith, p .value, q .value), omega (arith, p .value, q .value))
 
 -- the four digits of a word
 pub record Digits (a b c e : ℕ) : Type 0 where
@@ -73,10 +77,6 @@ sum-of-codes a b c e s = cases (isDigit a)
     (λ r. rw (p, q, r) (lt-leb (digit a * 16 + digit b + (noCode * 16 + digitCode e) + markCode s) 511 (omega arith))))
     (λ q. rw (p, q) (lt-leb (digit a * 16 + noCode + (digitCode c * 16 + digitCode e) + markCode s) 511 (omega arith))))
     (λ p. rw p (lt-leb (noCode * 16 + digitCode b + (digitCode c * 16 + digitCode e) + markCode s) 511 (omega arith)))
-
--- the same of numbers that are the codes
-pub sum-of : {x y m : ℕ} (a b c e s : ℕ) → x ≡ pairCode a b → y ≡ pairCode c e → m ≡ markCode s → leb (x + y + m) 511 ≡ (areDigits a b c e && isMark s)
-sum-of a b c e s p q r = rw (p, q, r) (sum-of-codes a b c e s)
 
 -- five bytes at a place of a text
 pub five : (l : List ℕ) (i : ℕ) → i + 5 ≤ length l
@@ -127,3 +127,17 @@ module _ (l : List ℕ) (i : ℕ) (h : isWord (drop i l) ≡ true) where
   pub word-value : valueIn (drop i l) ≡ word (getD l i 0) (getD l (i + 1) 0) (getD l (i + 2) 0) (getD l (i + 3) 0)
   unfolding valueIn
   word-value = rw (five l i word-inside)
+
+-- the codes at a place: the test tells whether they are a word's, and a word's give its value and whether the line ends
+module _ {l : List ℕ} {i high low mark : ℕ} (k : Coded l i high low mark) where
+  pub coded-word : leb (high + low + mark) 511 ≡ isWord (drop i l)
+  coded-word = rw (k .first, k .second, k .behind) (sum-of-codes _ _ _ _ _ ∙ sym (word-test l i (k .inside)))
+
+  pub coded-value : isWord (drop i l) ≡ true → (high ≤ 255) × (low ≤ 255) × (high * 256 + low ≡ valueIn (drop i l))
+  coded-value h =
+      let p = pair-value (word-digits l i h .first) (word-digits l i h .second) in
+      let q = pair-value (word-digits l i h .third) (word-digits l i h .last) in
+      (omega arith, omega arith, omega (arith, word-value l i h))
+
+  pub coded-mark : isWord (drop i l) ≡ true → mark ≡ feedOf (getD l (i + 4) 0)
+  coded-mark h = k .behind ∙ word-mark l i h

@@ -52,15 +52,14 @@ pub(crate) fn split(
     let mut lines = 0;
     let mut k = 0;
     while k < most {
-        let i = at + 5 * k;
-        if !digits::is_word(codes, text, i) {
+        let word = digits::word_at(codes, text, at + 5 * k);
+        if !digits::is_whole(word) {
             return lines;
         }
-        let ended = digits::mark(codes, text[i + 4]);
-        block[k] = digits::value(codes, text, i);
+        block[k] = digits::number(word);
         k += 1;
         ends[lines] = k as u16;
-        lines += ended;
+        lines += word.mark;
     }
     lines
 }

@@ -117,7 +117,8 @@ list-counts-requires c κs =
     let n = numbers v in
     let r = m .list-read .ensures in
     record {
-      numbered = record { accepted = n .of .of .accepted; few = subst (λ (z : Circuit). freeBits z ≤ 16) (n .of .of .circuit-is) (n .of .few); inputs-are = n .inputs ∙ ap (λ (z : Circuit). z .inputs) (n .of .of .circuit-is); randoms-are = n .randoms; wires-are = n .wires };
+      numbered = record { accepted = n .of .of .accepted; few = subst (λ (z : Circuit). freeBits z ≤ 16) (n .of .of .circuit-is) (n .of .few); inputs-are = n .inputs ∙ ap (λ (z : Circuit). z .inputs) (n .of .of .circuit-is); randoms-are = n .randoms };
+      wires-are = n .wires;
       sized = omega (arith, n .of .sized, n .inputs);
       bit = n .of .bit;
       read-in = record { few = e .if1 .left; sized = r .sized; made = λ i h. r .made i h (omega arith) };

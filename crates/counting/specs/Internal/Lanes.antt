@@ -1,16 +1,16 @@
--- Numbers of eight pairs in the bytes of a word, from bits of eight pairs in the bits of a byte.
+-- Numbers of eight pairs in the bytes of a word, from bits of 64 pairs in the bits of words; and numbers counted in a tally.
 use mathlib.Core.Path.{_≡_}
 use mathlib.Core.Bool.{Bool, cond}
 use mathlib.Core.List.{List, map}
-use Prim.Native.Nat.{ℕ, zero, suc, _+_, _*_, _/_, _%_, _<_}
+use Prim.Native.Nat.{ℕ, zero, suc, _+_, _-_, _*_, _/_, _%_, _<_}
 use lib.Dec.{eqb}
 use lib.ListN.{length}
-use Rattle.circuit.specs.Lists.{nth}
+use Rattle.circuit.specs.Lists.{nth, range}
 use Rattle.circuit.specs.Circuit.{isSet}
 use Rattle.counting.specs.Internal.Pairs.{sumTo, numberOf}
 
--- the bit of a pair in a byte
-abbrev pub laneBit : (lane byte : ℕ) → Bool
+-- the bit of a pair in a word
+abbrev pub laneBit : (lane word : ℕ) → Bool
 laneBit zero b = isSet (b % 2)
 laneBit (suc l) b = laneBit l (b / 2)
 
@@ -24,11 +24,31 @@ unfoldable pub gathered : ℕ → (ℕ → ℕ) → ℕ
 gathered zero f = 0
 gathered (suc n) f = gathered n (λ l. f (suc l)) * 256 + f 0
 
--- the number of the combination that a pair shows on wires
-abbrev pub shownOn : (values wires : List ℕ) (lane : ℕ) → ℕ
-shownOn values wires l = numberOf (map (λ x. laneBit l (nth values x)) wires)
+-- the number of the combination that a pair shows, from a word for each of so many wires
+abbrev pub shownBy : (columns : ℕ → ℕ) (found lane : ℕ) → ℕ
+shownBy columns found l = numberOf (map (λ i. laneBit l (columns i)) (range 0 found))
 
--- one more is counted at each of the first so many numbers
-pub record Adds (numbers lanes : ℕ) (old new : List ℕ) : Type 0 where
-  pub added : (f : ℕ → ℕ) → ((l : ℕ) → f l < 256) → numbers ≡ gathered 8 f → (n : ℕ) → n < 256 → nth new n ≡ nth old n + sumTo lanes (λ l. cond (eqb (f l) n) 1 0)
+-- the wires' words at one of the four places that each has; and what a pair of a batch shows by them
+abbrev pub columnOf : (shown : List ℕ) (word i : ℕ) → ℕ
+columnOf shown word i = nth shown (4 * i + word)
+
+abbrev pub shownIn : (shown : List ℕ) (found pair : ℕ) → ℕ
+shownIn shown found u = shownBy (columnOf shown (u / 64)) found (u % 64)
+
+-- a number, or the most that there may be
+abbrev pub atMost : (n most : ℕ) → ℕ
+atMost n most = n - (n - most)
+
+-- the words at one place, in a list of their own; and each word without its lowest eight bits
+pub record Picks (shown : List ℕ) (word : ℕ) (columns : List ℕ) : Type 0 where
+  pub are : (i : ℕ) → i < 8 → nth columns i ≡ columnOf shown word i
+  pub sized : length columns ≡ 8
+
+pub record Shifts (old new : List ℕ) : Type 0 where
+  pub are : (i : ℕ) → i < 8 → nth new i ≡ nth old i / 256
+  pub sized : length new ≡ length old
+
+-- one more is counted for each of the first so many pairs, at its number
+pub record Adds (number : ℕ → ℕ) (lanes : ℕ) (old new : List ℕ) : Type 0 where
+  pub added : (n : ℕ) → n < 256 → nth new n ≡ nth old n + sumTo lanes (λ l. cond (eqb (number l) n) 1 0)
   pub sized : length new ≡ length old

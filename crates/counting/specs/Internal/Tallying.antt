@@ -1,5 +1,6 @@
 -- What counting the pairs of one set of secret bits rests on, and what it gives.
 use mathlib.Core.Path.{_≡_}
+use mathlib.Core.Bool.{Bool, cond}
 use mathlib.Core.List.{List}
 use Prim.Native.Nat.{ℕ, _+_, _*_, _-_, _^_, _≤_, _<_}
 use lib.ListN.{length, take, drop}
@@ -11,15 +12,16 @@ use Rattle.gadgets.specs.Internal.Accepting.{AcceptedTable, circuitIn}
 use Rattle.simulation.specs.Internal.Evaluating.{packed}
 use Rattle.counting.specs.declared.tally.Plan.{Plan}
 use Rattle.counting.specs.Counting.{pairCount, readWires, countList}
+use Rattle.symbolic.specs.Internal.Expanding.{Expanded}
 use Rattle.counting.specs.Internal.Pairs.{valuesIn, shownOf}
+use Rattle.counting.specs.Internal.Preparing.{preparedShares, preparedTape}
 
 -- an accepted table of few free bits, and its numbers
-pub record Numbered (table : List ℕ) (inputs randoms wires : ℕ) : Type 0 where
+pub record Numbered (table : List ℕ) (inputs randoms : ℕ) : Type 0 where
   pub accepted : AcceptedTable table
   pub few : freeBits (circuitIn table) ≤ 16
   pub inputs-are : inputs ≡ circuitIn table .inputs
   pub randoms-are : randoms ≡ circuitIn table .randoms
-  pub wires-are : wires ≡ size (circuitIn table)
 
 -- such a table, with a set of secret bits
 pub record Countable (table secrets : List ℕ) : Type 0 where
@@ -28,26 +30,19 @@ pub record Countable (table secrets : List ℕ) : Type 0 where
   pub sized : length secrets ≡ circuitIn table .inputs
   pub bit : (x : ℕ) → nth secrets x ≤ 1
 
--- so many batches of so many pairs each make up all pairs; where there is more than one, each has eight
+-- so many batches of so many pairs each make up all pairs; where there is more than one, each has 256
 pub record Divides (free count lanes : ℕ) : Type 0 where
   pub all : count * lanes ≡ 2 ^ free
   pub some : 1 ≤ lanes
-  pub few : lanes ≤ 8
-  pub behind : (batch : ℕ) → batch < count → batch * lanes ≡ 8 * batch
+  pub few : lanes ≤ 256
+  pub behind : (batch : ℕ) → batch < count → batch * lanes ≡ 256 * batch
 
 -- the plan of a table
 pub record Planned (table : List ℕ) (plan : Plan) : Type 0 where
-  pub wires-are : plan .wires ≡ size (circuitIn table)
   pub others-are : plan .others ≡ circuitIn table .d - 1
   pub start-is : plan .start ≡ plan .others * circuitIn table .inputs
   pub free-is : plan .free ≡ freeBits (circuitIn table)
   pub divides : Divides (plan .free) (plan .batches) (plan .lanes)
-
--- bytes that hold the values of eight pairs, the first of which has the number 8 · batch; behind the wires they are as they were
-pub record HoldsPairs (table secrets : List ℕ) (batch : ℕ) (old new : List ℕ) : Type 0 where
-  pub are : (x : ℕ) → x < size (circuitIn table) → nth new x ≡ packed 8 (λ l. at (valuesIn (circuitIn table) (bits secrets) (8 * batch + l)) x)
-  pub none : nth new (size (circuitIn table)) ≡ nth old (size (circuitIn table))
-  pub sized : length new ≡ length old
 
 -- a list of wires that are read
 pub record ReadIn (table read : List ℕ) (found : ℕ) : Type 0 where
@@ -55,9 +50,36 @@ pub record ReadIn (table read : List ℕ) (found : ℕ) : Type 0 where
   pub sized : length read ≡ 8
   pub made : (i : ℕ) → i < found → nth read i < size (circuitIn table)
 
+-- the first set of secret bits, or the second
+abbrev pub setOf : (table : List ℕ) (second : Bool) (secrets : List ℕ) → List ℕ
+setOf table second secrets = cond second (drop (circuitIn table .inputs) secrets) (take (circuitIn table .inputs) secrets)
+
+-- a table with its plan, both sets of secret bits and the wires that are read, expanded with these
+pub record Prepared (table secrets read sums terms : List ℕ) (outputs found : ℕ) (plan : Plan) : Type 0 where
+  pub countable : (second : Bool) → Countable table (setOf table second secrets)
+  pub planned : Planned table plan
+  pub read-in : ReadIn table read found
+  pub room : size (circuitIn table) ≤ length sums
+  pub sized : length secrets ≡ circuitIn table .inputs + circuitIn table .inputs
+  pub bit : (x : ℕ) → nth secrets x ≤ 1
+  pub terms-sized : length terms ≡ 120
+  pub expanded : Expanded table (preparedShares plan (circuitIn table .inputs) secrets) (preparedTape plan) read found sums terms outputs
+
+-- sums and terms of some table
+pub record Ready (read sums terms : List ℕ) (outputs found : ℕ) (plan : Plan) : Type 0 where
+  pub table : List ℕ
+  pub secrets : List ℕ
+  pub prepared : Prepared table secrets read sums terms outputs found plan
+
+-- words of the values of 256 pairs, the first of which has the number 256 · batch: four for each wire that is read
+pub record HoldsShown (table secrets : List ℕ) (batch : ℕ) (read : List ℕ) (found : ℕ) (shown : List ℕ) : Type 0 where
+  pub are : (i w : ℕ) → i < found → w < 4 → nth shown (4 * i + w) ≡ packed 64 (λ l. at (valuesIn (circuitIn table) (bits secrets) (64 * (4 * batch + w) + l)) (nth read i))
+  pub sized : length shown ≡ 32
+
 -- what the list of counts rests on: such a table, two sets of secret bits, wires that are read, and room for the counts
 pub record Listable (table secrets : List ℕ) (inputs randoms wires : ℕ) (read : List ℕ) (found : ℕ) (counts : List ℕ) : Type 0 where
-  pub numbered : Numbered table inputs randoms wires
+  pub numbered : Numbered table inputs randoms
+  pub wires-are : wires ≡ size (circuitIn table)
   pub sized : length secrets ≡ inputs + inputs
   pub bit : (x : ℕ) → nth secrets x ≤ 1
   pub read-in : ReadIn table read found

@@ -1,24 +1,31 @@
--- Eight pairs at once: the words of their free bits, and of the shares that these make up with given secret bits.
+-- 64 pairs at once: the words of their free bits, and of the shares that these make up with given secret bits.
 use mathlib.Core.Path.{_≡_}
 use mathlib.Core.List.{List, [], _∷_, _++_}
-use Prim.Native.Nat.{ℕ, _+_, _*_, _≤_, _<_}
+use Prim.Native.Nat.{ℕ, _+_, _*_, _<_}
 use lib.Bits.{bitXor}
 use lib.ListN.{length, take, drop}
 use Rattle.circuit.specs.Lists.{nth}
 use Rattle.simulation.specs.Internal.Evaluating.{packed}
 use Rattle.counting.specs.Internal.Lanes.{laneBit}
 
--- the words of the free bits of eight pairs, the first of which has the number 8 · batch
-pub record FreeWords (batch free : ℕ) (words : List ℕ) : Type 0 where
+-- the word of a bit that all 64 pairs have
+abbrev pub ones : ℕ
+ones = 0xFFFFFFFFFFFFFFFF
+
+-- the word of a free bit of 64 pairs, the first of which has the number 64 · number
+abbrev pub freeWord : (i number : ℕ) → ℕ
+freeWord i number = packed 64 (λ l. laneBit i (64 * number + l))
+
+pub record FreeWords (number free : ℕ) (words : List ℕ) : Type 0 where
   pub sized : length words ≡ 16
-  pub are : (i : ℕ) → i < free → nth words i ≡ packed 8 (λ l. laneBit i (8 * batch + l))
+  pub are : (i : ℕ) → i < free → nth words i ≡ freeWord i number
 
 -- words, and behind them the one that makes their sum a given one
 unfoldable pub sharesOf : (last : ℕ) → List ℕ → List ℕ
 sharesOf x [] = x ∷ []
 sharesOf x (w ∷ ws) = w ∷ sharesOf (bitXor x w) ws
 
--- the same for each secret bit, in all eight pairs, with the next so many words
-unfoldable pub allShares : (others : ℕ) (secrets words : List ℕ) → List ℕ
+-- the same for each of these, with the next so many words
+unfoldable pub allShares : (others : ℕ) (lasts words : List ℕ) → List ℕ
 allShares n [] ws = []
-allShares n (z ∷ zs) ws = sharesOf (255 * z) (take n ws) ++ allShares n zs (drop n ws)
+allShares n (z ∷ zs) ws = sharesOf z (take n ws) ++ allShares n zs (drop n ws)

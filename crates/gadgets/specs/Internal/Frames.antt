@@ -61,3 +61,22 @@ FrameSupplied (frame.Gate (gate.Reg x)) d from used shares tape = Unit {0}
 FrameSupplied (frame.Gate gate.Out) d from used shares tape = Unit {0}
 FrameSupplied frame.And d from used shares tape = used + pairs d ≤ tape
 FrameSupplied frame.Ref d from used shares tape = used + pairs d ≤ tape
+
+-- what holds of the wires that a frame names, and of those inside AND, which no frame names
+abbrev pub GateNames : GateCode → (ℕ → Type 0) → Type 0
+GateNames (gate.In t) P = Unit {0}
+GateNames (gate.Con l b t) P = Unit {0}
+GateNames (gate.Xor x y) P = P x × P y
+GateNames (gate.Not x) P = P x
+GateNames (gate.Reg x) P = P x
+GateNames gate.Out P = Unit {0}
+
+abbrev pub FrameNames : FrameCode → (d : ℕ) (ops : List ℕ) → (ℕ → Type 0) → Type 0
+FrameNames (frame.Gate g) d ops P = GateNames g P
+FrameNames frame.And d ops P = ((i : ℕ) → i < d → P (wordA ops i)) × ((i : ℕ) → i < d → P (wordB d ops i))
+FrameNames frame.Ref d ops P = (i : ℕ) → i < d → P (wordA ops i)
+
+abbrev pub FrameHides : FrameCode → (d first : ℕ) → (ℕ → Type 0) → Type 0
+FrameHides (frame.Gate g) d first P = Unit {0}
+FrameHides frame.And d first P = (x : ℕ) → first ≤ x → x < first + crossStart d d → P x
+FrameHides frame.Ref d first P = Unit {0}

@@ -1,9 +1,10 @@
 -- For the contracts of the private functions: a line by its count of words. The promise of `read` names none of this.
+use mathlib.Core.Path.{_≡_}
 use mathlib.Core.Bool.{Bool, false, cond, _&&_, _||_}
 use mathlib.Core.List.{List, [], _∷_}
-use Prim.Native.Nat.{ℕ, zero, suc, _+_, _*_}
+use Prim.Native.Nat.{ℕ, zero, suc, _+_, _*_, _≤_}
 use lib.Dec.{leb, ltb, eqb}
-use lib.ListN.{drop}
+use lib.ListN.{length, getD, drop}
 use Rattle.circuit.specs.Limits.{tableLimit}
 use Rattle.circuit.specs.Circuit.{empty}
 use Rattle.circuit.specs.Rules.{Judgement, pass, refuse, need, _then_, wordRule}
@@ -45,6 +46,18 @@ codeTable =
 -- the code of two digits in a row
 abbrev pub pairCode : (a b : ℕ) → ℕ
 pairCode a b = digitCode a * 16 + digitCode b
+
+-- the most that the codes of two pairs of digits and of a mark have together
+abbrev pub mostCodes : ℕ
+mostCodes = 143360
+
+-- the codes of the bytes at a place of a text: two digits, two more, and what stands behind them
+pub record Coded (text : List ℕ) (at high low mark : ℕ) : Type 0 where
+  pub first : high ≡ pairCode (getD text at 0) (getD text (at + 1) 0)
+  pub second : low ≡ pairCode (getD text (at + 2) 0) (getD text (at + 3) 0)
+  pub behind : mark ≡ markCode (getD text (at + 4) 0)
+  pub inside : at + 5 ≤ length text
+  pub most : high + low + mark ≤ mostCodes
 
 -- whether bytes begin with a word: four digits and a mark
 unfoldable pub isWord : List ℕ → Bool

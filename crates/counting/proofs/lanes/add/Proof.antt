@@ -18,10 +18,10 @@ add-spec =
     (tie.spec
     Inv-loop
     μ-loop
-    (λ c. added-start (c .pre .0) (c .pre .1) (c .pre .2))
+    (λ c. added-start (c .pre .0) (c .pre .1))
     (λ c. record { fits = omega arith })
     (λ c. omega arith)
-    (λ c. record { fits = omega (arith, c .before .before .loop .inv .few (c .before .before .loop .rest % 256), c .before .before .loop .inv .most) })
+    (λ c. let l = c .before .before .loop in record { fits = omega (arith, l .inv .few (l .rest % 256), c .before .before .before .pre .2 (l .rest % 256)) })
     (λ c. omega arith)
     (λ c. search needs)
     (λ c. omega arith)

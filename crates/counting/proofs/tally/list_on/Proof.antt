@@ -1,103 +1,106 @@
--- The table is expanded once; each set is tallied from 0, and the list is written from the two tallies.
-use mathlib.Core.Path.{_≡_, refl, sym, ap, _∙_}
+-- The table is prepared once; each set is tallied from 0, and the list is written from the two tallies.
+use mathlib.Core.Path.{_≡_, refl, _∙_}
+use mathlib.Core.Bool.{false}
 use Prim.Native.Nat.{_*_, _≤_}
 use native.Mathlib.Omega.{arith}
 use borrow.Author.Needs.{needs}
-use Rattle.circuit.specs.Lists.{nth}
 use Rattle.gadgets.specs.Internal.Accepting.{circuitIn}
 use Rattle.counting.specs.Counting.{pairCount}
+use Rattle.counting.specs.Internal.Tallying.{Prepared, Ready}
 use Rattle.counting.proofs.tally.list_on.Statement.{statement}
 use Rattle.counting.proofs.tally.list_on.Tie as tie
 use Rattle.counting.proofs.Numbered.{pow-mono}
-use Rattle.counting.proofs.Batches.{pairs-are, pairs-few, plan-expanded}
+use Rattle.counting.proofs.Batches.{pairs-are, pairs-few}
 use Rattle.counting.proofs.Tallying.{zeros-at}
-use Rattle.counting.proofs.Counts.{first-set, second-set, lists}
+use Rattle.counting.proofs.Counts.{set-countable, lists}
 
--- back to the plan, the expansion and the start
-abbrev planned : tie.After-first → tie.After-plan-pairs
-planned c = c .before .before .before .before .before .before .before .before .before
-
-abbrev expanded : tie.After-plan-pairs → tie.After-expand
-expanded c = c .before .before .before .before .before .before .before .before
-
+-- back to the plan and the start
 abbrev start : tie.After-plan-pairs → tie.Start
-start c = expanded c .before .before .before .before .before .before .before .before .before .before .before .before
+start c = c .before .before .before .before .before
 
-abbrev one-tallied : tie.After-second → tie.After-first
-one-tallied c = c .before .before .before .before .before .before .before .before .before
+abbrev planned : tie.After-prepare → tie.After-plan-pairs
+planned c = c .before .before .before
 
-abbrev both-tallied : tie.After-second2 → tie.After-second
-both-tallied c = c .before .before .before .before .before
+abbrev first : tie.After-tally-set → tie.After-prepare
+first c = c .before .before .before .before .before .before .before
 
-abbrev listing : tie.After-slice-known11 → tie.After-second2
-listing c = c .before .before .before .before .before
+abbrev both : tie.After-tally-set2 → tie.After-tally-set
+both c = c .before .before .before .before
+
+prepare-requires : tie.Need-prepare-requires
+prepare-requires c κs =
+    let p = c .before .before in
+    let a = start p .args in
+    let (n, room, most) = start p .pre in
+    let m = n .numbered .inputs-are in
+    (rw m (set-countable (n .numbered) (a .secrets .now) (n .sized) (n .bit) false), p .plan-pairs .ensures, n .read-in, m, n .sized, omega (arith, n .wires-are, room), most, refl)
+
+-- what the batches rest on
+prepared : (c : tie.After-prepare) → let a = start (planned c) .args in
+    Prepared (a .table .now) (a .secrets .now) (a .read .now) (c .prepare .last .1 .1 .1 .1 .1 .1 .0) (c .prepare .last .1 .1 .1 .1 .1 .1 .1 .0) (c .prepare .result) (a .found) (planned c .plan-pairs .result)
+prepared c =
+    let p = planned c in
+    let a = start p .args in
+    let (n, room, most) = start p .pre in
+    let m = n .numbered .inputs-are in
+    let (e, sized) = c .prepare .ensures in
+    record {
+      countable = set-countable (n .numbered) (a .secrets .now) (n .sized) (n .bit);
+      planned = p .plan-pairs .ensures;
+      read-in = n .read-in;
+      room = omega (arith, n .wires-are, room, c .prepare .kept .1 .1 .1 .1 .1 .1 .0);
+      sized = n .sized ∙ omega (arith, m);
+      bit = n .bit;
+      terms-sized = sized;
+      expanded = rw (← m) e;
+    }
+
+ready : (c : tie.After-prepare) → let a = start (planned c) .args in
+    Ready (a .read .now) (c .prepare .last .1 .1 .1 .1 .1 .1 .0) (c .prepare .last .1 .1 .1 .1 .1 .1 .1 .0) (c .prepare .result) (a .found) (planned c .plan-pairs .result)
+ready c = let a = start (planned c) .args in record { table = a .table .now; secrets = a .secrets .now; prepared = prepared c }
 
 -- the number of pairs
 pairs : (c : tie.After-plan-pairs) → c .plan-pairs .result .batches * c .plan-pairs .result .lanes ≡ pairCount (circuitIn (start c .args .table .now))
-pairs c = pairs-are (c .plan-pairs .ensures .0)
+pairs c = pairs-are (c .plan-pairs .ensures)
 
 few : (c : tie.After-plan-pairs) → (1 ≤ pairCount (circuitIn (start c .args .table .now))) × (pairCount (circuitIn (start c .args .table .now)) ≤ 65536)
 few c = pairs-few (start c .args .table .now) (start c .pre .0 .numbered .few)
 
-wires : (c : tie.After-plan-pairs) → c .plan-pairs .result .wires ≡ start c .args .wires
-wires c = c .plan-pairs .ensures .0 .wires-are ∙ sym (start c .pre .0 .numbered .wires-are)
-
-tally-set-requires : tie.Need-tally-set-requires
-tally-set-requires c κs =
-    let p = planned c in
-    let s = start p in
-    let n = s .pre .0 in
-    (first-set (n .numbered) (s .args .secrets .now) (n .sized) (n .bit), p .plan-pairs .ensures .0, plan-expanded (p .plan-pairs .result) (wires p) (p .plan-pairs .ensures .1) (expanded p .expand .ensures), omega (arith, wires p, s .pre .4), ap (nth (s .args .values .now)) (wires p) ∙ s .pre .5, n .read-in, refl, zeros-at 256)
-
-tally-set-requires-2 : tie.Need-tally-set-requires-2
-tally-set-requires-2 c κs =
-    let p = planned (one-tallied c) in
-    let s = start p in
-    let n = s .pre .0 in
-    let v = c .before .before .before .before .before .before .before in
-    (second-set (n .numbered) (s .args .secrets .now) (n .sized) (n .bit), p .plan-pairs .ensures .0, plan-expanded (p .plan-pairs .result) (wires p) (p .plan-pairs .ensures .1) (expanded p .expand .ensures), omega (arith, wires p, s .pre .4, v .values .given), v .before .tally-set .ensures .1, n .read-in, refl, zeros-at 256)
-
 write-list-requires : tie.Need-write-list-requires
 write-list-requires c κs =
     let w = c .before in
-    let b = both-tallied (w .before) in
-    let p = planned (one-tallied b) in
-    let s = start p in
-    let most = pow-mono 8 (s .args .found) (s .pre .0 .read-in .few) in
-    (omega (arith, w .power .ensures .0, most), omega (arith, w .power .ensures .0, most, s .pre .0 .room), omega (arith, pairs p, few p), omega (arith, pairs p, few p), b .before .before .before .before .before .before .before .before .tally-set .ensures .0 .few, w .before .before .before .before .before .tally-set2 .ensures .0 .few)
+    let t = w .before .before .before in
+    let o = both t in
+    let q = first o in
+    let p = planned q in
+    let a = start p .args in
+    let most = pow-mono 8 (a .found) (start p .pre .0 .read-in .few) in
+    (omega (arith, w .power .ensures .0, most), omega (arith, w .power .ensures .0, most, start p .pre .0 .room), omega (arith, pairs p, few p), omega (arith, pairs p, few p), o .tally-set .ensures (a .table .now) (a .secrets .now) (prepared q) .few, t .tally-set2 .ensures (a .table .now) (a .secrets .now) (prepared q) .few)
 
 returns : tie.Need-returns
 returns c =
     let v = c .before .before in
     let w = v .before .before in
-    let b = both-tallied (w .before) in
-    let p = planned (one-tallied b) in
-    let s = start p in
-    let n = s .pre .0 in
-    (pairs p, lists (n .numbered) (s .args .secrets .now) (n .sized) (n .bit) (n .read-in) (b .before .before .before .before .before .before .before .before .tally-set .ensures .0) (w .before .before .before .before .before .tally-set2 .ensures .0) _ (n .room) _ _ (w .power .ensures .0) (pairs p) (v .write-list .ensures))
+    let t = w .before .before .before in
+    let o = both t in
+    let q = first o in
+    let p = planned q in
+    let a = start p .args in
+    let n = start p .pre .0 in
+    (pairs p, lists (n .numbered) (a .secrets .now) (n .sized) (n .bit) (n .read-in) (o .tally-set .ensures (a .table .now) (a .secrets .now) (prepared q)) (t .tally-set2 .ensures (a .table .now) (a .secrets .now) (prepared q)) _ (n .room) _ _ (w .power .ensures .0) (pairs p) (v .write-list .ensures))
 
 pub list-on-spec : {M : Type 1} → statement M
 list-on-spec =
     tie.close
     (tie.spec
-    (λ c. search needs)
-    (λ c κs. let s = c .before .before .before .before .before .before .before .before .before .before .before in let n = s .pre .0 .numbered in (n .accepted, n .few, n .wires-are, s .pre .1, s .pre .2, s .pre .3, omega arith))
-    (λ c κs. c .before .before .before .before .before .before .before .before .before .before .before .before .before .before .before .before .before .before .before .pre .0 .numbered)
-    (λ c. record { fits = omega (arith, pairs (c .before), few (c .before)) })
-    (λ c. search needs) (λ c. search needs)
-    (λ c. omega (arith, start (c .before) .pre .0 .sized))
-    (λ c. omega (arith, start (c .before .before) .pre .0 .sized))
-    (λ c. omega (arith, start (c .before .before) .pre .0 .sized))
-    (λ c. search needs) (λ c. search needs)
-    tally-set-requires
-    (λ c. search needs)
-    tally-set-requires-2
-    (λ c κs. omega (arith, start (planned (one-tallied (both-tallied c))) .pre .0 .read-in .few))
-    (λ c. let p = planned (one-tallied (both-tallied (c .before))) in record { fits = omega (arith, pairs p, few p) })
+    (λ c κs. search needs)
+    prepare-requires
+    (λ c. let p = planned (c .before .before .before) in record { fits = omega (arith, pairs p, few p) })
+    (λ c κs. (ready (c .before .before .before .before .before .before), refl, zeros-at 256))
+    (λ c κs. (ready (first (c .before .before .before)), refl, zeros-at 256))
+    (λ c κs. omega (arith, start (planned (first (both (c .before .before)))) .pre .0 .read-in .few))
+    (λ c. let p = planned (first (both (c .before .before .before))) in record { fits = omega (arith, pairs p, few p) })
     write-list-requires
-    (λ c. planned (one-tallied (both-tallied (listing c))) .before .before .before .before .before .before .before .left .given)
-    (λ c. planned (one-tallied (both-tallied (listing c))) .before .before .before .before .before .right .given)
-    (λ c. planned (one-tallied (both-tallied (listing c))) .before .before .before .constants .given)
-    (λ c. let b = listing c in b .before .before .before .values2 .given ∙ both-tallied b .before .before .before .before .before .before .before .values .given)
-    (λ c. c .before .counts .given)
+    (λ c. search needs)
+    (λ c. search needs)
     returns)

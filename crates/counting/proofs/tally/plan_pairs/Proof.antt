@@ -1,8 +1,7 @@
 -- The table's second word is its number of shares; the rest follows from its numbers.
-use mathlib.Core.Path.{_≡_, refl, sym, ap, ap₂, _∙_}
-use Prim.Native.Nat.{_+_, _*_, _-_, _≤_}
+use mathlib.Core.Path.{_≡_, ap, ap₂}
+use Prim.Native.Nat.{_+_, _*_, _-_}
 use native.Mathlib.Omega.{arith}
-use borrow.Author.Needs.{needs}
 use Rattle.circuit.specs.Lists.{nth}
 use Rattle.gadgets.specs.Internal.Accepting.{circuitIn}
 use Rattle.gadgets.proofs.Walking.{headed}
@@ -29,13 +28,10 @@ plan-pairs-spec =
     (λ c. record { fits = omega (arith, numbers (c .before .before) .free, c .before .before .pre .few) })
     (λ c. record { fits = omega (arith, numbers (c .before .before) .free, c .before .before .pre .few) })
     (λ c κs. omega (arith, numbers (c .before .before) .free, c .before .before .pre .few))
-    (λ c. let s = c .before .before .before in (
-      record {
-        wires-are = s .pre .wires-are;
-        others-are = numbers s .others;
-        start-is = ap (λ n. (nth (s .args .table .now) 1 - 1) * n) (s .pre .inputs-are);
-        free-is = numbers s .free;
-        divides = c .divide .ensures;
-      },
-      refl,
-    )))
+    (λ c. let s = c .before .before .before in
+    record {
+      others-are = numbers s .others;
+      start-is = ap (λ n. (nth (s .args .table .now) 1 - 1) * n) (s .pre .inputs-are);
+      free-is = numbers s .free;
+      divides = c .divide .ensures;
+    }))

@@ -1,46 +1,52 @@
--- The loop's invariant: the pairs of the batches so far are counted, and the place behind all wires is 0.
-use mathlib.Core.Path.{_≡_, refl, sym, ap, _∙_}
-use Prim.Native.Nat.{ℕ, _+_, _*_, _-_, _^_, _≤_, _<_}
+-- The loop's invariant: the pairs of the batches so far are counted, whatever table the sums and terms are of.
+use mathlib.Core.Path.{_≡_, refl, ap, _∙_}
+use mathlib.Core.List.{List}
+use Prim.Native.Nat.{ℕ, _*_, _-_, _≤_}
 use native.Mathlib.Omega.{arith}
-use lib.ListN.{length, take, length-take}
-use lib.Seq.{getD-take}
+use lib.ListN.{length, take}
 use borrow.Author.Needs.{needs}
-use Rattle.circuit.specs.Lists.{nth}
-use Rattle.circuit.specs.Circuit.{size}
-use Rattle.gadgets.specs.Internal.Accepting.{circuitIn}
+use Rattle.counting.specs.Internal.Tallying.{Prepared, Ready, setOf}
 use Rattle.counting.proofs.tally.tally_set.Statement.{statement}
 use Rattle.counting.proofs.tally.tally_set.Tie as tie
-use Rattle.counting.proofs.Batches.{sizes}
+use Rattle.counting.proofs.Batches.{sizes, pairs-are}
 use Rattle.counting.proofs.Tallying.{TalliedTo, tallied-start, tallied-next, tallied-small, tallied-end}
 
 abbrev Inv-loop : tie.InvT-loop
-Inv-loop table left right constants listed plan secrets read found values₀ tally₀ batch₀ values tally batch =
-    (batch ≤ plan .batches) × (length values ≡ length values₀) × (nth values (plan .wires) ≡ 0) × TalliedTo table secrets (take found read) tally batch (plan .lanes)
+Inv-loop sums terms outputs read found plan second tally₀ words₀ shown₀ batch₀ tally words shown batch = (batch ≤ plan .batches) × (length words ≡ 256) × (length shown ≡ 32)
+    × ((table secrets : List ℕ) → Prepared table secrets read sums terms outputs found plan → TalliedTo table (setOf table second secrets) (take found read) tally₀ tally batch (plan .lanes))
 
 abbrev μ-loop : tie.MeasureT-loop
-μ-loop table left right constants listed plan secrets read found values₀ tally₀ batch₀ values tally batch = plan .batches - batch
+μ-loop sums terms outputs read found plan second tally₀ words₀ shown₀ batch₀ tally words shown batch = plan .batches - batch
 
--- the wires that are read are made
-wires : (s : tie.Start Inv-loop μ-loop) → length (take (s .args .found) (s .args .read .now)) ≡ s .args .found
-wires s = length-take (s .args .found) (s .args .read .now) ∙ omega (arith, s .pre .5 .few, s .pre .5 .sized)
-
-made : (s : tie.Start Inv-loop μ-loop) (i : ℕ) → let ws = take (s .args .found) (s .args .read .now) in i < length ws → nth ws i < size (circuitIn (s .args .table .now))
-made s i l = let h : i < s .args .found = omega (arith, wires s) in rw (getD-take (s .args .found) (s .args .read .now) i 0 h) (s .pre .5 .made i h)
-
--- back from a turn
+-- back from a turn, and the counts for some table there
 abbrev start : tie.At-loop Inv-loop μ-loop → tie.Start Inv-loop μ-loop
-start c = c .before .before .before .before .before .before .before .before
+start c = c .before .before
+
+abbrev ready : (c : tie.At-loop Inv-loop μ-loop) → let a = start c .args in Ready (a .read .now) (a .sums .now) (a .terms .now) (a .outputs) (a .found) (a .plan)
+ready c = start c .pre .0
+
+some : (c : tie.At-loop Inv-loop μ-loop) → let a = start c .args in
+    TalliedTo (ready c .table) (setOf (ready c .table) (a .second) (ready c .secrets)) (take (a .found) (a .read .now)) (a .tally .now) (c .loop .tally) (c .loop .batch) (a .plan .lanes)
+some c = c .loop .inv .3 (ready c .table) (ready c .secrets) (ready c .prepared)
+
+add-batch-requires : tie.Need-add-batch-requires Inv-loop μ-loop
+add-batch-requires c κs =
+    let l = c .before .before .before .before .before .before .before in
+    let r = ready l in
+    let p = r .prepared in
+    let d = p .planned .divides in
+    let small = tallied-small (some l) d (l .loop .inv .0) (sizes (p .countable (start l .args .second)) (p .planned) .few) in
+    (p .read-in .few, d .few, c .before .before .show-batch .ensures .0 (r .table) (r .secrets) p .sized, some l .counted .sized ∙ some l .wide, λ n. omega (arith, small n, d .few))
 
 loop-again : tie.Need-loop-again Inv-loop μ-loop
 loop-again c =
-    let l = c .before .before .before .before .before .before .before .before .before .before in
-    let s = start l in
-    let d = s .pre .1 .divides in
-    let h = c .before .before .before .before .before .before .evaluate-pairs .ensures in (
+    let l = c .before .before .before .before .before .before .before .before in
+    let r = ready l in
+    let (shows, wide) = c .before .before .before .show-batch .ensures in (
       omega arith,
-      h .sized ∙ l .loop .inv .1,
-      rw (s .pre .1 .wires-are) (h .none) ∙ l .loop .inv .2,
-      tallied-next (l .loop .inv .3) (d .behind (l .loop .batch) (omega arith)) (d .few) h (omega (arith, wires s, s .pre .5 .few)) (made s) (c .before .before .gather .ensures) (c .add .ensures),
+      wide,
+      shows (r .table) (r .secrets) (r .prepared) .sized,
+      λ table secrets p. let d = p .planned .divides in tallied-next (l .loop .inv .3 table secrets p) (d .behind (l .loop .batch) (omega arith)) (d .few) (shows table secrets p) (p .read-in) (c .add-batch .ensures),
     )
 
 pub tally-set-spec : {M : Type 1} → statement M
@@ -49,15 +55,11 @@ tally-set-spec =
     (tie.spec
     Inv-loop
     μ-loop
-    (λ c. let s = c .before .before .before .before .before .before .before in (omega arith, refl, s .pre .4, tallied-start (s .pre .6) (s .pre .7)))
-    (λ c κs. let l = c .before .before .before in let s = start l in (s .pre .0, s .pre .1, s .pre .2, omega (arith, s .pre .3, l .loop .inv .1), l .loop .inv .2))
-    (λ c κs. let l = c .before .before .before .before .before .before .before in let s = start l in let r = s .pre .5 in
-    (r .few, r .sized, λ i h. omega (arith, r .made i h, s .pre .1 .wires-are, s .pre .3, c .before .before .before .evaluate-pairs .ensures .sized, l .loop .inv .1)))
-    (λ c κs. let l = c .before .before .before .before .before .before .before .before .before in let p = start l .pre .1 in
-    (p .divides .few, l .loop .inv .3 .sized, tallied-small (l .loop .inv .3) (p .divides) (l .loop .inv .0) (sizes (start l .pre .0) p .few)))
+    (λ c. let s = c .before in (omega arith, refl, refl, λ table secrets p. tallied-start (s .pre .1) (s .pre .2)))
+    (λ c κs. let l = c .before .before .before .before in (ready l, omega arith, l .loop .inv .1, l .loop .inv .2))
+    add-batch-requires
     (λ c. search needs)
     (λ c. omega arith)
     loop-again
-    (λ c. c .before .before .loop .inv .1)
-    (λ c. let l = c .before .before in let p = start l .pre .1 in let e : l .loop .batch ≡ start l .args .plan .batches = omega arith in
-    (tallied-end (l .loop .inv .3) (ap (λ n. n * start l .args .plan .lanes) e ∙ p .divides .all ∙ ap (λ n. 2 ^ n) (p .free-is)) (start l .pre .0 .few), l .loop .inv .2)))
+    (λ c. let l = c .before .before in let plan = start l .args .plan in let e : l .loop .batch ≡ plan .batches = omega arith in
+    λ table secrets p. tallied-end (l .loop .inv .3 table secrets p) (ap (λ n. n * plan .lanes) e ∙ pairs-are (p .planned)) (p .countable (start l .args .second) .few)))

@@ -9,9 +9,9 @@ use borrow.Author.Needs.{needs}
 use borrow.Author.Tests.{not-true, not-false, ltb-true, ltb-false}
 use denote.Ref.{now}
 use Rattle.circuit.proofs.Base.{cases}
-use Rattle.text.specs.Internal.Scan.{feedOf, isWord}
+use Rattle.text.specs.Internal.Scan.{feedOf, isWord, valueIn}
 use Rattle.text.specs.Internal.Blocks.{blockWords}
-use Rattle.text.proofs.Hex.{feed-most, word-mark}
+use Rattle.text.proofs.Hex.{feed-most, coded-value, coded-mark}
 use Rattle.text.proofs.Scanning.{count-turn, count-end}
 use Rattle.text.proofs.Splitting.{count-least}
 use Rattle.text.proofs.Blocks.{Cut, cut-start, cut-turn, cut-end}
@@ -31,13 +31,27 @@ start c = c .before .before .before .before .before .before
 inside : (c : tie.In-loop Inv-loop μ-loop) → start c .args .at + 5 * c .before .loop .k + 5 ≤ length (now (start c .args .text))
 inside c = let m = c .before .before .most-words .ensures in omega arith
 
--- the word is one, as the test says
-is : (c : tie.Else1 Inv-loop μ-loop) → isWord (drop (start (c .before .before) .args .at + 5 * c .before .before .before .loop .k) (now (start (c .before .before) .args .text))) ≡ true
-is c = sym (c .before .is-word .ensures) ∙ not-false (c .before .is-word .result) (c .if1 .left)
+-- the place in the loop, once the word's codes are tested
+abbrev looked : tie.After-is-whole Inv-loop μ-loop → tie.In-loop Inv-loop μ-loop
+looked c = c .before .before
 
--- the place in the loop, once the word is converted
-abbrev word : tie.After-value Inv-loop μ-loop → tie.In-loop Inv-loop μ-loop
-word c = c .before .before .before .before .before
+-- where the word stands in the text
+abbrev place : tie.In-loop Inv-loop μ-loop → ℕ
+place c = start c .args .at + 5 * c .before .loop .k
+
+-- the test tells whether it is a word
+tested : (c : tie.After-is-whole Inv-loop μ-loop) → c .is-whole .result ≡ isWord (drop (place (looked c)) (now (start (looked c) .args .text)))
+tested c = c .is-whole .ensures (now (start (looked c) .args .text)) (place (looked c)) (c .before .word-at .ensures)
+
+is : (c : tie.Else1 Inv-loop μ-loop) → isWord (drop (place (looked (c .before))) (now (start (looked (c .before)) .args .text))) ≡ true
+is c = sym (tested (c .before)) ∙ not-false (c .before .is-whole .result) (c .if1 .left)
+
+-- the place in the loop, once the word is converted, and its value
+abbrev word : tie.After-number Inv-loop μ-loop → tie.In-loop Inv-loop μ-loop
+word c = looked (c .before .before)
+
+valued : (c : tie.After-number Inv-loop μ-loop) → c .number .result ≡ valueIn (drop (place (word c)) (now (start (word c) .args .text)))
+valued c = c .number .ensures ∙ coded-value (c .before .before .before .word-at .ensures) (is (c .before)) .2
 
 -- there is room for the line's end
 few : (c : tie.In-loop Inv-loop μ-loop) → (c .before .loop .k < blockWords) × (c .before .loop .lines < blockWords)
@@ -45,27 +59,28 @@ few c = let m = c .before .before .most-words .ensures in let l = c .before .loo
 
 returns : tie.Need-returns Inv-loop μ-loop
 returns c =
-    let i = c .before .before in
+    let i = looked (c .before) in
     let a = start i .args in
     let l = i .before .loop in
-    let e : isWord (drop (a .at + 5 * l .k) (now (a .text))) ≡ false = sym (c .before .is-word .ensures) ∙ not-true (c .before .is-word .result) (c .if1 .taken) in
+    let e : isWord (drop (place i) (now (a .text))) ≡ false = sym (tested (c .before)) ∙ not-true (c .before .is-whole .result) (c .if1 .taken) in
     let m = i .before .before .most-words .ensures in
-    cut-end (l .inv .1) (omega arith) (λ h. count-turn (l .k + 1) (now (a .text)) (a .at + 5 * l .k) (inside i) ∙ rw e)
+    cut-end (l .inv .1) (omega arith) (λ h. count-turn (l .k + 1) (now (a .text)) (place i) (inside i) ∙ rw e)
 
 -- the mark tells whether the line ends
-marked : (c : tie.After-value Inv-loop μ-loop) → let i = word c in
-    c .before .mark .result ≡ feedOf (getD (now (start i .args .text)) (start i .args .at + 5 * i .before .loop .k + 4) 0)
-marked c = let i = word c in c .before .mark .ensures ∙ word-mark (now (start i .args .text)) (start i .args .at + 5 * i .before .loop .k) (is (c .before .before .before))
+marked : (c : tie.After-number Inv-loop μ-loop) → let i = word c in
+    c .before .before .before .word-at .result .mark ≡ feedOf (getD (now (start i .args .text)) (place i + 4) 0)
+marked c = coded-mark (c .before .before .before .word-at .ensures) (is (c .before))
 
 loop-again : tie.Need-loop-again Inv-loop μ-loop
 loop-again c =
-    let i = word c in
+    let n = c .before in
+    let i = word n in
     let l = i .before .loop in
     let a = start i .args in
-    let z = length-set (l .block) (l .k) (c .value .result) in
+    let z = length-set (l .block) (l .k) (n .number .result) in
     let y = length-set (l .ends) (l .lines) (l .k + 1) in
-    let t = cut-turn (l .inv .1) (omega arith) (omega (arith, few i)) (is (c .before .before .before)) (c .value .result) (c .value .ensures) in
-    (omega arith, subst (λ (n : ℕ). Cut (now (a .text)) (a .at) (set (l .block) (l .k) (c .value .result)) (set (l .ends) (l .lines) (l .k + 1)) (l .lines + n) (l .k + 1)) (sym (marked c)) t, z ∙ l .inv .2, y ∙ l .inv .3)
+    let t = cut-turn (l .inv .1) (omega arith) (omega (arith, few i)) (is (n .before)) (n .number .result) (valued n) in
+    (omega arith, subst (λ (m : ℕ). Cut (now (a .text)) (a .at) (set (l .block) (l .k) (n .number .result)) (set (l .ends) (l .lines) (l .k + 1)) (l .lines + m) (l .k + 1)) (sym (marked n)) t, z ∙ l .inv .2, y ∙ l .inv .3)
 
 returns-2 : tie.Need-returns-2 Inv-loop μ-loop
 returns-2 c =
@@ -88,20 +103,18 @@ split-spec =
     (λ c. record { fits = omega (arith, inside c) })
     (λ c. record { fits = omega (arith, inside c) })
     (λ c κs. (start c .pre .0, inside c))
-    (λ c. let i = c .before .before in omega arith)
-    (λ c. let i = c .before .before in omega arith)
+    (λ c κs. c .word-at .ensures .most)
+    (λ c. let i = looked (c .before) in omega arith)
+    (λ c. let i = looked (c .before) in omega arith)
     returns
-    (λ c. record { fits = omega (arith, inside (c .before .before)) })
-    (λ c. omega (arith, inside (c .before .before .before)))
-    (λ c κs. start (c .before .before .before) .pre .0)
-    (λ c κs. (start (c .before .before .before .before) .pre .0, is (c .before .before)))
+    (λ c κs. let v = coded-value (c .before .before .word-at .ensures) (is c) in (v .0, v .1))
     (λ c. record { fits = omega (arith, few (word c)) })
     (λ c. omega (arith, few (word c)))
     (λ c. record { fits = omega (arith, few (word c)) })
     (λ c. omega (arith, few (word c)))
     (λ c. record { fits = omega (arith, few (word c)) })
     (λ c. omega (arith, few (word c)))
-    (λ c. record { fits = omega (arith, few (word c), marked c, feed-most (getD (now (start (word c) .args .text)) (start (word c) .args .at + 5 * word c .before .loop .k + 4) 0)) })
+    (λ c. let n = c .before in record { fits = omega (arith, few (word n), marked n, feed-most (getD (now (start (word n) .args .text)) (place (word n) + 4) 0)) })
     (λ c. omega arith)
     loop-again
     (λ c. omega arith)

@@ -1,0 +1,309 @@
+-- The words of shares, random bits and read wires in the pairs of a batch, from those of the variables.
+use mathlib.Core.Path.{_≡_, refl, sym, ap, ap₂, subst, _∙_}
+use mathlib.Core.Bool.{Bool, true, false, cond}
+use mathlib.Core.List.{List, [], _∷_, _++_, map, map-append}
+use Prim.Native.Nat.{ℕ, zero, suc, _+_, _*_, _-_, _^_, _≤_, _<_}
+use native.Mathlib.Nat.{zero-add, sub-zero, mul-comm}
+use native.Mathlib.Omega.{arith}
+use lib.Bits.{bitXor, xor-lt}
+use lib.ListN.{length, take, drop, replicate, length-map, length-take, length-drop, length-replicate}
+use lib.Pow.{pow-lt}
+use lib.Seq.{sets, sets-eq, length-sets, take-at, slice, length-take-le, take-add, drop-at, ext-getD, getD-take, getD-drop}
+use Rattle.circuit.specs.Lists.{nth, range}
+use Rattle.circuit.specs.Circuit.{isSet, size}
+use Rattle.circuit.proofs.Base.{In, in-head, in-tail}
+use Rattle.circuit.proofs.Numbered.{map-at, range-at}
+use Rattle.circuit.proofs.Parts.{label-lt}
+use Rattle.circuit.proofs.Sizes.{range-length}
+use Rattle.semantics.specs.Counts.{freeBits}
+use Rattle.semantics.specs.Values.{bits, at, valuesOf}
+use Rattle.gadgets.specs.Internal.Accepting.{circuitIn}
+use Rattle.simulation.specs.Internal.Filling.{Values}
+use Rattle.simulation.specs.Internal.Evaluating.{packed, Packs, Evaluable}
+use Rattle.symbolic.specs.Internal.Sums.{added, wordsAt, termWord, Runs, Shows}
+use Rattle.symbolic.specs.Internal.Expanding.{Words, Solves, Expanded}
+use Rattle.symbolic.proofs.Masks.{added-none, added-xor, added-one}
+use Rattle.symbolic.proofs.Running.{term-same}
+use Rattle.symbolic.proofs.Standing.{words-at}
+use Rattle.counting.specs.declared.tally.Plan.{Plan}
+use Rattle.counting.specs.Internal.Pairs.{completed, freeOf, valuesIn}
+use Rattle.counting.specs.Internal.Words.{ones, freeWord, FreeWords, sharesOf, allShares}
+use Rattle.counting.specs.Internal.Preparing.{secretSum, secretSums, SecretSums, freeSums, preparedShares, preparedTape, Variables}
+use Rattle.counting.specs.Internal.Tallying.{Countable, Planned, setOf, Prepared, HoldsShown}
+use Rattle.counting.proofs.FreeBits.{ones-are}
+use Rattle.counting.proofs.Completing.{map-take, map-drop, shares-packed, tape-packed}
+use Rattle.counting.proofs.Sharing.{all-length}
+use Rattle.counting.proofs.Batches.{Sizes, sizes}
+
+-- a part of a buffer, as the code lends it
+abbrev pub part : (from to : ℕ) → List ℕ → List ℕ
+part from to xs = take (to - from) (drop from xs)
+
+pub part-is : (from to : ℕ) (xs : List ℕ) → from ≤ to → to ≤ length xs → part from to xs ≡ slice from to xs
+part-is from to xs h l =
+    let e : to ≡ from + (to - from) = omega arith in
+    sym (ap (λ n. drop from (take n xs)) e ∙ ap (drop from) (take-add from (to - from) xs) ∙ drop-at (take from xs) (part from to xs) from (length-take-le from xs (omega arith)))
+
+-- words of sums
+module _ (f : Values) where
+  abbrev word : ℕ → ℕ
+  word m = added m f
+
+  shares-words : (x : ℕ) (ws : List ℕ) → map word (sharesOf x ws) ≡ sharesOf (word x) (map word ws)
+  unfolding sharesOf
+  shares-words x [] = refl
+  shares-words x (w ∷ ws) = ap (λ r. word w ∷ r) (shares-words (bitXor x w) ws ∙ ap (λ y. sharesOf y (map word ws)) (added-xor 64 x w f))
+
+  all-words : (n : ℕ) (zs ws : List ℕ) → map word (allShares n zs ws) ≡ allShares n (map word zs) (map word ws)
+  unfolding allShares
+  all-words n [] ws = refl
+  all-words n (z ∷ zs) ws = map-append word (sharesOf z (take n ws)) (allShares n zs (drop n ws))
+      ∙ ap₂ _++_ (shares-words z (take n ws) ∙ ap (sharesOf (word z)) (map-take word n ws)) (all-words n zs (drop n ws) ∙ ap (allShares n (map word zs)) (map-drop word n ws))
+
+  -- a secret bit
+  module _ (second : Bool) (set : f 16 ≡ cond second ones 0) (one : f 17 ≡ ones) where
+    one-word : word 0x20000 ≡ ones
+    one-word = added-one 64 17 f (omega arith) ∙ one
+
+    set-word : word 0x10000 ≡ cond second ones 0
+    set-word = added-one 64 16 f (omega arith) ∙ set
+
+    both-word : word 0x30000 ≡ bitXor (cond second ones 0) ones
+    both-word = added-xor 64 0x10000 0x20000 f ∙ ap₂ bitXor set-word one-word
+
+    secret-word : (x y : ℕ) → x ≤ 1 → y ≤ 1 → word (secretSum x y) ≡ ones * cond second y x
+    secret-word zero zero h k = added-none 64 f ∙ none second
+      where
+        none : (b : Bool) → 0 ≡ ones * cond b 0 0
+        none true = refl
+        none false = refl
+    secret-word zero (suc zero) h k = set-word ∙ either second
+      where
+        either : (b : Bool) → cond b ones 0 ≡ ones * cond b 1 0
+        either true = refl
+        either false = refl
+    secret-word (suc zero) zero h k = both-word ∙ either second
+      where
+        either : (b : Bool) → bitXor (cond b ones 0) ones ≡ ones * cond b 0 1
+        either true = refl
+        either false = refl
+    secret-word (suc zero) (suc zero) h k = one-word ∙ both second
+      where
+        both : (b : Bool) → ones ≡ ones * cond b 1 1
+        both true = refl
+        both false = refl
+    secret-word (suc (suc x)) y h k = absurd (omega arith)
+    secret-word zero (suc (suc y)) h k = absurd (omega arith)
+    secret-word (suc zero) (suc (suc y)) h k = absurd (omega arith)
+
+    -- all of them, in the set that is taken
+    secret-words : (n : ℕ) (secrets : List ℕ) → length secrets ≡ n + n → ((x : ℕ) → nth secrets x ≤ 1) → map word (secretSums n secrets) ≡ map (λ z. ones * z) (cond second (drop n secrets) (take n secrets))
+    secret-words n secrets e bit = ext-getD 0 (map word (secretSums n secrets)) (map (λ z. ones * z) (cond second (drop n secrets) (take n secrets)))
+        (length-map (secretSums n secrets) word ∙ many ∙ sym (length-map (cond second (drop n secrets) (take n secrets)) (λ z. ones * z) ∙ taken second))
+        (λ j l. let k : j < n = omega (arith, length-map (secretSums n secrets) word, many) in
+        words-at f (secretSums n secrets) j ∙ ap word (range-map j k) ∙ secret-word (nth secrets j) (nth secrets (n + j)) (bit j) (bit (n + j))
+        ∙ sym (map-at (λ z. ones * z) (cond second (drop n secrets) (take n secrets)) j 0 0 (omega (arith, taken second)) ∙ ap (λ z. ones * z) (chosen second j k)))
+      where
+        many : length (secretSums n secrets) ≡ n
+        many = length-map (range 0 n) (λ j. secretSum (nth secrets j) (nth secrets (n + j))) ∙ range-length 0 n
+
+        taken : (b : Bool) → length (cond b (drop n secrets) (take n secrets)) ≡ n
+        taken true = length-drop n secrets ∙ omega arith
+        taken false = length-take n secrets ∙ omega arith
+
+        range-map : (j : ℕ) → j < n → nth (secretSums n secrets) j ≡ secretSum (nth secrets j) (nth secrets (n + j))
+        range-map j k = map-at (λ i. secretSum (nth secrets i) (nth secrets (n + i))) (range 0 n) j 0 0 (omega (arith, range-length 0 n)) ∙ ap (λ i. secretSum (nth secrets i) (nth secrets (n + i))) (range-at 0 n j k ∙ zero-add j)
+
+        chosen : (b : Bool) (j : ℕ) → j < n → nth (cond b (drop n secrets) (take n secrets)) j ≡ cond b (nth secrets (n + j)) (nth secrets j)
+        chosen true j k = getD-drop n secrets j 0
+        chosen false j k = getD-take n secrets j 0 k
+
+pub secrets-many : (n : ℕ) (secrets : List ℕ) → length (secretSums n secrets) ≡ n
+secrets-many n secrets = length-map (range 0 n) (λ j. secretSum (nth secrets j) (nth secrets (n + j))) ∙ range-length 0 n
+
+-- the free bits
+free-at : (i : ℕ) → i < 16 → nth freeSums i ≡ 2 ^ i
+free-at i l = map-at (λ j. 2 ^ j) (range 0 16) i 0 0 l ∙ ap (λ j. 2 ^ j) (range-at 0 16 i l ∙ zero-add i)
+
+free-words : (f : Values) (number free : ℕ) → free ≤ 16 → ((i : ℕ) → i < 16 → f i ≡ freeWord i number) → FreeWords number free (map (λ m. added m f) freeSums)
+free-words f number free few h = record {
+  sized = length-map freeSums (λ m. added m f);
+  are = λ i l. words-at f freeSums i ∙ ap (λ m. added m f) (free-at i (omega arith)) ∙ added-one 64 i f (omega arith) ∙ h i (omega arith);
+}
+
+-- a batch: the variables, the products and the wires that are read
+module _ {table secrets read sums terms : List ℕ} {outputs found : ℕ} {plan : Plan} (p : Prepared table secrets read sums terms outputs found plan) {second : Bool} {batch : ℕ} {filled mid final shown : List ℕ}
+    (v : Variables second batch filled) (outs : Runs terms 0 outputs filled mid) (reads : Runs terms 32 (32 + found) mid final) (s : Shows sums read found final shown) where
+  abbrev set : List ℕ
+  set = setOf table second secrets
+
+  abbrev countable : Countable table set
+  countable = p .countable second
+
+  abbrev z : Sizes set (plan .others) (plan .start) (plan .free)
+  z = sizes countable (p .planned)
+
+  few : outputs ≤ 32
+  few = p .expanded .few
+
+  -- the words of one kind
+  module _ (w : ℕ) (l : w < 4) where
+    abbrev f : Values
+    f = wordsAt w final
+
+    abbrev number : ℕ
+    number = 4 * batch + w
+
+    kept : (x : ℕ) → x < 4 * 18 → nth final x ≡ nth filled x
+    kept x h = reads .below x (omega arith) ∙ outs .below x (omega arith)
+
+    free-is : (i : ℕ) → i < 16 → f i ≡ freeWord i number
+    free-is i h = kept (4 * i + w) (omega arith) ∙ v .free i w h l
+
+    full : f 17 ≡ ones
+    full = let e : 4 * 17 + w ≡ 68 + w = omega arith in kept (4 * 17 + w) (omega arith) ∙ ap (nth filled) e ∙ v .one w l
+
+    set-is : f 16 ≡ cond second ones 0
+    set-is = let e : 4 * 16 + w ≡ 64 + w = omega arith in kept (4 * 16 + w) (omega arith) ∙ ap (nth filled) e ∙ v .set w l
+
+    sharings : ℕ → List Bool
+    sharings e = completed (plan .others) (bits set) (freeOf (plan .free) (64 * number + e))
+
+    tapes : ℕ → List Bool
+    tapes e = drop (plan .others * length set) (freeOf (plan .free) (64 * number + e))
+
+    taken : plan .others * length set ≤ plan .free
+    taken = omega (arith, z .starts, z .within)
+
+    words : Words (preparedShares plan (circuitIn table .inputs) secrets) (preparedTape plan) 64 sharings tapes f
+    unfolding sharings tapes
+    words =
+        let fw = free-words f number (plan .free) (z .few) free-is in
+        record {
+          full = full ∙ sym ones-are;
+          shared = rw (all-words f (plan .others) (secretSums (circuitIn table .inputs) secrets) freeSums, secret-words f second set-is full (circuitIn table .inputs) secrets (p .sized) (p .bit)) (shares-packed fw (z .few) (plan .others) set taken (countable .bit));
+          drawn = rw (part-is (plan .start) (plan .free) freeSums (z .within) (omega (arith, z .few)), map-drop (λ m. added m f) (plan .start) (take (plan .free) freeSums), map-take (λ m. added m f) (plan .free) freeSums, ← z .starts)
+              (tape-packed fw (z .few) (plan .others) set taken);
+        }
+
+    -- the products have their words
+    solves : Solves terms outputs read found (size (circuitIn table)) f
+    solves = record {
+      outs = λ k h. reads .below (4 * (18 + k) + w) (omega (arith, few)) ∙ outs .are k w (omega arith) h l
+          ∙ term-same terms k (wordsAt w mid) f (p .expanded .before k (omega arith) h) (λ y i. sym (reads .below (4 * y + w) (omega (arith, few))));
+      reads = λ i h u. let e : 50 + i ≡ 18 + (32 + i) = omega arith in ap f e ∙ reads .are (32 + i) w (omega arith) (omega arith) l;
+    }
+
+    shows : (i : ℕ) → i < found → nth shown (4 * i + w) ≡ packed 64 (λ e. at (valuesIn (circuitIn table) (bits set) (64 * number + e)) (nth read i))
+    unfolding sharings tapes
+    shows i h =
+        let x = nth read i in
+        let k = circuitIn table in
+        let valued : (o m n : ℕ) → ℕ = λ o m n. packed 64 (λ e. let bs = freeOf n (64 * number + e) in at (valuesOf (k .wires) (completed o (bits set) bs) (drop m bs)) x) in
+        s .are i w h l ∙ sym (p .expanded .right 64 sharings tapes f words solves i h)
+        ∙ ap₂ (λ o m. valued o (o * m) (plan .free)) (p .planned .others-are) (countable .sized) ∙ ap (valued (k .d - 1) ((k .d - 1) * k .inputs)) (p .planned .free-is)
+
+  pub batch-shown : HoldsShown table set batch read found shown
+  batch-shown = record { are = λ i w h l. shows w l i h; sized = s .sized }
+
+-- the shares and the random bits are sums of the first 18 variables
+abbrev Low : List ℕ → Type 0
+Low xs = (i : ℕ) → nth xs i < 2 ^ 18
+
+low-append : (xs ys : List ℕ) → Low xs → Low ys → Low (xs ++ ys)
+low-append [] ys h k i = k i
+low-append (x ∷ xs) ys h k zero = h zero
+low-append (x ∷ xs) ys h k (suc i) = low-append xs ys (λ j. h (suc j)) k i
+
+low-take : (n : ℕ) (xs : List ℕ) → Low xs → Low (take n xs)
+low-take zero xs h i = omega arith
+low-take (suc n) [] h i = omega arith
+low-take (suc n) (x ∷ xs) h zero = h zero
+low-take (suc n) (x ∷ xs) h (suc i) = low-take n xs (λ j. h (suc j)) i
+
+low-drop : (n : ℕ) (xs : List ℕ) → Low xs → Low (drop n xs)
+low-drop n xs h i = rw (getD-drop n xs i 0) (h (n + i))
+
+low-shares : (x : ℕ) (ws : List ℕ) → x < 2 ^ 18 → Low ws → Low (sharesOf x ws)
+unfolding sharesOf
+low-shares x [] l h zero = l
+low-shares x [] l h (suc i) = omega arith
+low-shares x (w ∷ ws) l h zero = h zero
+low-shares x (w ∷ ws) l h (suc i) = low-shares (bitXor x w) ws (xor-lt 18 x w l (h zero)) (λ j. h (suc j)) i
+
+low-all : (n : ℕ) (zs ws : List ℕ) → Low zs → Low ws → Low (allShares n zs ws)
+unfolding allShares
+low-all n [] ws h k i = omega arith
+low-all n (x ∷ zs) ws h k i = low-append (sharesOf x (take n ws)) (allShares n zs (drop n ws)) (low-shares x (take n ws) (h zero) (low-take n ws k)) (low-all n zs (drop n ws) (λ j. h (suc j)) (low-drop n ws k)) i
+
+low-map : (g : ℕ → ℕ) (xs : List ℕ) → ((x : ℕ) → In x xs → g x < 2 ^ 18) → Low (map g xs)
+low-map g [] h i = omega arith
+low-map g (x ∷ xs) h zero = h x (in-head x xs)
+low-map g (x ∷ xs) h (suc i) = low-map g xs (λ y k. h y (in-tail y x xs k)) i
+
+low-secret : (x y : ℕ) → secretSum x y < 2 ^ 18
+low-secret zero zero = omega arith
+low-secret zero (suc y) = omega arith
+low-secret (suc x) zero = omega arith
+low-secret (suc x) (suc y) = omega arith
+
+low-free : Low freeSums
+low-free = low-map (λ i. 2 ^ i) (range 0 16) (λ i h. let l = label-lt 16 i h in pow-lt {i = i} {j = 18} (omega arith))
+
+pub prepared-low : (plan : Plan) (n : ℕ) (secrets : List ℕ) → Low (preparedShares plan n secrets) × Low (preparedTape plan)
+prepared-low plan n secrets = (
+  low-all (plan .others) (secretSums n secrets) freeSums (low-map _ (range 0 n) (λ j h. low-secret (nth secrets j) (nth secrets (n + j)))) low-free,
+  low-take (plan .free - plan .start) (drop (plan .start) freeSums) (low-drop (plan .start) freeSums low-free),
+)
+
+-- a list written at the start of a buffer, lent by itself
+pub lent-is : (list : List ℕ) (n room : ℕ) → length list ≡ n → n ≤ room → part 0 n (sets (replicate room 0) 0 list) ≡ list
+lent-is list n room e l =
+    ap (take (n - 0)) (sets-eq list (replicate room 0) 0 (omega (arith, length-replicate {A = ℕ} room 0))) ∙ take-at list (drop (0 + length list) (replicate room 0)) (n - 0) (omega arith)
+
+pub lasts-many : {secrets lasts : List ℕ} {inputs : ℕ} → SecretSums secrets inputs lasts → length (take (inputs - 0) lasts) ≡ inputs
+lasts-many {secrets} {lasts} {inputs} ls = ap length (ap (λ n. take n lasts) (sub-zero inputs) ∙ ls .are) ∙ secrets-many inputs secrets
+
+-- the shares and random bits that are lent to the expansion
+module _ {table secrets : List ℕ} {inputs : ℕ} {plan : Plan} (k : Countable table (take inputs secrets)) (pl : Planned table plan) (inputs-are : inputs ≡ circuitIn table .inputs) {free lasts shares : List ℕ} (fs : free ≡ freeSums)
+    (ls : SecretSums secrets inputs lasts) (sh : shares ≡ sets (replicate 32 0) 0 (allShares (plan .others) (take (inputs - 0) lasts) free)) where
+  abbrev sz : Sizes (take inputs secrets) (plan .others) (plan .start) (plan .free)
+  sz = sizes k pl
+
+  as-many : length (take inputs secrets) ≡ inputs
+  as-many = k .sized ∙ sym inputs-are
+
+  starts : plan .others * inputs ≡ plan .start
+  starts = ap (λ n. plan .others * n) (sym as-many) ∙ sz .starts
+
+  list-is : allShares (plan .others) (take (inputs - 0) lasts) free ≡ preparedShares plan inputs secrets
+  list-is = ap₂ (allShares (plan .others)) (ap (λ n. take n lasts) (sub-zero inputs) ∙ ls .are) fs
+
+  many : length (preparedShares plan inputs secrets) ≡ (plan .others + 1) * inputs
+  many = all-length (plan .others) (secretSums inputs secrets) freeSums (omega (arith, ap (λ n. plan .others * n) (secrets-many inputs secrets), starts, sz .within, sz .few)) ∙ ap (λ n. (plan .others + 1) * n) (secrets-many inputs secrets)
+
+  all-few : (plan .others + 1) * inputs ≤ 32
+  all-few = omega (arith, ap (λ n. (plan .others + 1) * n) as-many, sz .shares)
+
+  pub buffer : length shares ≡ 32
+  buffer = ap length sh ∙ length-sets (replicate 32 0) 0 (allShares (plan .others) (take (inputs - 0) lasts) free)
+
+  pub sharing-is : part 0 ((plan .others + 1) * inputs) shares ≡ preparedShares plan inputs secrets
+  sharing-is = ap (part 0 ((plan .others + 1) * inputs)) (sh ∙ ap (sets (replicate 32 0) 0) list-is) ∙ lent-is (preparedShares plan inputs secrets) ((plan .others + 1) * inputs) 32 many all-few
+
+  pub tape-is : part (plan .start) (plan .free) free ≡ preparedTape plan
+  tape-is = ap (part (plan .start) (plan .free)) fs
+
+  drawn-many : length (preparedTape plan) ≡ plan .free - plan .start
+  drawn-many = length-take-le (plan .free - plan .start) (drop (plan .start) freeSums) (rw (length-drop (plan .start) freeSums) (omega (arith, sz .few)))
+
+  pub lent-evaluable : {room : ℕ} → size (circuitIn table) ≤ room → Evaluable table (preparedShares plan inputs secrets) (preparedTape plan) room × (length (preparedTape plan) ≤ 16)
+  lent-evaluable room = (
+    record {
+      accepted = k .accepted;
+      shared = many ∙ ap₂ _*_ (let e : plan .others + 1 ≡ circuitIn table .d = omega (arith, pl .others-are, sz .some) in e) inputs-are ∙ mul-comm (circuitIn table .d) (circuitIn table .inputs);
+      drawn = drawn-many ∙ omega (arith, pl .free-is, pl .start-is ∙ ap (λ n. n * circuitIn table .inputs) (pl .others-are));
+      roomy = room;
+    },
+    omega (arith, drawn-many, sz .few),
+  )

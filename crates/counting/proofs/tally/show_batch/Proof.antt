@@ -1,0 +1,35 @@
+-- The variables' words, the outputs', those of terms that are read, and the read wires'.
+use mathlib.Core.Path.{_≡_, _∙_}
+use Prim.Native.Nat.{_+_, _*_, _^_, _≤_}
+use native.Mathlib.Nat.{mul-le-mul-left}
+use native.Mathlib.Omega.{arith}
+use lib.ListN.{length}
+use Rattle.counting.specs.Internal.Tallying.{Prepared}
+use Rattle.counting.proofs.tally.show_batch.Statement.{statement}
+use Rattle.counting.proofs.tally.show_batch.Tie as tie
+use Rattle.counting.proofs.Numbered.{pow-mono}
+use Rattle.counting.proofs.Batches.{sizes}
+use Rattle.counting.proofs.Preparing.{batch-shown}
+
+-- what some table gives
+some : (s : tie.Start) → let a = s .args in Prepared (s .pre .0 .table) (s .pre .0 .secrets) (a .read .now) (a .sums .now) (a .terms .now) (a .outputs) (a .found) (a .plan)
+some s = s .pre .0 .prepared
+
+few : (s : tie.Start) → s .args .plan .batches ≤ 65536
+few s =
+    let p = some s in
+    let d = p .planned .divides in
+    let plan = s .args .plan in
+    omega (arith, mul-le-mul-left (plan .batches) (d .some), d .all, pow-mono 16 (plan .free) (sizes (p .countable (s .args .second)) (p .planned) .few))
+
+pub show-batch-spec : {M : Type 1} → statement M
+show-batch-spec =
+    tie.close
+    (tie.spec
+    (λ c κs. let s = c .before .before in (omega (arith, few s, s .pre .1), s .pre .2))
+    (λ c κs. let s = c .before .before .before .before .before in let p = some s in (p .terms-sized, c .before .before .fill-variables .ensures .sized, omega arith, omega (arith, p .expanded .few), p .expanded .before))
+    (λ c. record { fits = omega (arith, some (c .before .before .before .before .before .before .before) .read-in .few) })
+    (λ c κs. let s = c .before .before .before .before .before .before .before .before in let p = some s in (p .terms-sized, c .before .before .run .ensures .sized ∙ c .before .before .before .before .before .fill-variables .ensures .sized, omega arith, omega (arith, p .read-in .few), p .expanded .reads-before))
+    (λ c κs. let s = c .before .before .before .before .before .before .before .before .before .before .before .before .before in let p = some s in
+    (p .read-in .few, p .read-in .sized, c .before .before .before .before .run2 .ensures .sized ∙ c .before .before .before .before .before .before .before .run .ensures .sized ∙ c .before .before .before .before .before .before .before .before .before .before .fill-variables .ensures .sized, s .pre .3, λ i l. omega (arith, p .read-in .made i l, p .room)))
+    (λ c. ((λ table secrets p. batch-shown p (c .before .before .before .before .before .before .before .before .before .before .before .fill-variables .ensures) (c .before .before .before .before .before .before .before .before .run .ensures) (c .before .before .before .before .before .run2 .ensures) (c .show .ensures)), c .before .before .before .before .before .run2 .ensures .sized ∙ c .before .before .before .before .before .before .before .before .run .ensures .sized ∙ c .before .before .before .before .before .before .before .before .before .before .before .fill-variables .ensures .sized)))

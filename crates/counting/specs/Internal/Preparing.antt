@@ -1,0 +1,43 @@
+-- Shares and random bits as sums of variables: the free bits are the variables below 16; the next is 1 under the second set of secret
+-- bits, and the one behind it is 1.
+use mathlib.Core.Path.{_≡_}
+use mathlib.Core.Bool.{Bool, cond}
+use mathlib.Core.List.{List, map}
+use Prim.Native.Nat.{ℕ, _+_, _*_, _-_, _^_, _<_}
+use lib.ListN.{length, take, drop}
+use Rattle.circuit.specs.Lists.{nth, range}
+use Rattle.circuit.specs.Circuit.{isSet}
+use Rattle.counting.specs.declared.tally.Plan.{Plan}
+use Rattle.counting.specs.Internal.Words.{ones, freeWord, allShares}
+
+-- a secret bit, from its values in both sets
+abbrev pub secretSum : (one other : ℕ) → ℕ
+secretSum x y = cond (isSet x) (cond (isSet y) 0x20000 0x30000) (cond (isSet y) 0x10000 0)
+
+abbrev pub secretSums : (inputs : ℕ) (secrets : List ℕ) → List ℕ
+secretSums n secrets = map (λ j. secretSum (nth secrets j) (nth secrets (n + j))) (range 0 n)
+
+pub record SecretSums (secrets : List ℕ) (inputs : ℕ) (sums : List ℕ) : Type 0 where
+  pub are : take inputs sums ≡ secretSums inputs secrets
+  pub sized : length sums ≡ 16
+
+-- the free bits
+abbrev pub freeSums : List ℕ
+freeSums = map (λ i. 2 ^ i) (range 0 16)
+
+abbrev pub FreeSums : List ℕ → Type 0
+FreeSums sums = sums ≡ freeSums
+
+-- the shares and the random bits
+abbrev pub preparedShares : Plan → (inputs : ℕ) (secrets : List ℕ) → List ℕ
+preparedShares plan n secrets = allShares (plan .others) (secretSums n secrets) freeSums
+
+abbrev pub preparedTape : Plan → List ℕ
+preparedTape plan = take (plan .free - plan .start) (drop (plan .start) freeSums)
+
+-- four words for each of these variables, in the pairs of a batch
+pub record Variables (second : Bool) (batch : ℕ) (words : List ℕ) : Type 0 where
+  pub free : (i w : ℕ) → i < 16 → w < 4 → nth words (4 * i + w) ≡ freeWord i (4 * batch + w)
+  pub set : (w : ℕ) → w < 4 → nth words (64 + w) ≡ cond second ones 0
+  pub one : (w : ℕ) → w < 4 → nth words (68 + w) ≡ ones
+  pub sized : length words ≡ 256

@@ -1,0 +1,55 @@
+// The variables of an expanded table that are no products: the free bits, which set of secret bits is taken, and 1. They have four
+// words each, in which 256 pairs have a bit each.
+ghost use mathlib.Core.Path.{_≡_};
+ghost use mathlib.Core.Bool.{cond};
+ghost use Prim.Native.Nat.{_+_, _*_, _≤_, _<_};
+ghost use lib.ListN.{length};
+ghost use Rattle.symbolic.specs.Internal.Sums.{fourAt};
+ghost use Rattle.counting.specs.Internal.Words.{ones, freeWord};
+ghost use Rattle.counting.specs.Internal.Preparing.{Variables};
+use super::pairs;
+
+// The same word four times.
+fn write_same(words: &mut [u64; 256], at: usize, word: u64)
+    requires { ⌜ (at + 4 ≤ 256) × (length (now words) ≡ 256) ⌝ }
+    ensures { λ _. ⌜ now (words .exit) ≡ fourAt (now (words .entry)) at word word word word ⌝ }
+{
+    words[at] = word;
+    words[at + 1] = word;
+    words[at + 2] = word;
+    words[at + 3] = word;
+}
+
+// The words of a free bit in the pairs of a batch.
+fn write_free(words: &mut [u64; 256], i: usize, batch: usize)
+    requires { ⌜ (i < 16) × (batch ≤ 65536) × (length (now words) ≡ 256) ⌝ }
+    ensures { λ _. ⌜ now (words .exit) ≡ fourAt (now (words .entry)) (4 * i) (freeWord i (4 * batch)) (freeWord i (4 * batch + 1)) (freeWord i (4 * batch + 2)) (freeWord i (4 * batch + 3)) ⌝ }
+{
+    let at = 4 * i;
+    let first = 4 * batch;
+    words[at] = pairs::free_word(i, first);
+    words[at + 1] = pairs::free_word(i, first + 1);
+    words[at + 2] = pairs::free_word(i, first + 2);
+    words[at + 3] = pairs::free_word(i, first + 3);
+}
+
+// A bit in all pairs.
+fn everywhere(bit: bool) -> u64
+    ensures { λ r. ⌜ r ≡ cond bit ones 0 ⌝ }
+{
+    if bit { pairs::ONES } else { 0 }
+}
+
+// The words of these variables in the pairs of a batch, under the first or the second set of secret bits.
+pub(crate) fn fill_variables(words: &mut [u64; 256], second: bool, batch: usize)
+    requires { ⌜ (batch ≤ 65536) × (length (now words) ≡ 256) ⌝ }
+    ensures { λ _. ⌜ Variables second batch (now (words .exit)) ⌝ }
+{
+    let mut i = 0;
+    while i < 16 {
+        write_free(words, i, batch);
+        i += 1;
+    }
+    write_same(words, 64, everywhere(second));
+    write_same(words, 68, pairs::ONES);
+}

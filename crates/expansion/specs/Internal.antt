@@ -1,2 +1,0 @@
--- An accepted table, expanded
-pub mod Expanding
