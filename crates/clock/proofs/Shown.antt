@@ -13,8 +13,9 @@ use Rattle.semantics.proofs.Solving.{gateAt, OrderedFrom}
 use Rattle.semantics.proofs.Clocked.{clock-solved}
 use Rattle.gadgets.proofs.Bits.{bits-at, set-byte}
 use Rattle.simulation.specs.Internal.Filling.{Values}
+use Rattle.simulation.specs.Internal.Evaluating.{Bits}
 use Rattle.simulation.proofs.Packing.{wordValue, packed-value}
-use Rattle.simulation.proofs.Single.{Bits, one, packs}
+use Rattle.simulation.proofs.Single.{one, packs}
 
 -- the byte of what a gate gives, from the bytes of what it takes
 pub word-value : (shares tape : List ℕ) → Bits shares → Bits tape → (g : Gate) (f : ℕ → Bool) (used : ℕ)

@@ -20,9 +20,10 @@ use Rattle.frames.specs.Walk.{operandsAt}
 use Rattle.gadgets.specs.Internal.Accepting.{AcceptedTable, circuitIn}
 use Rattle.gadgets.specs.Internal.Frames.{frameWires}
 use Rattle.gadgets.proofs.Walking.{whole, whole-ordered, Met}
+use Rattle.simulation.specs.Internal.Evaluating.{Bits}
 use Rattle.simulation.specs.Internal.Walked.{WalkedTo}
 use Rattle.simulation.proofs.Walked.{walked-start, rank-is, frame-within, walked-next, walked-all}
-use Rattle.simulation.proofs.Single.{Bits, written-over, all-known}
+use Rattle.simulation.proofs.Single.{written-over, all-known}
 use Rattle.clock.specs.Internal.Running.{held, Clock, Upto, Runs}
 use Rattle.clock.specs.Internal.Parts.{Framed}
 use Rattle.clock.specs.Internal.Whole.{Ready, AllBits, Clocked}

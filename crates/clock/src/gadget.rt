@@ -54,7 +54,7 @@ fn cross(values: &mut [u8], bank: &mut [u8], at: usize, a: u8, b: u8, r: u8, sho
     requires { ⌜ (at + 6 ≤ length (now values)) × (at + 6 ≤ length (now bank)) ⌝ }
     ensures { λ s. ⌜ Crosses at a b r shown (now (values .entry)) (now (bank .entry)) (now (values .exit)) (now (bank .exit)) s ⌝ }
 {
-    let u = equations::u(1, a, shown);
+    let u = equations::u(a, shown);
     let v = equations::v(b, r);
     let w = equations::w(a, values[at + 3]);
     values[at] = u;

@@ -11,7 +11,7 @@ ghost use Rattle.gadgets.specs.Internal.Accepting.{circuitIn};
 ghost use Rattle.gadgets.specs.Internal.Frames.{frameWires, Small, FrameEarly, FrameSupplied};
 ghost use Rattle.clock.specs.Internal.Running.{Runs};
 ghost use Rattle.clock.specs.Internal.Parts.{Framed};
-ghost use Rattle.simulation.proofs.Single.{Bits};
+ghost use Rattle.simulation.specs.Internal.Evaluating.{Bits};
 ghost use Rattle.clock.specs.Internal.Whole.{Ready, Clocked, RegisterFirst};
 use super::gadget;
 use circuit::WIRES;
@@ -57,12 +57,12 @@ fn run_frame(
                 label: _,
                 value,
                 stage: _,
-            } => values::constant(values, first, value, 1),
+            } => values::constant(values, first, value),
             Gate::Xor {
                 first: one,
                 second: other,
             } => values::sum(values, first, one, other),
-            Gate::Not { wire } => values::inverse(values, first, wire, 1),
+            Gate::Not { wire } => values::inverse(values, first, wire),
             Gate::Reg { wire } => register(values, bank, first, wire),
             Gate::Out => {}
         },

@@ -26,8 +26,8 @@ use Rattle.checker.specs.Answers.{answerOf}
 use Rattle.gadgets.specs.Internal.Accepting.{AcceptedTable, circuitIn}
 use Rattle.gadgets.proofs.Framing.{inputs-few}
 use Rattle.gadgets.proofs.Walking.{least-notes, same-circuit}
-use Rattle.simulation.specs.Internal.Evaluating.{Evaluable, Evaluates}
-use Rattle.simulation.proofs.Single.{Bits, single}
+use Rattle.simulation.specs.Internal.Evaluating.{Evaluable, Bits, Evaluates}
+use Rattle.simulation.proofs.Single.{single}
 use Rattle.evaluation.specs.Internal.Refusing.{refusal}
 use Rattle.evaluation.specs.Internal.Calling.{Shortest, Judged}
 
@@ -172,7 +172,7 @@ module _ (table notes shares tape : List ℕ) (sheets : List (List ℕ)) (probes
   pub evaluable : {room wires n : ℕ} → Passed room wires → room ≤ n → Evaluable table shares tape n
   evaluable p enough = record { accepted = p .of .accepted; shared = p .shared; drawn = p .drawn; roomy = omega arith }
 
-  pub evaluated : {room wires : ℕ} → Passed room wires → {old new : List ℕ} → Evaluates table 1 shares tape old new → room ≤ length old
+  pub evaluated : {room wires : ℕ} → Passed room wires → {old new : List ℕ} → Evaluates table shares tape old new → room ≤ length old
       → new ≡ overwrite (bytes (valuesOf (circuitIn table .wires) (bits shares) (bits tape))) old
   evaluated p e enough = single e (p .shareBits) (p .tapeBits) (omega arith)
 

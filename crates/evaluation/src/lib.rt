@@ -40,7 +40,7 @@ pub fn evaluate(
     else {
         return verdict;
     };
-    values::fill(table, 1, shares, tape, values);
+    values::fill(table, shares, tape, values);
     verdict
 }
 
@@ -74,7 +74,7 @@ pub fn read_probes(
     else {
         return verdict;
     };
-    values::fill(table, 1, shares, tape, values);
+    values::fill(table, shares, tape, values);
     let mut marks = [0u8; WIRES];
     readings::reach_stops(table, wires, probes, &mut marks);
     readings::show(&marks, values, wires, reading);

@@ -1,5 +1,4 @@
-// The gates inside AND, by document 01's letters, each from the words of what it takes. A word has a bit for each evaluation; in ones, the
-// bit of each is set. (A product's other gates are registers and sums.)
+// The gates inside AND, by document 01's letters, each from the bits of what it takes. (A product's other gates are registers and sums.)
 ghost use mathlib.Core.Path.{_≡_};
 ghost use lib.Bits.{bitAnd, bitXor};
 
@@ -11,10 +10,10 @@ pub fn m(a: u8, b: u8) -> u8
 }
 
 // u = (not a)·R
-pub fn u(ones: u8, a: u8, r: u8) -> u8
-    ensures { λ s. ⌜ s ≡ bitAnd (bitXor ones a) r ⌝ }
+pub fn u(a: u8, r: u8) -> u8
+    ensures { λ s. ⌜ s ≡ bitAnd (bitXor 1 a) r ⌝ }
 {
-    (ones ^ a) & r
+    (1 ^ a) & r
 }
 
 // v = b + r

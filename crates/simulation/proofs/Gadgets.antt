@@ -16,11 +16,11 @@ use Rattle.simulation.specs.Internal.Gadgets.{Sums}
 use Rattle.simulation.proofs.Adding.{adds-turn, adds-end, add-others}
 use Rattle.simulation.proofs.Filled.{known-all, fills-next, fills-for, fills-at, fills-set}
 
-pub and-filled : (ones d first : ℕ) (a b : ℕ → ℕ) (tape : List ℕ) (used : ℕ) {old one two three : List ℕ} (count : ℕ) → count ≡ pairs d
+pub and-filled : (d first : ℕ) (a b : ℕ → ℕ) (tape : List ℕ) (used : ℕ) {old one two three : List ℕ} (count : ℕ) → count ≡ pairs d
     → Fills (Drawn tape used first count) first (first + 2 * count) old one → Fills (ShareProducts d first a b) (productAt d first 0) (productAt d first d) one two
-    → Fills (Multiplied ones d first a) (first + crossStart d 0) (outAt d first d) two three
-    → Fills (AndValues ones d first a b tape used) first (first + (7 * (d * (d - 1)) + 4 * d)) old three
-and-filled ones d first a b tape used count e draws products outs =
+    → Fills (Multiplied 1 d first a) (first + crossStart d 0) (outAt d first d) two three
+    → Fills (AndValues 1 d first a b tape used) first (first + (7 * (d * (d - 1)) + 4 * d)) old three
+and-filled d first a b tape used count e draws products outs =
     fills-next (omega arith) (omega arith) (λ v q k. q .multiplied)
     (fills-next (omega (arith, e, pairs-twice d)) (omega arith) (λ v q k. q .products)
     (fills-for (λ v q. subst (λ (n : ℕ). Drawn tape used first n v) (sym e) (q .drawn)) (fills-at refl (omega (arith, e, pairs-twice d)) draws)) products)

@@ -19,15 +19,15 @@ use Rattle.simulation.proofs.Adding.{add-others}
 use Rattle.simulation.proofs.Filled.{known-all}
 
 -- the rows of the shares below i, and their outputs
-pub record OutputsOn (ones d first : ℕ) (a : ℕ → ℕ) (old values : List ℕ) (i : ℕ) : Type 0 where
+pub record OutputsOn (d first : ℕ) (a : ℕ → ℕ) (old values : List ℕ) (i : ℕ) : Type 0 where
   pub most : i ≤ d
-  pub known : (v : Values) → Multiplied ones d first a v → Known v 0 (first + crossStart d 0) old → Known v 0 (first + crossStart d i) values
-  pub outs : (v : Values) → Multiplied ones d first a v → Known v 0 (first + crossStart d 0) old → Known v (outAt d first 0) (outAt d first i) values
+  pub known : (v : Values) → Multiplied 1 d first a v → Known v 0 (first + crossStart d 0) old → Known v 0 (first + crossStart d i) values
+  pub outs : (v : Values) → Multiplied 1 d first a v → Known v 0 (first + crossStart d 0) old → Known v (outAt d first 0) (outAt d first i) values
   pub below : (x : ℕ) → x < first + crossStart d 0 → nth values x ≡ nth old x
   pub above : (x : ℕ) → outAt d first d ≤ x → nth values x ≡ nth old x
   pub size : length values ≡ length old
 
-pub outputs-start : {ones d first : ℕ} {a : ℕ → ℕ} {old : List ℕ} → OutputsOn ones d first a old old 0
+pub outputs-start : {d first : ℕ} {a : ℕ → ℕ} {old : List ℕ} → OutputsOn d first a old old 0
 outputs-start = record {
   most = omega arith;
   known = λ v e k. k;
@@ -37,7 +37,7 @@ outputs-start = record {
   size = refl;
 }
 
-pub outputs-end : {ones d first : ℕ} {a : ℕ → ℕ} {old values : List ℕ} {i : ℕ} → d ≤ i → OutputsOn ones d first a old values i → Fills (Multiplied ones d first a) (first + crossStart d 0) (outAt d first d) old values
+pub outputs-end : {d first : ℕ} {a : ℕ → ℕ} {old values : List ℕ} {i : ℕ} → d ≤ i → OutputsOn d first a old values i → Fills (Multiplied 1 d first a) (first + crossStart d 0) (outAt d first d) old values
 outputs-end {d = d} {first} {i = i} h on =
     let e : i ≡ d = omega (arith, on .most) in
     record {
@@ -49,8 +49,8 @@ outputs-end {d = d} {first} {i = i} h on =
       size = on .size;
     }
 
-module _ {ones d first : ℕ} {a : ℕ → ℕ} {old values : List ℕ} {i : ℕ} (on : OutputsOn ones d first a old values i) (l : i < d) (early : a i < first) (room : outAt d first d ≤ length old)
-    {one two : List ℕ} {s t : ℕ} (r : CrossesRow ones d first i (nth values (a i)) (nth values (productAt d first i + 2)) 0 i values one s) (q : CrossesRow ones d first i (nth values (a i)) s (i + 1) d one two t) where
+module _ {d first : ℕ} {a : ℕ → ℕ} {old values : List ℕ} {i : ℕ} (on : OutputsOn d first a old values i) (l : i < d) (early : a i < first) (room : outAt d first d ≤ length old)
+    {one two : List ℕ} {s t : ℕ} (r : CrossesRow d first i (nth values (a i)) (nth values (productAt d first i + 2)) 0 i values one s) (q : CrossesRow d first i (nth values (a i)) s (i + 1) d one two t) where
   ends : RowEnds d first i
   ends = row-ends d first i l
 
@@ -64,14 +64,14 @@ module _ {ones d first : ℕ} {a : ℕ → ℕ} {old values : List ℕ} {i : ℕ
   size-two : length two ≡ length old
   size-two = q .fills .size ∙ r .fills .size ∙ on .size
 
-  module _ (v : Values) (e : Multiplied ones d first a v) (k : Known v 0 (first + crossStart d 0) old) where
+  module _ (v : Values) (e : Multiplied 1 d first a v) (k : Known v 0 (first + crossStart d 0) old) where
     now-known : Known v 0 (first + crossStart d i) values
     now-known = on .known v e k
 
     a-is : nth values (a i) ≡ v (a i)
     a-is = now-known (a i) (omega arith) (omega arith)
 
-    by : RowCrossed ones d first i (nth values (a i)) v
+    by : RowCrossed 1 d first i (nth values (a i)) v
     by = rw a-is (e .crossed i l)
 
     start-known : Known v 0 (crossAt d first i 0) values
@@ -85,14 +85,14 @@ module _ {ones d first : ℕ} {a : ℕ → ℕ} {old values : List ℕ} {i : ℕ
 
     out-known : t ≡ v (outAt d first i)
     out-known =
-        let f : Values = crossingAt ones d first i (nth values (a i)) v in
+        let f : Values = crossingAt 1 d first i (nth values (a i)) v in
         q .adds v by mid-known ∙ ap (λ z. bitXor z (wordSum (range (i + 1) (d - (i + 1))) f)) (r .adds v by start-known) ∙ add-others f (nth values (productAt d first i + 2)) d i l
-        ∙ ap₂ (λ m x. bitXor m (wordSum (others d i) (crossingAt ones d first i x v))) (now-known (productAt d first i + 2) (omega arith) (product-early d first i i l)) a-is ∙ sym (e .out i l)
+        ∙ ap₂ (λ m x. bitXor m (wordSum (others d i) (crossingAt 1 d first i x v))) (now-known (productAt d first i + 2) (omega arith) (product-early d first i i l)) a-is ∙ sym (e .out i l)
 
   in-room : outAt d first i < length two
   in-room = omega (arith, size-two)
 
-  turned : OutputsOn ones d first a old (set two (outAt d first i) t) (i + 1)
+  turned : OutputsOn d first a old (set two (outAt d first i) t) (i + 1)
   turned = record {
     most = omega arith;
     known = λ v e k x p u. nth-set two (outAt d first i) t x in-room (λ same z. absurd (omega (arith, row-room d first i l))) (λ other z. z ∙ row-known v e k x p u);
@@ -105,7 +105,7 @@ module _ {ones d first : ℕ} {a : ℕ → ℕ} {old values : List ℕ} {i : ℕ
   }
 
 -- where the code finds a, M and the output
-pub outputs-turn : {ones d first : ℕ} {a : ℕ → ℕ} {old values : List ℕ} {i : ℕ} → OutputsOn ones d first a old values i → i < d → a i < first → outAt d first d ≤ length old
+pub outputs-turn : {d first : ℕ} {a : ℕ → ℕ} {old values : List ℕ} {i : ℕ} → OutputsOn d first a old values i → i < d → a i < first → outAt d first d ≤ length old
     → (x o p : ℕ) → x ≡ a i → o ≡ productAt d first i + 2 → p ≡ outAt d first i → {one two : List ℕ} {s t : ℕ}
-    → CrossesRow ones d first i (nth values x) (nth values o) 0 i values one s → CrossesRow ones d first i (nth values x) s (i + 1) d one two t → OutputsOn ones d first a old (set two p t) (i + 1)
+    → CrossesRow d first i (nth values x) (nth values o) 0 i values one s → CrossesRow d first i (nth values x) s (i + 1) d one two t → OutputsOn d first a old (set two p t) (i + 1)
 outputs-turn on l early room x o p x-is o-is p-is r q = rw p-is (turned on l early room (rw (x-is, o-is) at r) (rw x-is at q))

@@ -1,5 +1,5 @@
 -- One sharing and tape: the buffer then holds the bytes of its values.
-use mathlib.Core.Path.{_≡_, refl, sym, ap, _∙_}
+use mathlib.Core.Path.{_≡_, sym, ap, _∙_}
 use mathlib.Core.Bool.{Bool, false}
 use mathlib.Core.List.{List, []}
 use Prim.Native.Nat.{ℕ, _+_, _-_, _≤_, _<_}
@@ -16,11 +16,7 @@ use Rattle.semantics.specs.Values.{bits, byte, bytes, at, valuesOf}
 use Rattle.semantics.proofs.Values.{values-length}
 use Rattle.gadgets.specs.Internal.Accepting.{circuitIn}
 use Rattle.gadgets.proofs.Bits.{bits-at, set-byte}
-use Rattle.simulation.specs.Internal.Evaluating.{packed, Packs, Evaluates}
-
--- bytes that are bits
-abbrev pub Bits : List ℕ → Type 0
-Bits values = (x : ℕ) → nth values x ≤ 1
+use Rattle.simulation.specs.Internal.Evaluating.{packed, Packs, Bits, Evaluates}
 
 pub one : (f : ℕ → Bool) → packed 1 f ≡ byte (f 0)
 one f = zero-add (byte (f 0))
@@ -49,10 +45,10 @@ all-known vs old new room known rest size =
     let count : length (bytes vs) ≡ length vs = length-map vs byte in
     written-over (bytes vs) old new (omega arith) (λ x l. known x (omega arith) ∙ sym (List·getD-map byte vs x false)) (λ x l. rest x (omega arith)) size
 
-pub single : {table shares tape old new : List ℕ} → Evaluates table 1 shares tape old new → Bits shares → Bits tape → size (circuitIn table) ≤ length old
+pub single : {table shares tape old new : List ℕ} → Evaluates table shares tape old new → Bits shares → Bits tape → size (circuitIn table) ≤ length old
     → new ≡ overwrite (bytes (valuesOf (circuitIn table .wires) (bits shares) (bits tape))) old
 single {table} {shares} {tape} {old} {new} e shared drawn room =
     let vs = valuesOf (circuitIn table .wires) (bits shares) (bits tape) in
     let count : length vs ≡ size (circuitIn table) = values-length (bits shares) (bits tape) [] (circuitIn table .wires) ∙ omega arith in
-    all-known vs old new (omega (arith, count)) (λ x l. e .known 1 (λ l. bits shares) (λ l. bits tape) refl (packs shares shared) (packs tape drawn) x (omega (arith, count)) ∙ one (λ l. at vs x))
+    all-known vs old new (omega (arith, count)) (λ x l. e .known shared drawn x (omega (arith, count)))
     (λ x l. e .above x (omega (arith, count))) (e .sized)

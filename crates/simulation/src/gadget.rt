@@ -57,11 +57,11 @@ fn share_products(values: &mut [u8], first: usize, d: usize, ops: &[u16])
 }
 
 // AND's wires u, U, v, V, w and W of two shares, from the words of a, b and r. The answer is the sum of U and W.
-fn cross(values: &mut [u8], at: usize, ones: u8, a: u8, b: u8, r: u8) -> u8
+fn cross(values: &mut [u8], at: usize, a: u8, b: u8, r: u8) -> u8
     requires { ⌜ at + 6 ≤ length (now values) ⌝ }
-    ensures { λ s. ⌜ Crosses ones at a b r (now (values .entry)) (now (values .exit)) s ⌝ }
+    ensures { λ s. ⌜ Crosses at a b r (now (values .entry)) (now (values .exit)) s ⌝ }
 {
-    let u = equations::u(ones, a, r);
+    let u = equations::u(a, r);
     let v = equations::v(b, r);
     let w = equations::w(a, v);
     values[at] = u;
@@ -79,37 +79,36 @@ fn cross_row(
     first: usize,
     d: usize,
     i: usize,
-    ones: u8,
     a: u8,
     word: u8,
     from: usize,
     to: usize,
 ) -> u8
     requires { ⌜ Small first d × (i < d) × (to ≤ d) × Roomy d first (now values) × ((j : ℕ) → from ≤ j → j < to → j ≡ i → ⊥) × (from ≤ to) ⌝ }
-    ensures { λ s. ⌜ CrossesRow ones d first i a word from to (now (values .entry)) (now (values .exit)) s ⌝ }
+    ensures { λ s. ⌜ CrossesRow d first i a word from to (now (values .entry)) (now (values .exit)) s ⌝ }
 {
     let mut sum = word;
     let mut j = from;
     while j < to {
         let r = values[places::pair_at(d, first, i, j)];
         let b = values[places::product_at(d, first, j)];
-        sum = sum ^ cross(values, places::cross_at(d, first, i, j), ones, a, b, r);
+        sum = sum ^ cross(values, places::cross_at(d, first, i, j), a, b, r);
         j += 1;
     }
     sum
 }
 
 // The same of every share and each other, and the outputs.
-fn cross_all(values: &mut [u8], first: usize, d: usize, ones: u8, ops: &[u16])
+fn cross_all(values: &mut [u8], first: usize, d: usize, ops: &[u16])
     requires { ⌜ Small first d × (1 + d ≤ length (now ops)) × RowBefore first d (wordA (now ops)) × Roomy d first (now values) ⌝ }
-    ensures { λ _. ⌜ Fills (Multiplied ones d first (wordA (now (ops .entry)))) (first + crossStart d 0) (outAt d first d) (now (values .entry)) (now (values .exit)) ⌝ }
+    ensures { λ _. ⌜ Fills (Multiplied 1 d first (wordA (now (ops .entry)))) (first + crossStart d 0) (outAt d first d) (now (values .entry)) (now (values .exit)) ⌝ }
 {
     let mut i = 0;
     while i < d {
         let a = values[places::word_a(ops, i)];
         let m = values[places::product_at(d, first, i) + 2];
-        let lower = cross_row(values, first, d, i, ones, a, m, 0, i);
-        let sum = cross_row(values, first, d, i, ones, a, lower, i + 1, d);
+        let lower = cross_row(values, first, d, i, a, m, 0, i);
+        let sum = cross_row(values, first, d, i, a, lower, i + 1, d);
         values[places::out_at(d, first, i)] = sum;
         i += 1;
     }
@@ -121,17 +120,16 @@ pub(crate) fn and(
     first: usize,
     d: usize,
     randoms: usize,
-    ones: u8,
     ops: &[u16],
     tape: &[u8],
     used: usize,
 )
     requires { ⌜ Small first d × (length (now ops) ≡ 1 + d + d) × RowBefore first d (wordA (now ops)) × RowBefore first d (wordB d (now ops)) × Roomy d first (now values) × (used + pairs d ≤ length (now tape)) × (randoms ≡ pairs d) ⌝ }
-    ensures { λ _. ⌜ Fills (AndValues ones d first (wordA (now (ops .entry))) (wordB d (now (ops .entry))) (now (tape .entry)) used) first (first + (7 * (d * (d - 1)) + 4 * d)) (now (values .entry)) (now (values .exit)) ⌝ }
+    ensures { λ _. ⌜ Fills (AndValues 1 d first (wordA (now (ops .entry))) (wordB d (now (ops .entry))) (now (tape .entry)) used) first (first + (7 * (d * (d - 1)) + 4 * d)) (now (values .entry)) (now (values .exit)) ⌝ }
 {
     draws(values, first, tape, used, randoms);
     share_products(values, first, d, ops);
-    cross_all(values, first, d, ones, ops);
+    cross_all(values, first, d, ops);
 }
 
 // The sum of a word and REF's random bits of the share i and each other. That of a lower share stands in the lower share's row,

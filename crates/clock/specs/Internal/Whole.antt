@@ -12,8 +12,7 @@ use Rattle.semantics.specs.Clock.{isRegister, heldBytes, registerBytes, shownOn
 use Rattle.semantics.specs.Calls.{bytesRule}
 use Rattle.semantics.proofs.Solving.{gateAt}
 use Rattle.gadgets.specs.Internal.Accepting.{circuitIn}
-use Rattle.simulation.specs.Internal.Evaluating.{Evaluable}
-use Rattle.simulation.proofs.Single.{Bits}
+use Rattle.simulation.specs.Internal.Evaluating.{Evaluable, Bits}
 use Rattle.evaluation.specs.Internal.Refusing.{refusal}
 
 -- the wires of an accepted table

@@ -1,12 +1,12 @@
--- What the values of an accepted table's wires rest on, and what they are: one or more sharings and tapes are evaluated at once.
+-- What the values of an accepted table's wires rest on, and what they are; and lists of bits, packed into words.
 use mathlib.Core.Path.{_≡_}
-use mathlib.Core.Bool.{Bool, true}
+use mathlib.Core.Bool.{Bool}
 use mathlib.Core.List.{List}
 use Prim.Native.Nat.{ℕ, zero, suc, _+_, _*_, _≤_, _<_}
 use lib.ListN.{length}
 use Rattle.circuit.specs.Lists.{nth}
 use Rattle.circuit.specs.Circuit.{size}
-use Rattle.semantics.specs.Values.{byte, at, valuesOf}
+use Rattle.semantics.specs.Values.{bits, byte, at, valuesOf}
 use Rattle.gadgets.specs.Internal.Accepting.{AcceptedTable, circuitIn}
 
 -- the word whose bit l is f l, for l below n
@@ -25,9 +25,12 @@ pub record Evaluable (table shares tape : List ℕ) (room : ℕ) : Type 0 where
   pub drawn : length tape ≡ circuitIn table .randoms
   pub roomy : size (circuitIn table) ≤ room
 
--- the values of n sharings and tapes at once, in the bits of each wire's word; the rest is as it was
-pub record Evaluates (table : List ℕ) (ones : ℕ) (shares tape old new : List ℕ) : Type 0 where
-  pub known : (n : ℕ) (sharings tapes : ℕ → List Bool) → ones ≡ packed n (λ l. true) → Packs n sharings shares → Packs n tapes tape
-      → (x : ℕ) → x < size (circuitIn table) → nth new x ≡ packed n (λ l. at (valuesOf (circuitIn table .wires) (sharings l) (tapes l)) x)
+-- bytes that are bits
+abbrev pub Bits : List ℕ → Type 0
+Bits values = (x : ℕ) → nth values x ≤ 1
+
+-- the values of one sharing and tape, where these are bits; the rest is as it was
+pub record Evaluates (table shares tape old new : List ℕ) : Type 0 where
+  pub known : Bits shares → Bits tape → (x : ℕ) → x < size (circuitIn table) → nth new x ≡ byte (at (valuesOf (circuitIn table .wires) (bits shares) (bits tape)) x)
   pub above : (x : ℕ) → size (circuitIn table) ≤ x → nth new x ≡ nth old x
   pub sized : length new ≡ length old

@@ -9,15 +9,15 @@ use Rattle.gadgets.specs.Internal.Places.{crossAt, maskAt}
 use Rattle.simulation.specs.Internal.Filling.{Values, wordSum, Known, Fills, Crossed, crossing, RowCrossed, crossingAt}
 
 -- the wires of two shares
-pub record Crosses (ones at a b r : ℕ) (old new : List ℕ) (s : ℕ) : Type 0 where
-  pub fills : Fills (Crossed ones at a b r) at (at + 6) old new
-  pub adds : s ≡ crossing ones a b r
+pub record Crosses (at a b r : ℕ) (old new : List ℕ) (s : ℕ) : Type 0 where
+  pub fills : Fills (Crossed 1 at a b r) at (at + 6) old new
+  pub adds : s ≡ crossing 1 a b r
 
 -- the wires of a share and others
-pub record CrossesRow (ones d first i a word from to : ℕ) (old new : List ℕ) (s : ℕ) : Type 0 where
-  pub fills : Fills (RowCrossed ones d first i a) (crossAt d first i from) (crossAt d first i to) old new
-  pub adds : (v : Values) → RowCrossed ones d first i a v → Known v 0 (crossAt d first i from) old
-      → s ≡ bitXor word (wordSum (range from (to - from)) (crossingAt ones d first i a v))
+pub record CrossesRow (d first i a word from to : ℕ) (old new : List ℕ) (s : ℕ) : Type 0 where
+  pub fills : Fills (RowCrossed 1 d first i a) (crossAt d first i from) (crossAt d first i to) old new
+  pub adds : (v : Values) → RowCrossed 1 d first i a v → Known v 0 (crossAt d first i from) old
+      → s ≡ bitXor word (wordSum (range from (to - from)) (crossingAt 1 d first i a v))
 
 pub record Sums (d first i word from to : ℕ) (values : List ℕ) (s : ℕ) : Type 0 where
   pub is : (v : Values) → Known v 0 (first + pairs d) values → s ≡ bitXor word (wordSum (range from (to - from)) (λ j. v (maskAt d first i j)))

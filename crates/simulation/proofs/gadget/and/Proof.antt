@@ -12,7 +12,7 @@ returns c =
     let d = s .before .before .before .before in
     let e = d .before .before .before .before .before in
     let a = e .args in
-    and-filled (a .ones) (a .d) (a .first) (wordA (a .ops .now)) (wordB (a .d) (a .ops .now)) (a .tape .now) (a .used) _ (e .pre .6) (d .draws .ensures) (s .share-products .ensures) (c .before .before .cross-all .ensures)
+    and-filled (a .d) (a .first) (wordA (a .ops .now)) (wordB (a .d) (a .ops .now)) (a .tape .now) (a .used) _ (e .pre .6) (d .draws .ensures) (s .share-products .ensures) (c .before .before .cross-all .ensures)
 
 pub and-spec : {M : Type 1} → statement M
 and-spec =

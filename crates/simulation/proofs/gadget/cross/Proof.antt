@@ -23,4 +23,4 @@ cross-spec =
     (λ c. rw (length-set, length-set, length-set, length-set, length-set) (omega arith))
     (λ c. search needs)
     (λ c. let s = c .before .before .before .before in
-    crosses (s .args .ones) (s .args .at) (s .args .a) (s .args .b) (s .args .r) _ _ _ (c .before .before .u .ensures) (c .before .v .ensures) (c .w .ensures) (s .args .values .now) (s .pre)))
+    crosses (s .args .at) (s .args .a) (s .args .b) (s .args .r) _ _ _ (c .before .before .u .ensures) (c .before .v .ensures) (c .w .ensures) (s .args .values .now) (s .pre)))

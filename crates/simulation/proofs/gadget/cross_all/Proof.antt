@@ -10,10 +10,10 @@ use Rattle.gadgets.proofs.Slots.{ShareOf, share-of}
 use Rattle.simulation.proofs.Outputs.{OutputsOn, outputs-start, outputs-turn, outputs-end}
 
 abbrev Inv-loop : tie.InvT-loop
-Inv-loop values₀ first d ones ops i₀ values i = OutputsOn ones d first (wordA ops) values₀ values i
+Inv-loop values₀ first d ops i₀ values i = OutputsOn d first (wordA ops) values₀ values i
 
 abbrev μ-loop : tie.MeasureT-loop
-μ-loop values₀ first d ones ops i₀ values i = d - i
+μ-loop values₀ first d ops i₀ values i = d - i
 
 -- a turn's numbers, and its wire a, which stands before the gadget
 abbrev start : tie.In-loop Inv-loop μ-loop → tie.Start Inv-loop μ-loop

@@ -10,10 +10,10 @@ use Rattle.simulation.proofs.Rows.{RowOn, row-start, row-turn, row-end}
 use Rattle.gadgets.proofs.Slots.{Sites, sites}
 
 abbrev Inv-loop : tie.InvT-loop
-Inv-loop values₀ first d i ones a word from to sum₀ j₀ values sum j = RowOn ones d first i a word from to values₀ values sum j
+Inv-loop values₀ first d i a word from to sum₀ j₀ values sum j = RowOn d first i a word from to values₀ values sum j
 
 abbrev μ-loop : tie.MeasureT-loop
-μ-loop values₀ first d i ones a word from to sum₀ j₀ values sum j = to - j
+μ-loop values₀ first d i a word from to sum₀ j₀ values sum j = to - j
 
 -- where the wires of a turn's shares stand
 abbrev start : tie.In-loop Inv-loop μ-loop → tie.Start Inv-loop μ-loop

@@ -1,14 +1,105 @@
--- All frames from the first on: no more are asked for than the table has words.
+-- The loop's invariant: the values of the frames before the walk's place are filled in.
+use mathlib.Core.Path.{_≡_, refl, sym, ap, _∙_}
+use Prim.Native.Nat.{_+_, _*_, _-_, _≤_}
 use native.Mathlib.Omega.{arith}
+use lib.ListN.{length}
 use borrow.Author.Needs.{needs}
+use Rattle.circuit.specs.Limits.{wireLimit}
+use Rattle.circuit.specs.Kinds.{pairs}
+use Rattle.circuit.specs.Lists.{nth}
+use Rattle.frames.proofs.KindTable.{right-step}
+use Rattle.frames.specs.Walk.{operandsAt, stepAt}
+use Rattle.gadgets.proofs.Walking.{headed, second-word, given-bits, Met}
+use Rattle.simulation.specs.Internal.Walked.{FilledTo}
+use Rattle.simulation.proofs.Walked.{walked-answers, room-in, inputs-in, draws-in}
 use Rattle.simulation.proofs.values.fill.Statement.{statement}
 use Rattle.simulation.proofs.values.fill.Tie as tie
-use Rattle.simulation.proofs.Evaluating.{filled-start}
+use Rattle.simulation.proofs.Evaluating.{filled-start, frame-filled, all-filled}
+
+abbrev Inv-loop : tie.InvT-loop
+Inv-loop table shares tape values₀ d n randoms walk₀ first₀ from₀ used₀ values walk first from used =
+    (walk .d ≡ nth table 1) × FilledTo table shares tape values₀ values (walk .at) first from used
+
+abbrev μ-loop : tie.MeasureT-loop
+μ-loop table shares tape values₀ d n randoms walk₀ first₀ from₀ used₀ values walk first from used = length table - walk .at
+
+abbrev start : tie.At-loop Inv-loop μ-loop → tie.Start Inv-loop μ-loop
+start c = c .before .before .before .before .before .before .before
+
+-- the random bits that the step is given are those of a gadget
+given : (c : tie.At-loop Inv-loop μ-loop) → c .before .random-bits .result ≡ pairs (c .loop .walk .d)
+given c = given-bits (start c .pre .accepted) (c .before .random-bits .ensures .0) (c .loop .inv .0)
+
+-- what the step answers
+answer : (c : tie.After-step Inv-loop μ-loop) → let h = c .before in c .step .result ≡ stepAt (start h .args .table .now) (nth (start h .args .table .now) 1) (h .loop .walk .at)
+answer c =
+    let h = c .before in
+    let table = start h .args .table .now in
+    right-step table (h .before .random-bits .result) (h .loop .walk .d) (h .loop .walk .at) (c .step .ensures) (given h) ∙ ap (λ n. stepAt table n (h .loop .walk .at)) (h .loop .inv .0)
+
+-- the frame that a turn meets, and its words
+abbrev head : tie.After-step2 Inv-loop μ-loop → tie.At-loop Inv-loop μ-loop
+head c = c .before .before .before
+
+met : (c : tie.After-step2 Inv-loop μ-loop) → let h = head c in let f = h .loop .inv .1 .walked in let g = c .step2 .given .0 in
+    Met (f .evaluable .accepted) (f .between) (nth (start h .args .table .now) 1) (h .loop .first) (h .loop .from) (g .0) (g .1 .0) (g .1 .1 .0)
+met c = walked-answers (head c .loop .inv .1 .walked) (sym (answer (c .before .before)) ∙ c .step2 .given .1)
+
+words : (c : tie.After-operands Inv-loop μ-loop) → let h = head (c .before .before) in let table = start h .args .table .now in
+    c .operands .result .now ≡ operandsAt table (nth table 1) (h .loop .walk .at)
+words c = let h = head (c .before .before) in c .operands .ensures ∙ ap (λ n. operandsAt (start h .args .table .now) n (h .loop .walk .at)) (h .loop .inv .0)
+
+-- the counts behind it
+record Counts (c : tie.After-step2 Inv-loop μ-loop) : Type 0 where
+  wires : head c .loop .first + c .step2 .given .0 .1 .0 .wires ≤ wireLimit
+  shares : head c .loop .from + nth (start (head c) .args .table .now) 1 * c .step2 .given .0 .1 .0 .inputs ≤ length (start (head c) .args .shares .now)
+  randoms : head c .loop .used + c .step2 .given .0 .1 .0 .randoms ≤ length (start (head c) .args .tape .now)
+
+counts : (c : tie.After-step2 Inv-loop μ-loop) → Counts c
+counts c =
+    let f = head c .loop .inv .1 .walked in
+    let same = second-word (f .evaluable .accepted) in
+    record { wires = met c .few; shares = inputs-in f same (met c); randoms = draws-in f same (met c) }
+
+write-frame-requires : tie.Need-write-frame-requires Inv-loop μ-loop
+write-frame-requires c κs =
+    let t = c .before .before .before in
+    let f = head t .loop .inv .1 in
+    let same = second-word (f .walked .evaluable .accepted) in
+    let m = met t in
+    (m .small, omega (arith, room-in (f .walked) same m, f .sized), rw (words (c .before)) (m .early), m .supplied _ _ _ (counts t .shares) (counts t .randoms), given (head t) ∙ ap pairs (head t .loop .inv .0))
+
+abbrev turn : tie.After-struct-known3 Inv-loop μ-loop → tie.After-step2 Inv-loop μ-loop
+turn c = c .before .before .before .before .before .before .before .before .before
+
+loop-again : tie.Need-loop-again Inv-loop μ-loop
+loop-again c =
+    let t = turn c in
+    let f = head t .loop .inv .1 in
+    let w = c .before .before .before .before .before in
+    (met t .same, frame-filled f (second-word (f .walked .evaluable .accepted)) (met t) _ (rw (words (w .before .before)) at (w .write-frame .ensures)))
 
 pub fill-spec : {M : Type 1} → statement M
 fill-spec =
     tie.close
     (tie.spec
-    (λ c κs. (_, filled-start _ (c .before .before .before .before .before .pre)))
+    Inv-loop
+    μ-loop
+    (λ c. omega (arith, headed (c .before .before .before .before .before .pre .accepted)))
+    (λ c. record { fits = omega (arith, second-word (c .before .before .before .before .before .pre .accepted)) })
+    (λ c κs. search needs)
+    (λ c. (refl, filled-start (c .before .before .before .before .before .before .pre)))
+    (λ c κs. search needs) (λ c. search needs) (λ c κs. search needs)
+    write-frame-requires
+    (λ c. record { fits = omega (arith, counts (c .before .before .before .before .before .before .before) .wires) })
+    (λ c. let t = c .before .before .before .before .before .before .before .before in record { fits = omega (arith, counts t .shares, start (head t) .good .1 .0 .0) })
+    (λ c. let t = c .before .before .before .before .before .before .before .before in record { fits = omega (arith, counts t .shares, start (head t) .good .1 .0 .0) })
+    (λ c. record { fits = omega (arith, counts (turn c) .randoms, start (head (turn c)) .good .1 .1 .0 .0) })
+    (λ c. let t = turn c in omega (arith, met t .later, met t .onward .most))
+    loop-again
     (λ c. search needs)
-    (λ c. let w = c .before .before in w .fill-frames .ensures .all _ (filled-start _ (w .before .before .before .before .before .before .pre)) (omega arith)))
+    (λ c. c .before .before .before .loop .inv .1 .sized)
+    (λ c. let f = c .before .before .before .loop .inv .1 in all-filled f (walked-answers (f .walked) (sym (answer (c .before .before)) ∙ c .enum-told .given .1)))
+    (λ c. search needs)
+    (λ c. c .before .before .before .loop .inv .1 .sized)
+    (λ c. absurd (walked-answers (c .before .before .before .loop .inv .1 .walked) (sym (answer (c .before .before)) ∙ c .enum-told2 .given .1))))
