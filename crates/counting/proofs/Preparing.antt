@@ -1,5 +1,5 @@
 -- The words of shares, random bits and read wires in the pairs of a batch, from those of the variables.
-use mathlib.Core.Path.{_≡_, refl, sym, ap, ap₂, subst, _∙_}
+use mathlib.Core.Path.{_≡_, refl, sym, ap, ap₂, _∙_}
 use mathlib.Core.Bool.{Bool, true, false, cond}
 use mathlib.Core.List.{List, [], _∷_, _++_, map, map-append}
 use Prim.Native.Nat.{ℕ, zero, suc, _+_, _*_, _-_, _^_, _≤_, _<_}
@@ -10,18 +10,17 @@ use lib.ListN.{length, take, drop, replicate, length-map, length-take, length-dr
 use lib.Pow.{pow-lt}
 use lib.Seq.{sets, sets-eq, length-sets, take-at, slice, length-take-le, take-add, drop-at, ext-getD, getD-take, getD-drop}
 use Rattle.circuit.specs.Lists.{nth, range}
-use Rattle.circuit.specs.Circuit.{isSet, size}
+use Rattle.circuit.specs.Circuit.{size}
 use Rattle.circuit.proofs.Base.{In, in-head, in-tail}
 use Rattle.circuit.proofs.Numbered.{map-at, range-at}
 use Rattle.circuit.proofs.Parts.{label-lt}
 use Rattle.circuit.proofs.Sizes.{range-length}
-use Rattle.semantics.specs.Counts.{freeBits}
 use Rattle.semantics.specs.Values.{bits, at, valuesOf}
 use Rattle.gadgets.specs.Internal.Accepting.{circuitIn}
 use Rattle.simulation.specs.Internal.Filling.{Values}
-use Rattle.simulation.specs.Internal.Evaluating.{packed, Packs, Evaluable}
-use Rattle.symbolic.specs.Internal.Sums.{added, wordsAt, termWord, Runs, Shows}
-use Rattle.symbolic.specs.Internal.Expanding.{Words, Solves, Expanded}
+use Rattle.simulation.specs.Internal.Evaluating.{packed, Evaluable}
+use Rattle.symbolic.specs.Internal.Sums.{added, wordsAt, Runs, Shows}
+use Rattle.symbolic.specs.Internal.Expanding.{Words, Solves}
 use Rattle.symbolic.proofs.Masks.{added-none, added-xor, added-one}
 use Rattle.symbolic.proofs.Running.{term-same}
 use Rattle.symbolic.proofs.Standing.{words-at}

@@ -1,9 +1,8 @@
 // A table expanded for its count: its shares and random bits are sums of free bits; both sets of secret bits share one expansion.
 ghost use mathlib.Core.Path.{_≡_};
-ghost use Prim.Native.Nat.{ℕ, _+_, _*_, _^_, _≤_, _<_};
+ghost use Prim.Native.Nat.{_+_, _*_, _≤_, _<_};
 ghost use lib.ListN.{length, take, replicate};
 ghost use Rattle.circuit.specs.Limits.{wireLimit};
-ghost use Rattle.circuit.specs.Lists.{nth};
 ghost use Rattle.circuit.specs.Circuit.{size};
 ghost use Rattle.gadgets.specs.Internal.Accepting.{circuitIn};
 ghost use Rattle.symbolic.specs.Internal.Expanding.{Expanded};

@@ -1,5 +1,5 @@
 -- Frames whose wires are sums: gates and REF.
-use mathlib.Core.Path.{_≡_, refl, sym, ap, ap₂, subst, _∙_}
+use mathlib.Core.Path.{_≡_, sym, ap, ap₂, subst, _∙_}
 use mathlib.Core.Bool.{Bool, true, false, cond}
 use mathlib.Core.List.{List, map}
 use Prim.Native.Nat.{ℕ, _+_, _*_, _-_, _^_, _≤_, _<_}
@@ -17,13 +17,13 @@ use Rattle.circuit.proofs.Base.{cases}
 use Rattle.frames.specs.declared.walk.Gate.{Gate as GateCode}
 use Rattle.frames.specs.declared.walk.Gate.the-variants as gate
 use Rattle.gadgets.specs.Internal.Places.{wordA, pairSite, maskAt, sumAt, heldAt}
-use Rattle.gadgets.specs.Internal.Frames.{gateWires, GateEarly, GateNames, RowBefore}
+use Rattle.gadgets.specs.Internal.Frames.{gateWires, GateNames}
 use Rattle.gadgets.proofs.Sites.{pair-lt}
 use Rattle.simulation.specs.Internal.Filling.{Values, wordSum, GateValues, RefValues}
 use Rattle.simulation.proofs.Adding.{wordSum-ext}
 use Rattle.simulation.proofs.Equations.{apart}
 use Rattle.symbolic.specs.Internal.Sums.{added}
-use Rattle.symbolic.specs.Internal.Terms.{one, Copies, Refreshes}
+use Rattle.symbolic.specs.Internal.Terms.{one, Refreshes}
 use Rattle.symbolic.specs.Internal.Expanding.{GateWrites}
 use Rattle.symbolic.proofs.Masks.{added-none, added-xor, added-sum}
 use Rattle.symbolic.proofs.Standing.{words-at, one-is}

@@ -1,7 +1,7 @@
 -- What is written for a frame makes its wires right.
-use mathlib.Core.Path.{_≡_, refl, sym, ap, ap₂, subst, _∙_}
+use mathlib.Core.Path.{_≡_, refl, sym, ap, subst, _∙_}
 use mathlib.Core.Bool.{Bool, true, false, true≢false}
-use mathlib.Core.List.{List, map}
+use mathlib.Core.List.{List}
 use Prim.Native.Nat.{ℕ, _+_, _*_, _-_, _^_, _≤_, _<_}
 use native.Mathlib.Nat.{mul-le-mul-right}
 use native.Mathlib.Omega.{arith}
@@ -38,7 +38,7 @@ use Rattle.symbolic.proofs.Masks.{added-one}
 use Rattle.symbolic.proofs.Standing.{termValue, inner-right, output-right}
 use Rattle.symbolic.proofs.Bounded.{more, below-more, inner-below, output-below}
 use Rattle.symbolic.proofs.Linear.{gate-below, gate-kept, gate-sized, gate-right, ref-below, ref-right}
-use Rattle.symbolic.proofs.Expanding.{Told, by-name, by-list, Right, ExpandedTo, earlier, before-same, before-term, holds, Made}
+use Rattle.symbolic.proofs.Expanding.{Told, by-name, by-list, ExpandedTo, earlier, before-same, before-term, holds, Made}
 
 -- what holds of earlier wires that are named holds of those that a gate names
 names-are : (g : GateCode) (w : ℕ) (P Q : ℕ → Type 0) → ((x : ℕ) → x < w → P x → Q x) → GateEarly g w → GateNames g P → GateNames g Q

@@ -1,7 +1,7 @@
 -- Four words written at a place; the words of products, one after the other, and those of wires on a list.
-use mathlib.Core.Path.{_≡_, refl, sym, ap, ap₂, _∙_}
+use mathlib.Core.Path.{_≡_, refl, sym, ap₂, _∙_}
 use mathlib.Core.List.{List}
-use Prim.Native.Nat.{ℕ, zero, suc, _+_, _*_, _^_, _≤_, _<_}
+use Prim.Native.Nat.{ℕ, zero, suc, _+_, _*_, _≤_, _<_}
 use native.Mathlib.Omega.{arith}
 use lib.Bits.{bitAnd, bitXor}
 use lib.Dec.{ltb}
@@ -11,7 +11,7 @@ use borrow.Author.Tests.{ltb-true, ltb-false}
 use Rattle.circuit.specs.Lists.{nth}
 use Rattle.circuit.proofs.Base.{cases}
 use Rattle.simulation.specs.Internal.Filling.{Values}
-use Rattle.symbolic.specs.Internal.Sums.{added, termWord, Before, BoundedTerms, wordsAt, fourAt, Runs, Shows}
+use Rattle.symbolic.specs.Internal.Sums.{added, termWord, Before, BoundedTerms, wordsAt, fourAt, Runs}
 use Rattle.symbolic.proofs.Masks.{added-same}
 
 -- what is written, by the word, and what is not

@@ -2,7 +2,7 @@
 use mathlib.Core.Path.{_≡_, refl, sym, ap, ap₂, _∙_}
 use mathlib.Core.Bool.{Bool, true}
 use mathlib.Core.List.{List, map}
-use Prim.Native.Nat.{ℕ, zero, suc, _+_, _*_, _-_, _/_, _%_, _^_, _≤_, _<_}
+use Prim.Native.Nat.{ℕ, zero, suc, _+_, _*_, _-_, _/_, _%_, _≤_, _<_}
 use native.Mathlib.Omega.{arith}
 use lib.Bits.{bitAnd, bitXor, xor-zero-r}
 use lib.Dec.{ltb}
@@ -16,16 +16,16 @@ use Rattle.circuit.proofs.Parts.{label-lt}
 use Rattle.circuit.proofs.Sizes.{pairs-twice}
 use Rattle.gadgets.specs.Internal.Places.{wordA, wordB, pairSite, pairAt, productAt, crossStart, crossAt, outAt, maskAt}
 use Rattle.gadgets.proofs.Sites.{pair-lt}
-use Rattle.simulation.specs.Internal.Filling.{Values, wordSum, AndValues}
+use Rattle.simulation.specs.Internal.Filling.{Values, AndValues}
 use Rattle.simulation.specs.Internal.Evaluating.{packed}
 use Rattle.simulation.proofs.Adding.{wordSum-ext}
 use Rattle.simulation.proofs.Equations.{apart}
 use Rattle.symbolic.specs.declared.gadget.Term.{Term}
 use Rattle.symbolic.specs.Internal.Sums.{added}
-use Rattle.symbolic.specs.Internal.Terms.{one, alone, times, productTerm, crossTerm, shareAt, pairTerm, innerTerm, outputTerm}
+use Rattle.symbolic.specs.Internal.Terms.{one, alone, times, productTerm, crossTerm, innerTerm, outputTerm}
 use Rattle.symbolic.proofs.Masks.{added-none, added-xor, added-sum, added-one}
 use Rattle.symbolic.proofs.Products.{output-is}
-use Rattle.symbolic.proofs.Inside.{Decoded, decoded, inner-mask, inner-share, inner-pair}
+use Rattle.symbolic.proofs.Inside.{decoded, inner-mask, inner-share, inner-pair}
 
 -- the word of a term
 abbrev pub termValue : Values → Term → ℕ

@@ -1,12 +1,12 @@
 -- The call ends in one of three ways, each a judgement; what it promises follows from that judgement.
 use mathlib.Core.Path.{_≡_, refl, sym, ap, ap₂, subst, _∙_}
 use mathlib.Core.List.{List}
-use Prim.Native.Nat.{ℕ, _+_, _*_, _^_, _≤_, _<_}
+use Prim.Native.Nat.{ℕ, _^_, _≤_}
 use native.Mathlib.Omega.{arith}
 use lib.ListN.{length, take, drop}
 use borrow.Author.Needs.{needs}
 use Rattle.circuit.specs.Circuit.{Circuit, size}
-use Rattle.circuit.specs.Rules.{Judgement, pass, refuse, checked}
+use Rattle.circuit.specs.Rules.{Judgement, pass, checked}
 use Rattle.circuit.specs.Answer.{notesAfter}
 use Rattle.circuit.proofs.Answers.{answer-pass, answer-refused}
 use Rattle.semantics.specs.Values.{bits}

@@ -2,13 +2,12 @@
 use mathlib.Core.Path.{_≡_}
 use mathlib.Core.Bool.{Bool, true, cond}
 use mathlib.Core.List.{List, map}
-use Prim.Native.Nat.{ℕ, _+_, _*_, _^_, _≤_, _<_}
+use Prim.Native.Nat.{ℕ, _+_, _≤_, _<_}
 use lib.Bits.{bitXor}
-use lib.ListN.{length, set}
+use lib.ListN.{set}
 use Rattle.circuit.specs.Limits.{wireLimit}
 use Rattle.circuit.specs.Lists.{nth}
 use Rattle.circuit.specs.Circuit.{isSet, size}
-use Rattle.circuit.specs.Kinds.{pairs}
 use Rattle.frames.specs.declared.walk.Gate.{Gate as GateCode}
 use Rattle.frames.specs.declared.walk.Gate.the-variants as gate
 use Rattle.frames.specs.declared.walk.Frame.{Frame as FrameCode}

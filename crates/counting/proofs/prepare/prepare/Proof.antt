@@ -1,20 +1,13 @@
 -- The shares are completed from the free bits, the random bits are the rest of them.
-use mathlib.Core.Path.{_≡_, refl, sym, ap, ap₂, subst, _∙_}
-use mathlib.Core.List.{List}
-use Prim.Native.Nat.{ℕ, _+_, _*_, _-_, _≤_}
-use native.Mathlib.Nat.{mul-le-mul-right, mul-comm, sub-zero}
+use mathlib.Core.Path.{_≡_, refl, sym, ap, _∙_}
+use Prim.Native.Nat.{_+_, _*_, _≤_}
+use native.Mathlib.Nat.{mul-le-mul-right}
 use native.Mathlib.Omega.{arith}
-use lib.ListN.{length, take, drop, length-take, length-drop}
-use lib.Seq.{sets}
+use lib.ListN.{length, take}
 use borrow.Author.Needs.{needs}
-use Rattle.gadgets.specs.Internal.Accepting.{circuitIn}
-use Rattle.simulation.specs.Internal.Evaluating.{Evaluable}
-use Rattle.counting.specs.Internal.Words.{allShares}
-use Rattle.counting.specs.Internal.Preparing.{secretSums, freeSums, preparedShares, preparedTape}
 use Rattle.counting.proofs.prepare.prepare.Statement.{statement}
 use Rattle.counting.proofs.prepare.prepare.Tie as tie
-use Rattle.counting.proofs.Batches.{Sizes, sizes}
-use Rattle.counting.proofs.Sharing.{all-length}
+use Rattle.counting.proofs.Batches.{sizes}
 use Rattle.counting.proofs.Preparing.{prepared-low, lasts-many, buffer, sharing-is, tape-is, lent-evaluable}
 
 -- the numbers of the plan

@@ -1,9 +1,8 @@
 -- The variables' words, the outputs', those of terms that are read, and the read wires'.
-use mathlib.Core.Path.{_≡_, _∙_}
-use Prim.Native.Nat.{_+_, _*_, _^_, _≤_}
+use mathlib.Core.Path.{_∙_}
+use Prim.Native.Nat.{_≤_}
 use native.Mathlib.Nat.{mul-le-mul-left}
 use native.Mathlib.Omega.{arith}
-use lib.ListN.{length}
 use Rattle.counting.specs.Internal.Tallying.{Prepared}
 use Rattle.counting.proofs.tally.show_batch.Statement.{statement}
 use Rattle.counting.proofs.tally.show_batch.Tie as tie

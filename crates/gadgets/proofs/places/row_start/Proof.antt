@@ -1,11 +1,8 @@
 -- The pairs before a row are all but those from it on.
-use mathlib.Core.Path.{_≡_, ap₂, _∙_}
-use Prim.Native.Nat.{_+_, _-_}
 use native.Mathlib.Omega.{arith}
 use borrow.Author.Needs.{needs}
 use Rattle.circuit.specs.Kinds.{pairs}
 use Rattle.frames.proofs.RandomBits.{few-pairs}
-use Rattle.gadgets.specs.Internal.Places.{rowStart}
 use Rattle.gadgets.proofs.Sites.{row-rest}
 use Rattle.gadgets.proofs.places.row_start.Statement.{statement}
 use Rattle.gadgets.proofs.places.row_start.Tie as tie

@@ -1,8 +1,7 @@
 -- The loop's invariant: the words of the products below one are written.
-use mathlib.Core.Path.{_≡_, _∙_}
-use Prim.Native.Nat.{ℕ, _+_, _-_, _≤_}
+use mathlib.Core.Path.{_∙_}
+use Prim.Native.Nat.{_-_, _≤_}
 use native.Mathlib.Omega.{arith}
-use lib.ListN.{length}
 use Rattle.symbolic.proofs.evaluate.run.Statement.{statement}
 use Rattle.symbolic.proofs.evaluate.run.Tie as tie
 use Rattle.symbolic.specs.Internal.Sums.{Runs}

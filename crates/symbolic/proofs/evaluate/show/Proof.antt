@@ -1,11 +1,9 @@
 -- The loop's invariant: the words of the wires below a place of the list are written.
-use mathlib.Core.Path.{_≡_, sym, _∙_}
-use Prim.Native.Nat.{_+_, _*_, _-_, _≤_}
+use mathlib.Core.Path.{sym, _∙_}
+use Prim.Native.Nat.{_-_, _≤_}
 use native.Mathlib.Omega.{arith}
-use lib.ListN.{length}
 use Rattle.symbolic.proofs.evaluate.show.Statement.{statement}
 use Rattle.symbolic.proofs.evaluate.show.Tie as tie
-use Rattle.symbolic.specs.Internal.Sums.{Shows}
 use Rattle.symbolic.proofs.Running.{four, ShownTo, shown-next}
 
 abbrev Inv-loop : tie.InvT-loop

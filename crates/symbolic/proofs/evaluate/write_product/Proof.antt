@@ -1,14 +1,11 @@
 -- The four words are those of the term.
-use mathlib.Core.Path.{_≡_, ap₂, _∙_}
-use Prim.Native.Nat.{_+_, _*_}
+use mathlib.Core.Path.{ap₂, _∙_}
 use native.Mathlib.Omega.{arith}
 use lib.Bits.{bitAnd, bitXor}
-use lib.ListN.{length}
 use borrow.Author.Needs.{needs}
 use Rattle.symbolic.proofs.evaluate.write_product.Statement.{statement}
 use Rattle.symbolic.proofs.evaluate.write_product.Tie as tie
-use Rattle.symbolic.specs.Internal.Sums.{termWord, wordsAt}
-use Rattle.symbolic.proofs.Running.{four, Four, product-written}
+use Rattle.symbolic.proofs.Running.{four, product-written}
 
 returns : tie.Need-returns
 returns c =

@@ -1,6 +1,4 @@
 -- By the test.
-use mathlib.Core.Path.{_≡_, refl}
-use native.Mathlib.Omega.{arith}
 use Rattle.gadgets.proofs.Bits.{set-low, set-high}
 use Rattle.symbolic.proofs.expand.constant.Statement.{statement}
 use Rattle.symbolic.proofs.expand.constant.Tie as tie

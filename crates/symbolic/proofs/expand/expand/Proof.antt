@@ -11,7 +11,7 @@ use Rattle.frames.specs.declared.walk.Step.{Step}
 use Rattle.frames.proofs.KindTable.{right-step}
 use Rattle.frames.specs.Walk.{operandsAt, stepAt}
 use Rattle.gadgets.proofs.Walking.{headed, second-word, given-bits, Met, Answers}
-use Rattle.simulation.proofs.Walked.{walked-answers, room-in, inputs-in, draws-in}
+use Rattle.simulation.proofs.Walked.{walked-answers, inputs-in, draws-in}
 use Rattle.symbolic.proofs.expand.expand.Statement.{statement}
 use Rattle.symbolic.proofs.expand.expand.Tie as tie
 use Rattle.symbolic.proofs.Expanding.{ExpandedTo, expanded-start, expanded-next, all-expanded}

@@ -1,5 +1,4 @@
 -- The wire is on the list.
-use native.Mathlib.Omega.{arith}
 use borrow.Author.Needs.{needs}
 use Rattle.symbolic.proofs.expand.sum_of.Statement.{statement}
 use Rattle.symbolic.proofs.expand.sum_of.Tie as tie

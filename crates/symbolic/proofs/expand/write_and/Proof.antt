@@ -1,5 +1,5 @@
 -- The wires that are read, then the outputs.
-use mathlib.Core.Path.{_≡_, _∙_}
+use mathlib.Core.Path.{_∙_}
 use borrow.Author.Needs.{needs}
 use Rattle.symbolic.proofs.expand.write_and.Statement.{statement}
 use Rattle.symbolic.proofs.expand.write_and.Tie as tie

@@ -1,8 +1,6 @@
 -- The loop's invariant: the random bits of the share i and each other below j are added.
-use mathlib.Core.Path.{_≡_}
-use Prim.Native.Nat.{_+_, _-_, _≤_, _<_}
+use Prim.Native.Nat.{_-_}
 use native.Mathlib.Omega.{arith}
-use lib.ListN.{length}
 use Rattle.circuit.specs.Lists.{nth}
 use Rattle.gadgets.specs.Internal.Places.{maskAt}
 use Rattle.symbolic.proofs.gadget.add_masks.Statement.{statement}

@@ -1,5 +1,4 @@
 -- B is a sum; m and M are a product.
-use mathlib.Core.Path.{_∙_}
 use borrow.Author.Tests.{lt-ltb, le-ltb}
 use borrow.Author.Needs.{needs}
 use Rattle.symbolic.proofs.gadget.product_term.Statement.{statement}

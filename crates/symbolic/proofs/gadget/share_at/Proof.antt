@@ -1,7 +1,6 @@
 -- By the test.
 use native.Mathlib.Omega.{arith}
 use borrow.Author.Tests.{le-leb, lt-leb}
-use borrow.Author.Needs.{needs}
 use Rattle.symbolic.proofs.gadget.share_at.Statement.{statement}
 use Rattle.symbolic.proofs.gadget.share_at.Tie as tie
 
