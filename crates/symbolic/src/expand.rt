@@ -149,8 +149,8 @@ fn write_frame(
     }
 }
 
-// The wires of an accepted table, from the sums that its shares and its random bits are; those of the first 18 variables that are no
-// share and no random bit are the caller's, but for the last, which is 1. The answer is how many outputs of ANDs there are.
+// The wires of an accepted table, from the sums of the first 18 variables that its shares and its random bits are. The answer is how
+// many outputs of ANDs there are.
 pub fn expand(
     table: &[u16],
     shares: &[u64],

@@ -10,6 +10,7 @@ pub mod near;
 pub mod probes;
 pub mod random;
 pub mod sharing;
+pub mod shuffled;
 pub mod slips;
 pub mod text;
 pub mod whole;

@@ -1,20 +1,12 @@
-//! Counts: the check's pass and the stops once, then a pass over the frames for many pairs of sharing and tape at a time, eight
-//! in the bits of each byte.
+//! Counts: the check's pass, the stops and every wire's sum once, then all values of the free bits that the read wires need, many
+//! at a time, eight in the bits of each byte.
 use super::evaluate::bits;
 use super::lanes::{Lanes, Planes};
-use super::planes::write;
-use super::{check, reach, Found, Refused};
+use super::sums::{Sum, Sums};
+use super::{check, reach, Found, Refused, Sizes};
 
-/// Bytes that a wire has in one pass over the frames, where there are pairs enough: 512 pairs.
+/// Bytes that a variable has in one pass, where there are values enough: 512 pairs.
 const MOST_PLANES: usize = 64;
-
-const fn planes(wanted: usize) -> usize {
-    if wanted < MOST_PLANES {
-        wanted
-    } else {
-        MOST_PLANES
-    }
-}
 
 pub fn count(
     table: &[u16],
@@ -24,21 +16,26 @@ pub fn count(
     counts: &mut [u32],
 ) -> Result<[usize; 3], Refused> {
     let task = Task::new(table, notes, secrets, probes, counts.len())?;
-    let mut tally = Tally::new(&task);
-    match task.bits {
-        0..=3 => all_pairs::<1>(table, &task, secrets, &mut tally),
-        4 | 5 => all_pairs::<{ planes(4) }>(table, &task, secrets, &mut tally),
-        6 | 7 => all_pairs::<{ planes(16) }>(table, &task, secrets, &mut tally),
-        _ => all_pairs::<MOST_PLANES>(table, &task, secrets, &mut tally),
+    let sums = Sums::new(table, &task, secrets);
+    let needed = sums.needed();
+    let free = ((needed >> 1) & ((1 << task.bits) - 1)).count_ones() as usize;
+    let mut tally = Tally::new(task.wires, free);
+    match free {
+        0..=3 => all_pairs::<1>(&task, &sums, needed, &mut tally),
+        4 | 5 => all_pairs::<4>(&task, &sums, needed, &mut tally),
+        6 | 7 => all_pairs::<16>(&task, &sums, needed, &mut tally),
+        _ => all_pairs::<MOST_PLANES>(&task, &sums, needed, &mut tally),
     }
-    Ok(task.answer(counts, |set, combination| tally.times(set, combination)))
+    // each value of those arises with all values of the other free bits
+    let others = task.bits - free;
+    Ok(task.answer(counts, |set, combination| tally.times(set, combination) << others))
 }
 
 /// An accepted table, the wires that are read, rising, and the number of free bits.
 pub struct Task {
     pub found: Found,
     read: [u16; 8],
-    wires: usize,
+    pub wires: usize,
     pub bits: usize,
 }
 
@@ -59,15 +56,16 @@ impl Task {
             return Err((17, 0, 0));
         }
         bits(secrets, 0)?;
-        reach::wires(&found, probes)?;
+        let last = reach::wires(&found, probes)?;
         let bits = (found.d - 1) * found.inputs + found.randoms;
         if bits > 16 {
             return Err((24, 0, 0));
         }
-        let mut reading = vec![2; found.wires];
-        reach::show(table, &found, &[1; 8192], probes, &mut reading);
+        let mut marks = vec![0; found.wires];
+        let starts = starts(&table[2..], found.d, last);
+        reach::mark(table, found.d, &starts, probes, &mut marks);
         let (mut read, mut wires) = ([0; 8], 0);
-        for wire in (0..found.wires).filter(|&wire| reading[wire] == 1) {
+        for wire in (0..found.wires).filter(|&wire| marks[wire] != 0) {
             *read.get_mut(wires).ok_or((25, 0, 0))? = wire as u16;
             wires += 1;
         }
@@ -114,6 +112,22 @@ impl Task {
     }
 }
 
+/// Of each frame up to a wire's, how many words are left before it, and how many wires are made.
+fn starts(frames: &[u16], d: usize, last: Option<u16>) -> Vec<[u16; 2]> {
+    let sizes = Sizes::new(d);
+    let mut starts = Vec::with_capacity(frames.len() / 2);
+    let (mut rest, mut wires) = (frames, 0);
+    while let [kind, ..] = *rest {
+        if last.is_none_or(|last| wires > last) {
+            break;
+        }
+        starts.push([rest.len() as u16, wires]);
+        rest = &rest[usize::from(sizes.words[usize::from(kind)])..];
+        wires += sizes.wires[usize::from(kind)];
+    }
+    starts
+}
+
 /// How often each combination of the first set arose, then of the second: a place for each bit of a byte, so that one addition
 /// does not wait for the last.
 pub struct Tally {
@@ -123,8 +137,8 @@ pub struct Tally {
 }
 
 impl Tally {
-    pub fn new(task: &Task) -> Tally {
-        Tally { times: vec![[0; 8]; 2 << task.wires], wires: task.wires, bits: task.bits }
+    pub fn new(wires: usize, bits: usize) -> Tally {
+        Tally { times: vec![[0; 8]; 2 << wires], wires, bits }
     }
 
     /// Adds the pairs of one byte; the columns are the read wires' bytes, the first in the highest place.
@@ -195,28 +209,45 @@ fn transposed(mut x: u64) -> u64 {
     x
 }
 
-/// Numbers the pairs by their free bits, and the set by the bit behind them; goes through them all, 8 · P a pass.
-fn all_pairs<const P: usize>(table: &[u16], task: &Task, secrets: &[u8], tally: &mut Tally) {
-    let mut values = vec![Planes::<P>::ZEROS; task.found.wires];
-    let mut shares = [Planes::<P>::ZEROS; 32];
-    let mut free = [Planes::<P>::ZEROS; 17];
+/// Numbers the pairs by the free bits that are needed, and the set by the bit behind them; goes through them all, 8 · P a pass.
+fn all_pairs<const P: usize>(task: &Task, sums: &Sums, needed: Sum, tally: &mut Tally) {
+    let mut lanes = [Planes::<P>::ZEROS; 64];
+    lanes[0] = Planes::ONES;
+    let variables = (1..=task.bits).filter(|&bit| (needed >> bit) & 1 == 1).chain([task.bits + 1]);
     let fixed = 3 + P.ilog2() as usize;
-    for (bit, lanes) in free.iter_mut().enumerate().take(fixed) {
-        *lanes = pattern(bit);
+    for (bit, variable) in variables.clone().enumerate().take(fixed) {
+        lanes[variable] = pattern(bit);
     }
-    let bytes = (1 << (task.bits + 1)) / 8;
+    let bytes = (1 << (tally.bits + 1)) / 8;
     for first in (0..bytes.max(1)).step_by(P) {
-        for (bit, lanes) in free.iter_mut().enumerate().take(task.bits + 1).skip(fixed) {
-            *lanes = if first >> (bit - 3) & 1 == 0 { Planes::ZEROS } else { Planes::ONES };
+        for (bit, variable) in variables.clone().enumerate().skip(fixed) {
+            let on = (first >> (bit - 3)) & 1 == 1;
+            lanes[variable] = if on { Planes::ONES } else { Planes::ZEROS };
         }
-        let used = task.share(secrets, &free, &mut shares);
-        write(table, &task.found, &shares, &free[used..task.bits], &mut values);
+        for (at, &[x, y]) in sums.products().iter().enumerate() {
+            if (needed >> (sums.first + at)) & 1 == 1 {
+                lanes[sums.first + at] = sum_of(x, &lanes) & sum_of(y, &lanes);
+            }
+        }
+        let mut read = [Planes::<P>::ZEROS; 8];
+        for (read, &sum) in read.iter_mut().zip(&sums.read[..task.wires]) {
+            *read = sum_of(sum, &lanes);
+        }
         for plane in 0..P {
-            let byte = |wire: u16| u64::from(values[usize::from(wire)].0[plane]);
-            let columns = task.read().iter().fold(0, |columns, &wire| columns << 8 | byte(wire));
-            tally.add(first + plane, columns);
+            let column = |columns, read: &Planes<P>| (columns << 8) | u64::from(read.0[plane]);
+            tally.add(first + plane, read[..task.wires].iter().fold(0, column));
         }
     }
+}
+
+#[inline(always)]
+fn sum_of<const P: usize>(sum: Sum, lanes: &[Planes<P>; 64]) -> Planes<P> {
+    let (mut value, mut left) = (Planes::ZEROS, sum);
+    while left != 0 {
+        value = value ^ lanes[left.trailing_zeros() as usize & 63];
+        left &= left - 1;
+    }
+    value
 }
 
 /// A bit of the pairs' numbers that changes within a pass.

@@ -1,12 +1,16 @@
-//! A tuned program for the same calls: single passes; only counts allocate. The benchmark's opponent.
+//! A tuned program for the same calls, compiled for each number of shares; only counts allocate. The benchmark's opponent.
 mod check;
 mod clock;
 mod count;
 mod evaluate;
+mod fault;
+mod gates;
+mod held;
 mod lanes;
-mod planes;
 mod reach;
 mod sharings;
+mod starts;
+mod sums;
 mod text;
 mod wide;
 mod write;
@@ -16,9 +20,27 @@ mod clocked;
 #[cfg(test)]
 mod counted;
 #[cfg(test)]
+mod large;
+#[cfg(test)]
 mod shared;
 
 use crate::calls::{Answer, Calls};
+
+/// The call of a function that is compiled for each number of shares; `<_>` where it has a type beside it.
+macro_rules! by_shares {
+    ($d:expr, $function:ident $(<$type:ty>)? ($($given:expr),*)) => {
+        match $d {
+            2 => $function::<2 $(, $type)?>($($given),*),
+            3 => $function::<3 $(, $type)?>($($given),*),
+            4 => $function::<4 $(, $type)?>($($given),*),
+            5 => $function::<5 $(, $type)?>($($given),*),
+            6 => $function::<6 $(, $type)?>($($given),*),
+            7 => $function::<7 $(, $type)?>($($given),*),
+            _ => $function::<8 $(, $type)?>($($given),*),
+        }
+    };
+}
+use by_shares;
 
 /// Rule, frame, word.
 type Refused = (u64, usize, usize);

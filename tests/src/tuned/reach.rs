@@ -1,9 +1,14 @@
-//! Readings: a pass that keeps where frames begin, then one pass back over them.
+//! Readings: the check's pass, the evaluation's, which keeps where frames begin, and one back over them, in which the reading
+//! sheet holds marks: ON where a wire is reached, else 0.
 use super::evaluate::{fits, write};
-use super::{check, Found, Refused, Sizes};
+use super::gates::gate_length;
+use super::starts::Starts;
+use super::{by_shares, check, Found, Refused};
+use std::mem::take;
 
-/// The mark of a wire that is reached and not yet looked at; the values are 0 and 1, not read is 2.
-const REACHED: u8 = 3;
+const ON: u8 = 255;
+/// Frames that are looked at together: where none of their wires is reached, they are passed over.
+const BLOCK: usize = 16;
 
 pub fn read_probes(
     table: &[u16],
@@ -16,154 +21,171 @@ pub fn read_probes(
 ) -> Result<Found, Refused> {
     let found = check::check(table, notes)?;
     fits(&found, shares, tape, values.len().min(reading.len()))?;
-    wires(&found, probes)?;
-    write(table, &found, shares, tape, values);
-    reading[..8192].fill(2);
-    show(table, &found, values, probes, reading);
+    let last = wires(&found, probes)?;
+    let reading = &mut reading[..8192];
+    let Some(last) = last else {
+        write(table, &found, shares, tape, values, &mut ());
+        reading.fill(2);
+        return Ok(found);
+    };
+    // the last frame that is gone over may make wires behind the last probe
+    let most = 7 * found.d * (found.d - 1) + 4 * found.d;
+    let (marks, beyond) = reading.split_at_mut(found.wires.min(usize::from(last) + most));
+    if table.len() <= 2048 {
+        let mut starts = Starts::<1024>::new();
+        write(table, &found, shares, tape, values, &mut starts);
+        mark(table, found.d, starts.up_to(last), probes, marks);
+    } else {
+        let mut starts = Starts::<4096>::new();
+        write(table, &found, shares, tape, values, &mut starts);
+        mark(table, found.d, starts.up_to(last), probes, marks);
+    }
+    for (mark, &value) in marks.iter_mut().zip(&*values) {
+        *mark = (value & *mark) | (2 & !*mark);
+    }
+    beyond.fill(2);
     Ok(found)
 }
 
-/// Rule 19.
-pub fn wires(found: &Found, probes: &[u16]) -> Result<(), Refused> {
-    match probes.iter().position(|&probe| usize::from(probe) >= found.wires) {
-        Some(index) => Err((19, 0, index)),
-        None => Ok(()),
+/// Rule 19; gives the last wire that is probed.
+pub fn wires(found: &Found, probes: &[u16]) -> Result<Option<u16>, Refused> {
+    if probes.is_empty() {
+        return Ok(None);
     }
+    let last = probes.iter().fold(0, |last, &probe| probe.max(last));
+    if usize::from(last) < found.wires {
+        return Ok(Some(last));
+    }
+    let index = probes.iter().position(|&probe| usize::from(probe) >= found.wires);
+    Err((19, 0, index.unwrap_or(0)))
 }
 
-/// Puts the values of the wires that the probes read into a reading of all 2.
-pub fn show(table: &[u16], found: &Found, values: &[u8], probes: &[u16], reading: &mut [u8]) {
+/// Marks the wires that the probes read; the frames are those up to the last probe's, and the marks end with their wires or
+/// behind.
+pub fn mark(table: &[u16], d: usize, starts: &[[u16; 2]], probes: &[u16], marks: &mut [u8]) {
+    marks.fill(0);
     for &probe in probes {
-        reading[usize::from(probe)] = REACHED;
+        marks[usize::from(probe)] = ON;
     }
-    if let Some(&last) = probes.iter().max() {
-        back(table, found, values, reading, usize::from(last));
-    }
+    by_shares!(d, back(&table[2..], starts, marks))
 }
 
-/// Goes back over the frames; a gate hands its mark on, a stop gets its value.
-fn back(table: &[u16], found: &Found, values: &[u8], reading: &mut [u8], last: usize) {
-    let sizes = Sizes::new(found.d);
-    let mut starts = [0u16; 4096];
-    let (mut frames, mut at, mut wires) = (0, 2, 0);
-    while at < table.len() && wires <= last {
-        starts[frames] = at as u16;
-        frames += 1;
-        let kind = usize::from(table[at]);
-        at += usize::from(sizes.words[kind]);
-        wires += usize::from(sizes.wires[kind]);
-    }
-    for &start in starts[..frames].iter().rev() {
-        let words = &table[usize::from(start)..];
-        let made = usize::from(sizes.wires[usize::from(words[0])]);
-        wires -= made;
-        let (old, rest) = reading.split_at_mut(wires);
-        let new = &mut rest[..made];
-        let values = &values[wires..wires + made];
-        match *words {
-            [3, x, y, ..] if new[0] == REACHED => {
-                new[0] = 2;
-                old[usize::from(x)] = REACHED;
-                old[usize::from(y)] = REACHED;
+/// Goes back over the frames; a gate hands its mark on, a stop keeps it.
+fn back<const D: usize>(frames: &[u16], starts: &[[u16; 2]], marks: &mut [u8]) {
+    let mut end = marks.len();
+    for block in starts.chunks(BLOCK).rev() {
+        let begin = usize::from(block[0][1]);
+        let reached = marks[begin..end].iter().fold(0, |all, mark| all | mark) != 0;
+        end = begin;
+        if !reached {
+            continue;
+        }
+        for &[left, wire] in block.iter().rev() {
+            let words = &frames[frames.len() - usize::from(left)..];
+            if let Some(words @ &[kind @ 3..=5, x, _]) = words.first_chunk() {
+                gate(kind, x, words[gate_length(kind) - 1], wire, marks);
+            } else {
+                other::<D>(words, wire, marks);
             }
-            [4, x, ..] if new[0] == REACHED => {
-                new[0] = 2;
-                old[usize::from(x)] = REACHED;
-            }
-            [6, _, ..] => and(found.d, &words[2..], old, new, values),
-            [7, _, ..] => refresh(found.d, &words[2..], old, new, values),
-            _ => settle(new, values),
         }
     }
 }
 
-/// Each reached wire of a run of stops gets its value.
+/// XOR, NOT and REG, one case without a branch: REG alone keeps its mark, and for NOT and REG y is x once more.
 #[inline(always)]
-fn settle(reading: &mut [u8], values: &[u8]) {
-    for (read, &value) in reading.iter_mut().zip(values) {
-        if *read == REACHED {
-            *read = value;
-        }
+fn gate(kind: u16, x: u16, y: u16, wire: u16, marks: &mut [u8]) {
+    let (x, y, wire) = (usize::from(x), usize::from(y), usize::from(wire));
+    let kept = if kind == 5 { ON } else { 0 };
+    let on = marks[wire] & !kept;
+    marks[wire] &= kept;
+    // both looked up first, since they may be one wire
+    (marks[x], marks[y]) = (marks[x] | on, marks[y] | on);
+}
+
+fn other<const D: usize>(words: &[u16], wire: u16, marks: &mut [u8]) {
+    let (old, new) = marks.split_at_mut(usize::from(wire));
+    match *words {
+        [kind @ 4..=5, x] => gate(kind, x, x, wire, marks),
+        [6, _, ref words @ ..] => and::<D>(words, old, new),
+        [7, _, ref words @ ..] => refresh::<D>(words, old, new),
+        _ => (),
     }
 }
 
-/// Takes the mark off a gate; true where it had one.
-#[inline(always)]
-fn taken(mark: &mut u8) -> bool {
-    let reached = *mark == REACHED;
-    if reached {
-        *mark = 2;
-    }
-    reached
-}
-
-/// AND, from its outputs back to its stops.
-fn and(d: usize, words: &[u16], old: &mut [u8], new: &mut [u8], values: &[u8]) {
-    if !new.contains(&REACHED) {
+/// AND, from its outputs back to its stops; passed over where none of its wires is reached.
+fn and<const D: usize>(words: &[u16], old: &mut [u8], new: &mut [u8]) {
+    let new = &mut new[..7 * D * (D - 1) + 4 * D];
+    if new.iter().fold(0, |all, mark| all | mark) == 0 {
         return;
     }
-    let first_own = d * (d - 1);
-    let first_cross = first_own + 3 * d;
-    let first_output = first_cross + 6 * d * (d - 1);
-    for i in 0..d {
-        if taken(&mut new[first_output + i]) {
-            new[first_own + 3 * i + 2] = REACHED;
-            for k in 0..d - 1 {
-                let at = first_cross + 6 * (i * (d - 1) + k);
-                new[at + 1] = REACHED;
-                new[at + 5] = REACHED;
-            }
+    let (pairs, new) = new.split_at_mut(D * (D - 1));
+    let (own, new) = new.split_at_mut(3 * D);
+    let (cross, outputs) = new.split_at_mut(6 * D * (D - 1));
+    let mut on_b = [0; D];
+    let rows = own.chunks_exact_mut(3).zip(cross.chunks_exact_mut(6 * (D - 1)));
+    for (i, (own, row)) in rows.enumerate() {
+        let output = take(&mut outputs[i]);
+        let product = take(&mut own[1]);
+        own[0] |= product;
+        own[2] |= output;
+        let mut gates = 0;
+        for pair in row.chunks_exact_mut(6) {
+            gates |= pair[0] | pair[2] | pair[4];
+            pair[1] |= output;
+            pair[5] |= output;
         }
+        let mut on_a = product;
+        if gates != 0 {
+            on_a |= cross_row::<D>(i, row, pairs, &mut on_b);
+        }
+        old[usize::from(words[i])] |= on_a;
     }
-    for i in 0..d {
-        let a = usize::from(words[i]);
-        for k in 0..d - 1 {
-            let j = k + usize::from(k >= i);
-            let at = first_cross + 6 * (i * (d - 1) + k);
-            let random = 2 * pair(d, i.min(j), i.max(j));
-            cross(a, usize::from(words[d + j]), random, at, old, new);
-        }
-        let at = first_own + 3 * i;
-        if taken(&mut new[at + 1]) {
-            old[a] = REACHED;
-            new[at] = REACHED;
-        }
+    for j in 0..D {
+        old[usize::from(words[D + j])] |= on_b[j];
     }
-    settle(new, values);
 }
 
-/// The gates u, v and w of one pair; its six wires begin at `at`, r and R at `random`.
+/// The gates u, v and w of a share i with each other one; gives the mark of a(i).
 #[inline(always)]
-fn cross(a: usize, b: usize, random: usize, at: usize, old: &mut [u8], new: &mut [u8]) {
-    if taken(&mut new[at]) {
-        old[a] = REACHED;
-        new[random + 1] = REACHED;
+fn cross_row<const D: usize>(i: usize, row: &mut [u8], pairs: &mut [u8], on_b: &mut [u8; D]) -> u8 {
+    let mut on_a = 0;
+    for (k, pair) in row.chunks_exact_mut(6).enumerate() {
+        let (u, v, w) = (take(&mut pair[0]), take(&mut pair[2]), take(&mut pair[4]));
+        pair[3] |= w;
+        let random = usize::from(const { places(D) }[i & 7][k & 7]);
+        pairs[random] |= v;
+        pairs[random + 1] |= u;
+        on_a |= u | w;
+        on_b[k + usize::from(k >= i)] |= v;
     }
-    if taken(&mut new[at + 2]) {
-        old[b] = REACHED;
-        new[random] = REACHED;
-    }
-    if taken(&mut new[at + 4]) {
-        old[a] = REACHED;
-        new[at + 3] = REACHED;
-    }
+    on_a
 }
 
-/// The place of the pair i<j, by i, then j.
-#[inline(always)]
-fn pair(d: usize, i: usize, j: usize) -> usize {
-    i * (2 * d - i - 1) / 2 + j - i - 1
+/// Where an AND's r(i,j) stands among its wires, by i and the place of j among the others.
+pub const fn places(d: usize) -> [[u8; 8]; 8] {
+    let (mut places, mut next, mut i) = ([[0; 8]; 8], 0, 0);
+    while i < d {
+        let mut j = i + 1;
+        while j < d {
+            places[i][j - 1] = next;
+            places[j][i] = next;
+            (next, j) = (next + 2, j + 1);
+        }
+        i += 1;
+    }
+    places
 }
 
-fn refresh(d: usize, words: &[u16], old: &mut [u8], new: &mut [u8], values: &[u8]) {
-    let pairs = d * (d - 1) / 2;
-    for i in 0..d {
-        if taken(&mut new[pairs + i]) {
-            old[usize::from(words[i])] = REACHED;
-            for j in (0..d).filter(|&j| j != i) {
-                new[pair(d, i.min(j), i.max(j))] = REACHED;
-            }
+fn refresh<const D: usize>(words: &[u16], old: &mut [u8], new: &mut [u8]) {
+    let (bits, sums) = new.split_at_mut(D * (D - 1) / 2);
+    let (mut on, mut next) = ([0; D], 0);
+    on.copy_from_slice(&sums[..D]);
+    sums[..D].fill(0);
+    for i in 0..D {
+        old[usize::from(words[i])] |= on[i];
+        for j in i + 1..D {
+            bits[next] |= on[i] | on[j];
+            next += 1;
         }
     }
-    settle(new, values);
 }

@@ -18,7 +18,7 @@ pub fn count(
 ) -> Result<[usize; 3], Refused> {
     let task = Task::new(table, notes, secrets, probes, counts.len())?;
     let gates = Gates::new(table, &task);
-    let mut tally = Tally::new(&task);
+    let mut tally = Tally::new(task.wires, task.bits);
     match task.bits {
         0..=5 => gates.all_pairs::<1>(&task, secrets, &mut tally),
         6 | 7 => gates.all_pairs::<2>(&task, secrets, &mut tally),

@@ -1,7 +1,9 @@
 //! Times of count: the first program and the opponent, and beside them 64 pairs in a word and a loop over single evaluations.
-use super::median;
+use super::load::median;
 use masked_tests::builder::Builder;
 use masked_tests::calls::{Answer, Calls};
+use masked_tests::generate::random::Random;
+use masked_tests::generate::shuffled::with_gates;
 use masked_tests::mask::masking::mask;
 use masked_tests::mask::sbox::present;
 use masked_tests::reference::check::{walk, Rules};
@@ -122,7 +124,7 @@ impl Load {
         let [ours, theirs, wide, looped] = self.medians(subject, rounds);
         let (wires, bits) = (self.builder.wires(), free_bits(&self.circuit));
         println!(
-            "{:<22}{wires:>6}{bits:>6}{:>6} {ours:>12.1}{theirs:>12.1}{:>7.2}{looped:>14.1}{:>8.1}{wide:>14.1}",
+            "{:<22}{wires:>6}{bits:>6}{:>6} {ours:>12.2}{theirs:>12.2}{:>7.2}{looped:>14.1}{:>8.1}{wide:>14.2}",
             self.name,
             self.read.len(),
             ours / theirs,
@@ -156,9 +158,8 @@ fn inputs() -> Load {
     Load::new("14 INs, d 2", builder, probes)
 }
 
-/// INs and ANDs of two shares with so many free bits, sums of all products, then XOR, NOT and REG on them up to a number of
-/// wires; the last six are registers, and probed.
-fn filled(name: &str, bits: usize, wires: usize) -> Load {
+/// INs and ANDs of two shares with so many free bits, and sums of all products; gives the last row.
+fn sums(bits: usize) -> (Builder, Vec<u16>) {
     let mut builder = Builder::new(2);
     let inputs = 2 * bits.div_ceil(4);
     let rows: Vec<Vec<u16>> = (0..inputs).map(|at| builder.input((at + 1) % 2)).collect();
@@ -168,24 +169,39 @@ fn filled(name: &str, bits: usize, wires: usize) -> Load {
         let product = builder.and(&rows[a], &rows[a + 1]);
         row = match row.is_empty() {
             true => product,
-            false => row.iter().zip(&product).map(|(&x, &y)| builder.xor(x, y)).collect(),
+            false => builder.xors(&row, &product),
         };
     }
+    (builder, row)
+}
+
+/// Such sums, then XOR, NOT and REG on them in rows up to a number of wires; the last six are registers, and probed.
+fn filled(name: &str, bits: usize, wires: usize) -> Load {
+    let (mut builder, mut row) = sums(bits);
     let mut before = row.clone();
     while builder.wires() + 12 <= wires {
-        let sums: Vec<u16> = row.iter().zip(&before).map(|(&x, &y)| builder.xor(x, y)).collect();
-        before = row.iter().map(|&wire| builder.not(wire)).collect();
+        let sums = builder.xors(&row, &before);
+        before = builder.nots(&row);
         row = sums;
         if builder.place(row[0]).stage < 200 && builder.wires().is_multiple_of(7) {
             before = builder.registers(&before);
             row = builder.registers(&row);
         }
     }
-    let first = builder.wires() as u16;
-    for wire in [row.clone(), before, row].concat() {
-        builder.register(wire);
-    }
-    Load::new(name, builder, (first..first + 6).collect())
+    probed(name, builder, &[row.clone(), before, row].concat())
+}
+
+/// Such sums, then XOR, NOT and REG in random order; registers on the last six are probed.
+fn shuffled(name: &str, bits: usize, wires: usize) -> Load {
+    let builder = with_gates(&mut Random::new(1), sums(bits).0, wires - 6);
+    let last = builder.wires() as u16;
+    probed(name, builder, &Vec::from_iter(last - 6..last))
+}
+
+/// A circuit with six registers at its end, which are probed.
+fn probed(name: &str, mut builder: Builder, wires: &[u16]) -> Load {
+    let probes = builder.registers(wires);
+    Load::new(name, builder, probes)
 }
 
 /// A line for each circuit, then for growing numbers of free bits and of wires.
@@ -209,4 +225,8 @@ pub fn print(subject: &dyn Calls, rounds: usize) {
         filled(&format!("{wires} wires"), 8, wires).print(subject, rounds);
     }
     filled("3200 wires, 16 bits", 16, 3200).print(subject, rounds);
+    println!("kinds in random order");
+    for (bits, wires) in [(4, 300), (8, 300), (8, 3200), (12, 300)] {
+        shuffled(&format!("{bits} bits, {wires} wires"), bits, wires).print(subject, rounds);
+    }
 }
