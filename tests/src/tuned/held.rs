@@ -43,25 +43,9 @@ pub fn and<const D: usize>(
     before: &mut Before,
 ) {
     let (a, b) = (row::<D>(words, old), row::<D>(&words[D..], old));
-    let all_b = (0..D).fold(0, |all, j| all | (u64::from(4 * b[j]) << (8 * j)));
-    let mut places = [0; D];
-    for i in 0..D {
-        // for each j the byte 8a(i) + 4b(j) + 2R(i,j) + r(i,j)
-        places[i] = all_b | (u64::from(a[i]) * EIGHTS);
-    }
     let (pairs, new) = new.split_at_mut(D * (D - 1));
     let (held_pairs, held) = held.split_at_mut(D * (D - 1));
-    let mut next = 0;
-    for i in 0..D {
-        for j in i + 1..D {
-            let shown = replace(&mut held_pairs[2 * next + 1], random[next]);
-            pairs[2 * next..2 * next + 2].copy_from_slice(&[random[next], shown]);
-            let both = u64::from(random[next] | (shown << 1));
-            places[i] |= both << (8 * j);
-            places[j] |= both << (8 * i);
-            next += 1;
-        }
-    }
+    let places = draw(&a, &b, random, pairs, held_pairs);
     let (own, new) = new.split_at_mut(3 * D);
     let (held_own, held) = held.split_at_mut(3 * D);
     let mut c = [0; D];
@@ -88,6 +72,33 @@ pub fn and<const D: usize>(
         let row = &before[2 + 6 * i * (D - 1)..2 + 6 * (i + 1) * (D - 1)];
         outputs[i] = row.chunks_exact(6).fold(c[i], |sum, pair| sum ^ pair[1] ^ pair[5]);
     }
+}
+
+/// The wires r and R; gives, of each i, the byte 8a(i) + 4b(j) + 2R(i,j) + r(i,j) for each j.
+#[inline(always)]
+fn draw<const D: usize>(
+    a: &[u8; D],
+    b: &[u8; D],
+    random: &[u8],
+    new: &mut [u8],
+    held: &mut [u8],
+) -> [u64; D] {
+    let all_b = (0..D).fold(0, |all, j| all | (u64::from(4 * b[j]) << (8 * j)));
+    let (mut places, mut next) = ([0; D], 0);
+    for i in 0..D {
+        places[i] = all_b | (u64::from(a[i]) * EIGHTS);
+    }
+    for i in 0..D {
+        for j in i + 1..D {
+            let shown = replace(&mut held[2 * next + 1], random[next]);
+            new[2 * next..2 * next + 2].copy_from_slice(&[random[next], shown]);
+            let both = u64::from(random[next] | (shown << 1));
+            places[i] |= both << (8 * j);
+            places[j] |= both << (8 * i);
+            next += 1;
+        }
+    }
+    places
 }
 
 /// Joins w with V, shows the registers, and has them take their gates.

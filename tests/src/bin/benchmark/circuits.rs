@@ -19,7 +19,7 @@ fn print_lines(lines: &[Line], subject: &dyn Calls, rounds: usize) {
         COLUMNS.iter().map(|&call| medians(lines, call, subject, rounds)).collect();
     for (i, line) in lines.iter().enumerate() {
         let [words, wires] = line.sizes();
-        print!("{:<24}{words:>6}{wires:>6} ", line.name);
+        print!("{:<26}{words:>6}{wires:>6} ", line.name);
         for column in &columns {
             let (ours, theirs) = column[i];
             print!("{ours:>9.2}{theirs:>8.2}{:>6.2}", ours / theirs);
@@ -59,7 +59,7 @@ pub fn largest(random: &mut Random) -> Vec<Line> {
 pub fn print(random: &mut Random, subject: &dyn Calls, rounds: usize) {
     println!("each call: first program, opponent, ratio");
     println!(
-        "{:<24}{:>6}{:>6} {}",
+        "{:<26}{:>6}{:>6} {}",
         "",
         "words",
         "wires",
@@ -90,6 +90,6 @@ pub fn print_clocks(random: &mut Random, subject: &dyn Calls, rounds: usize) {
         let line = Line::new(random, &name, mask(&aes().netlist, d).builder);
         let [_, wires] = line.sizes();
         let (ours, theirs) = medians(&[line], CLOCK, subject, rounds)[0];
-        println!("{name:<24}{wires:>12}{:>12.0}{:>12.0}", 1e6 / ours, 1e6 / theirs);
+        println!("{name:<26}{wires:>12}{:>12.0}{:>12.0}", 1e6 / ours, 1e6 / theirs);
     }
 }

@@ -42,7 +42,7 @@ fn circuits(random: &mut Random) -> Vec<(String, Builder)> {
 pub fn print(random: &mut Random, subject: &dyn Calls, rounds: usize) {
     println!("read_probes by the probes: first program, opponent, ratio");
     let names = SETS.map(|name| format!("{name:>23}")).concat();
-    println!("{:<24}{:>6}{:>6} {names}", "", "words", "wires");
+    println!("{:<26}{:>6}{:>6} {names}", "", "words", "wires");
     let mut lines: Vec<Line> = circuits(random)
         .into_iter()
         .map(|(name, builder)| Line::new(random, &name, builder))
@@ -56,7 +56,7 @@ pub fn print(random: &mut Random, subject: &dyn Calls, rounds: usize) {
     });
     for (i, line) in lines.iter().enumerate() {
         let [words, wires] = line.sizes();
-        print!("{:<24}{words:>6}{wires:>6} ", line.name);
+        print!("{:<26}{words:>6}{wires:>6} ", line.name);
         for set in &sets {
             let (ours, theirs) = set[i];
             print!("{ours:>9.2}{theirs:>8.2}{:>6.2}", ours / theirs);

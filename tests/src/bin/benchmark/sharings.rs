@@ -49,7 +49,7 @@ fn by_turns(random: &mut Random) -> Line {
 pub fn print(random: &mut Random, subject: &dyn Calls, rounds: usize) {
     println!("check_sharings: first program, opponent, ratio; beside it the check, and what is added to it");
     println!(
-        "{:<24}{:>6}{:>6} {:>23}{:>23}{:>23}  answer",
+        "{:<26}{:>6}{:>6} {:>23}{:>23}{:>23}  answer",
         "", "words", "wires", "check_sharings", "check", "added"
     );
     let mut lines: Vec<Line> = circuits(random)
@@ -60,7 +60,7 @@ pub fn print(random: &mut Random, subject: &dyn Calls, rounds: usize) {
     let [check, both] = [CHECK, CHECK_SHARINGS].map(|call| medians(&lines, call, subject, rounds));
     for (i, line) in lines.iter().enumerate() {
         let [words, wires] = line.sizes();
-        print!("{:<24}{words:>6}{wires:>6} ", line.name);
+        print!("{:<26}{words:>6}{wires:>6} ", line.name);
         let added = (both[i].0 - check[i].0, both[i].1 - check[i].1);
         for (ours, theirs) in [both[i], check[i], added] {
             print!("{ours:>9.2}{theirs:>8.2}{:>6.2}", ours / theirs);
