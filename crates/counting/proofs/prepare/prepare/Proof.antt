@@ -37,15 +37,29 @@ numbers s =
 
 expand-requires : tie.Need-expand-requires
 expand-requires c κs =
-    let s = c .before .before .before .before .before .before .before .before .before .before .before .before .before .before .before .before .before .before in
-    let (evaluable, short) = lent-evaluable (s .pre .0) (s .pre .1) (s .pre .3) (c .before .before .before .before .before .before .before .before .before .before .before .before .before .before .free-sums .ensures) (c .before .before .before .before .before .before .before .before .before .before .before .before .before .secret-sums .ensures) (c .before .before .before .before .before .before .before .before .complete .ensures) (s .pre .5) in
+    let m = c .before .before .before .before .before .before .before .before in
+    let s = m .before .before .before .before .before .before .before .before .before .before in
+    let free = m .before .before .before .before .before .before .free-sums .ensures in
+    let lasts = m .before .before .before .before .before .secret-sums .ensures in
+    let (evaluable, short) = lent-evaluable (s .pre .0) (s .pre .1) (s .pre .3) free lasts (m .complete .ensures) (s .pre .5) in
     let (shares, tape) = prepared-low (s .args .plan) (s .args .inputs) (s .args .secrets .now) in
-    rw (sharing-is (s .pre .0) (s .pre .1) (s .pre .3) (c .before .before .before .before .before .before .before .before .before .before .before .before .before .before .free-sums .ensures) (c .before .before .before .before .before .before .before .before .before .before .before .before .before .secret-sums .ensures) (c .before .before .before .before .before .before .before .before .complete .ensures), tape-is (s .pre .0) (s .pre .1) (s .pre .3) (c .before .before .before .before .before .before .before .before .before .before .before .before .before .before .free-sums .ensures) (c .before .before .before .before .before .before .before .before .before .before .before .before .before .secret-sums .ensures) (c .before .before .before .before .before .before .before .before .complete .ensures)) (evaluable, short, shares, tape, s .pre .6, s .pre .2 .few, omega (arith, s .pre .2 .few, s .pre .2 .sized), s .pre .2 .made, s .pre .7)
+    rw (
+      sharing-is (s .pre .0) (s .pre .1) (s .pre .3) free lasts (m .complete .ensures),
+      tape-is (s .pre .0) (s .pre .1) (s .pre .3) free lasts (m .complete .ensures),
+    )
+    (evaluable, short, shares, tape, s .pre .6, s .pre .2 .few, omega (arith, s .pre .2 .few, s .pre .2 .sized), s .pre .2 .made, s .pre .7)
 
 returns : tie.Need-returns
 returns c =
-    let s = c .before .before .before .before .before .before .before .before .before .before .before .before .before .before .before .before .before .before .before .before .before in
-    rw (← sharing-is (s .pre .0) (s .pre .1) (s .pre .3) (c .before .before .before .before .before .before .before .before .before .before .before .before .before .before .before .before .before .free-sums .ensures) (c .before .before .before .before .before .before .before .before .before .before .before .before .before .before .before .before .secret-sums .ensures) (c .before .before .before .before .before .before .before .before .before .before .before .complete .ensures), ← tape-is (s .pre .0) (s .pre .1) (s .pre .3) (c .before .before .before .before .before .before .before .before .before .before .before .before .before .before .before .before .before .free-sums .ensures) (c .before .before .before .before .before .before .before .before .before .before .before .before .before .before .before .before .secret-sums .ensures) (c .before .before .before .before .before .before .before .before .before .before .before .complete .ensures)) (c .before .before .expand .ensures, c .before .before .expand .kept .1 .1 .1 .1 .1 .1 .0 ∙ ap length (s .pre .7))
+    let m = c .before .before .before .before .before .before .before .before .before .before .before in
+    let s = m .before .before .before .before .before .before .before .before .before .before in
+    let free = m .before .before .before .before .before .before .free-sums .ensures in
+    let lasts = m .before .before .before .before .before .secret-sums .ensures in
+    rw (
+      ← sharing-is (s .pre .0) (s .pre .1) (s .pre .3) free lasts (m .complete .ensures),
+      ← tape-is (s .pre .0) (s .pre .1) (s .pre .3) free lasts (m .complete .ensures),
+    )
+    (c .before .before .expand .ensures, c .before .before .expand .kept .1 .1 .1 .1 .1 .1 .0 ∙ ap length (s .pre .7))
 
 pub prepare-spec : {M : Type 1} → statement M
 prepare-spec =
@@ -61,7 +75,8 @@ prepare-spec =
     (λ c. record { fits = omega (arith, numbers (c .before .before .before .before .before .before .before .before .before .before .before) .shares) })
     (λ c. omega arith)
     (λ c. omega arith)
-    (λ c. let s = c .before .before .before .before .before .before .before .before .before .before .before .before in omega (arith, buffer (s .pre .0) (s .pre .1) (s .pre .3) (c .before .before .before .before .before .before .before .before .free-sums .ensures) (c .before .before .before .before .before .before .before .secret-sums .ensures) (c .before .before .complete .ensures), numbers s .shares))
+    (λ c. let m = c .before .before in let s = m .before .before .before .before .before .before .before .before .before .before in
+    omega (arith, buffer (s .pre .0) (s .pre .1) (s .pre .3) (m .before .before .before .before .before .before .free-sums .ensures) (m .before .before .before .before .before .secret-sums .ensures) (m .complete .ensures), numbers s .shares))
     (λ c. let n = numbers (c .before .before .before .before .before .before .before .before .before .before .before .before .before) in record { fits = omega (arith, n .within, n .few) })
     (λ c. numbers (c .before .before .before .before .before .before .before .before .before .before .before .before .before) .within)
     (λ c. numbers (c .before .before .before .before .before .before .before .before .before .before .before .before .before .before) .within)

@@ -31,4 +31,7 @@ show-batch-spec =
     (λ c κs. let s = c .before .before .before .before .before .before .before .before in let p = some s in (p .terms-sized, c .before .before .run .ensures .sized ∙ c .before .before .before .before .before .fill-variables .ensures .sized, omega arith, omega (arith, p .read-in .few), p .expanded .reads-before))
     (λ c κs. let s = c .before .before .before .before .before .before .before .before .before .before .before .before .before in let p = some s in
     (p .read-in .few, p .read-in .sized, c .before .before .before .before .run2 .ensures .sized ∙ c .before .before .before .before .before .before .before .run .ensures .sized ∙ c .before .before .before .before .before .before .before .before .before .before .fill-variables .ensures .sized, s .pre .3, λ i l. omega (arith, p .read-in .made i l, p .room)))
-    (λ c. ((λ table secrets p. batch-shown p (c .before .before .before .before .before .before .before .before .before .before .before .fill-variables .ensures) (c .before .before .before .before .before .before .before .before .run .ensures) (c .before .before .before .before .before .run2 .ensures) (c .show .ensures)), c .before .before .before .before .before .run2 .ensures .sized ∙ c .before .before .before .before .before .before .before .before .run .ensures .sized ∙ c .before .before .before .before .before .before .before .before .before .before .before .fill-variables .ensures .sized)))
+    (λ c. let reads = c .before .before .before .before .before in let outs = reads .before .before .before in let filled = outs .before .before .before in (
+      (λ table secrets p. batch-shown p (filled .fill-variables .ensures) (outs .run .ensures) (reads .run2 .ensures) (c .show .ensures)),
+      reads .run2 .ensures .sized ∙ outs .run .ensures .sized ∙ filled .fill-variables .ensures .sized,
+    )))
