@@ -21,7 +21,7 @@ sum-more : (m n : ℕ) (f : ℕ → ℕ) → sumTo (m + n) f ≡ sumTo m f + sum
 sum-more m zero f = simp add-zero
 sum-more m (suc n) f = rw (add-suc m n) (omega (arith, sum-more m n f))
 
-few-ones : (n : ℕ) (p : ℕ → Bool) → sumTo n (λ t. cond (p t) 1 0) ≤ n
+pub few-ones : (n : ℕ) (p : ℕ → Bool) → sumTo n (λ t. cond (p t) 1 0) ≤ n
 few-ones zero p = omega arith
 few-ones (suc n) p = omega (arith, few-ones n p, one (p n))
   where

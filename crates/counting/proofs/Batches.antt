@@ -74,9 +74,9 @@ module _ {table secrets : List ℕ} (k : Countable table secrets) {plan : Plan} 
         shares = omega (arith, mul-le-mul-right (length secrets) some);
       }
 
--- the number of pairs, as the code multiplies it
-pub pairs-are : {table : List ℕ} {plan : Plan} → Planned table plan → plan .batches * plan .lanes ≡ pairCount (circuitIn table)
-pairs-are p = p .divides .all ∙ ap (λ n. 2 ^ n) (p .free-is)
+-- the number of pairs
+pub pairs-are : {table : List ℕ} {plan : Plan} → Planned table plan → 2 ^ plan .free ≡ pairCount (circuitIn table)
+pairs-are p = ap (λ n. 2 ^ n) (p .free-is)
 
 pub pairs-few : (table : List ℕ) → freeBits (circuitIn table) ≤ 16 → (1 ≤ pairCount (circuitIn table)) × (pairCount (circuitIn table) ≤ 65536)
 pairs-few table few = (pow-mono (freeBits (circuitIn table)) 0 (omega arith), pow-mono 16 (freeBits (circuitIn table)) few)

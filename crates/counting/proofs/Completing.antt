@@ -2,7 +2,7 @@
 use mathlib.Core.Path.{_≡_, refl, sym, ap, ap₂, _∙_}
 use mathlib.Core.Bool.{Bool, true, false}
 use mathlib.Core.List.{List, [], _∷_, _++_, map, map-append, map-map, append-assoc}
-use Prim.Native.Nat.{ℕ, zero, suc, _+_, _*_, _/_, _%_, _≤_, _<_}
+use Prim.Native.Nat.{ℕ, zero, suc, _+_, _*_, _≤_, _<_}
 use native.Mathlib.Nat.{zero-add}
 use native.Mathlib.Omega.{arith}
 use lib.ListN.{length, take, drop, getD, length-drop, length-take, length-map, take-append-drop, List·getD-map}
@@ -17,10 +17,9 @@ use Rattle.semantics.specs.Counts.{parity}
 use Rattle.gadgets.proofs.Bits.{set-byte}
 use Rattle.simulation.specs.Internal.Evaluating.{packed, Packs}
 use Rattle.simulation.proofs.Packing.{packed-xor, packed-none}
-use Rattle.counting.specs.Internal.Lanes.{laneBit}
-use Rattle.counting.specs.Internal.Pairs.{completed, freeOf}
-use Rattle.counting.specs.Internal.Words.{ones, FreeWords, sharesOf, allShares}
-use Rattle.counting.proofs.Numbered.{range-next}
+use Rattle.counting.specs.Internal.Pairs.{completed}
+use Rattle.counting.specs.Internal.Words.{sharesOf, allShares}
+use Rattle.counting.proofs.Numbered.{by-place}
 use Rattle.counting.proofs.WordBits.{packed-same, packed-all}
 
 -- the bit of each pair, for each word
@@ -65,17 +64,13 @@ columns-lane l n (z ∷ zs) cs =
     (columns-lane l n zs (drop n cs) ∙ ap (completed n zs) (map-drop (λ (col : Column). col l) n cs))
     ∙ append-assoc (take n (lane l cs)) ((z ⊕ parity (take n (lane l cs))) ∷ []) (completed n zs (drop n (lane l cs)))
 
--- the free bits of pairs, from a number on
-freeColumns : (base free : ℕ) → List Column
-freeColumns b n = map (λ i l. laneBit i (b + l)) (range 0 n)
+-- the free bits of pairs, each a list of so many
+freeColumns : (given : ℕ → List Bool) (free : ℕ) → List Column
+freeColumns given n = map (λ i l. at (given l) i) (range 0 n)
 
-free-digits : (n t : ℕ) → freeOf n t ≡ map (λ i. laneBit i t) (range 0 n)
-free-digits zero t = refl
-free-digits (suc n) t = ap (λ r. isSet (t % 2) ∷ r) (free-digits n (t / 2) ∙ sym (range-next (λ i. laneBit i t) 0 n))
-
-free-lane : (b n l : ℕ) → lane l (freeColumns b n) ≡ freeOf n (b + l)
+free-lane : (given : ℕ → List Bool) (n l : ℕ) → length (given l) ≡ n → lane l (freeColumns given n) ≡ given l
 unfolding freeColumns
-free-lane b n l = map-map (λ (col : Column). col l) (λ i j. laneBit i (b + j)) (range 0 n) ∙ sym (free-digits n (b + l))
+free-lane given n l e = map-map (λ (col : Column). col l) (λ i j. at (given j) i) (range 0 n) ∙ ap (λ m. map (at (given l)) (range 0 m)) (sym e) ∙ sym (by-place (given l) false)
 
 -- words behind those that are taken do not matter
 shares-append : (n : ℕ) (zs xs ys : List ℕ) → n * length zs ≤ length xs → allShares n zs (xs ++ ys) ≡ allShares n zs xs
@@ -113,10 +108,10 @@ module _ (lanes : ℕ) where
       ∙ ap₂ _++_ (last-words (λ l. isSet z) (take n cs) ∙ ap₂ sharesOf (packed-all lanes (isSet z) ∙ ap (λ m. packed lanes (λ l. true) * m) (sym (set-byte z (h 0)))) (map-take (packed lanes) n cs))
       (columns-words n zs (drop n cs) (λ x. h (suc x)) ∙ ap (allShares n (wholes zs)) (map-drop (packed lanes) n cs))
 
-  -- the words of free bits from a number on, and what the sharing and the tape of each pair are in them
-  module _ (base free : ℕ) (ws : List ℕ) (long : free ≤ length ws) (are : (i : ℕ) → i < free → nth ws i ≡ packed lanes (λ l. laneBit i (base + l))) where
+  -- the words of free bits, and what the sharing and the tape of each pair are in them
+  module _ (given : ℕ → List Bool) (free : ℕ) (each : (l : ℕ) → length (given l) ≡ free) (ws : List ℕ) (long : free ≤ length ws) (are : (i : ℕ) → i < free → nth ws i ≡ packed lanes (λ l. at (given l) i)) where
     abbrev cols : List Column
-    cols = freeColumns base free
+    cols = freeColumns given free
 
     sized : length (take free ws) ≡ free
     sized = length-take free ws ∙ omega arith
@@ -124,32 +119,24 @@ module _ (lanes : ℕ) where
     free-words : take free ws ≡ words cols
     unfolding freeColumns
     free-words =
-        let digit : ℕ → Column = λ i l. laneBit i (base + l) in
+        let digit : ℕ → Column = λ i l. at (given l) i in
         ext-getD 0 (take free ws) (words cols) (sized ∙ sym (length-map (map digit (range 0 free)) (packed lanes) ∙ length-map (range 0 free) digit ∙ range-length 0 free))
         (λ i h. let l : i < free = omega (arith, sized) in
         getD-take free ws i 0 l ∙ are i l ∙ sym (ap (λ r. nth r i) (map-map (packed lanes) digit (range 0 free))
         ∙ map-at (λ j. packed lanes (digit j)) (range 0 free) i 0 0 (omega (arith, range-length 0 free)) ∙ ap (λ j. packed lanes (digit j)) (range-at 0 free i l ∙ zero-add i)))
 
     module _ (others : ℕ) (secrets : List ℕ) (few : others * length secrets ≤ free) where
-      sharing-packed : ((x : ℕ) → nth secrets x ≤ 1) → Packs lanes (λ l. completed others (bits secrets) (freeOf free (base + l))) (allShares others (wholes secrets) ws)
+      pub sharing-packed : ((x : ℕ) → nth secrets x ≤ 1) → Packs lanes (λ l. completed others (bits secrets) (given l)) (allShares others (wholes secrets) ws)
       sharing-packed bit i =
           ap (λ r. nth r i) (ap (allShares others (wholes secrets)) (sym (take-append-drop free ws))
           ∙ shares-append others (wholes secrets) (take free ws) (drop free ws) (rw (length-map secrets (λ z. packed lanes (λ l. true) * z)) (omega (arith, sized)))
           ∙ ap (allShares others (wholes secrets)) free-words ∙ sym (columns-words others secrets cols bit))
           ∙ packs-columns (columnsOf others (bits secrets) cols) i
-          ∙ packed-same lanes (λ l. at (lane l (columnsOf others (bits secrets) cols)) i) (λ l. at (completed others (bits secrets) (freeOf free (base + l))) i)
-          (λ l h. ap (λ r. at r i) (columns-lane l others (bits secrets) cols ∙ ap (completed others (bits secrets)) (free-lane base free l)))
+          ∙ packed-same lanes (λ l. at (lane l (columnsOf others (bits secrets) cols)) i) (λ l. at (completed others (bits secrets) (given l)) i)
+          (λ l h. ap (λ r. at r i) (columns-lane l others (bits secrets) cols ∙ ap (completed others (bits secrets)) (free-lane given free l (each l))))
 
-      drawn-packed : Packs lanes (λ l. drop (others * length secrets) (freeOf free (base + l))) (drop (others * length secrets) (take free ws))
+      pub drawn-packed : Packs lanes (λ l. drop (others * length secrets) (given l)) (drop (others * length secrets) (take free ws))
       drawn-packed i =
           let s = others * length secrets in
           ap (λ r. nth r i) (ap (drop s) free-words ∙ sym (map-drop (packed lanes) s cols)) ∙ packs-columns (drop s cols) i
-          ∙ packed-same lanes (λ l. at (lane l (drop s cols)) i) (λ l. at (drop s (freeOf free (base + l))) i) (λ l h. ap (λ r. at r i) (map-drop (λ (col : Column). col l) s cols ∙ ap (drop s) (free-lane base free l)))
-
--- the same of 64 pairs, as the code has them
-module _ {number free : ℕ} {ws : List ℕ} (f : FreeWords number free ws) (most : free ≤ 16) (others : ℕ) (secrets : List ℕ) (few : others * length secrets ≤ free) where
-  pub shares-packed : ((x : ℕ) → nth secrets x ≤ 1) → Packs 64 (λ l. completed others (bits secrets) (freeOf free (64 * number + l))) (allShares others (map (λ z. ones * z) secrets) ws)
-  shares-packed = sharing-packed 64 (64 * number) free ws (omega (arith, f .sized)) (f .are) others secrets few
-
-  pub tape-packed : Packs 64 (λ l. drop (others * length secrets) (freeOf free (64 * number + l))) (drop (others * length secrets) (take free ws))
-  tape-packed = drawn-packed 64 (64 * number) free ws (omega (arith, f .sized)) (f .are) others secrets few
+          ∙ packed-same lanes (λ l. at (lane l (drop s cols)) i) (λ l. at (drop s (given l)) i) (λ l h. ap (λ r. at r i) (map-drop (λ (col : Column). col l) s cols ∙ ap (drop s) (free-lane given free l (each l))))

@@ -35,13 +35,13 @@ list-length one other pairs from zero = refl
 list-length one other pairs from (suc n) = omega (arith, list-length one other pairs (suc from) n)
 
 -- a count of the definition is the one that is tallied
-shown : {table secrets wires tally : List ℕ} → Countable table secrets → Tallied table secrets wires tally → length wires ≤ 8 → (probes : List ℕ) → readWires (circuitIn table) probes ≡ wires
+shown : {table secrets wires tally : List ℕ} → Countable table secrets → Tallied table secrets wires tally → (probes : List ℕ) → readWires (circuitIn table) probes ≡ wires
     → (n : ℕ) → n < 2 ^ length wires → countOf (circuitIn table) probes (bits secrets) (getD (combinations (length wires)) n []) ≡ nth tally n
-shown {table} {secrets} {wires} k t few probes e n l =
+shown {table} {secrets} {wires} k t probes e n l =
     let c = circuitIn table in
-    subst (λ (ws : List ℕ). n < 2 ^ length ws → countOf c probes (bits secrets) (getD (combinations (length ws)) n []) ≡ shownOf c (bits secrets) ws (pairCount c) n) e
+    subst (λ (ws : List ℕ). n < 2 ^ length ws → countOf c probes (bits secrets) (getD (combinations (length ws)) n []) ≡ shownOf c (bits secrets) ws n) e
     (count-shown c probes (bits secrets) (some-shares (k .accepted)) (length-map secrets isSet ∙ k .sized) n) l
-    ∙ sym (t .counts n (omega (arith, pow-mono 8 (length wires) few)))
+    ∙ sym (t .counts n l)
 
 module _ {table one other first second wires : List ℕ} (k : Countable table one) (l : Countable table other) (t : Tallied table one wires first) (u : Tallied table other wires second) (few : length wires ≤ 8) where
   abbrev c : Circuit
@@ -57,7 +57,7 @@ module _ {table one other first second wires : List ℕ} (k : Countable table on
       ∙ each-map (λ n. getD (combinations m) n []) numbers (range 0 (length (combinations m)))
       ∙ ap (λ n. concatMap (range 0 n) (λ x. numbers (getD (combinations m) x []))) (combinations-length m)
       ∙ each-same (λ n. numbers (getD (combinations m) n [])) (λ n. fourOf (nth first n) (nth second n) (pairCount c)) (range 0 (2 ^ m))
-      (λ n i. let h : n < 2 ^ m = omega (arith, range-in n 0 (2 ^ m) i) in ap₂ (λ a b. fourOf a b (pairCount c)) (shown k t few probes e n h) (shown l u few probes e n h))
+      (λ n i. let h : n < 2 ^ m = omega (arith, range-in n 0 (2 ^ m) i) in ap₂ (λ a b. fourOf a b (pairCount c)) (shown k t probes e n h) (shown l u probes e n h))
 
   -- written from the start of the sheet
   pub sheet-is : (probes : List ℕ) → readWires c probes ≡ wires → (old : List ℕ) {new : List ℕ} → 1024 ≤ length old → new ≡ sets old 0 (listOf first second (pairCount c) 0 (2 ^ length wires))

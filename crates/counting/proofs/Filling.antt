@@ -1,8 +1,8 @@
 -- The variables that are no products: their words as they are filled in; and lists of sums, written one after the other.
-use mathlib.Core.Path.{_≡_, refl, sym, ap, _∙_}
-use mathlib.Core.Bool.{Bool, cond}
-use mathlib.Core.List.{List, map}
-use Prim.Native.Nat.{ℕ, _+_, _*_, _≤_, _<_}
+use mathlib.Core.Path.{_≡_, refl, sym, ap, ap₂, _∙_}
+use mathlib.Core.Bool.{Bool, true, false, cond}
+use mathlib.Core.List.{List, [], _∷_, map}
+use Prim.Native.Nat.{ℕ, suc, _+_, _*_, _≤_, _<_}
 use native.Mathlib.Nat.{zero-add}
 use native.Mathlib.Omega.{arith}
 use lib.Dec.{ltb}
@@ -13,33 +13,96 @@ use Rattle.circuit.specs.Lists.{nth, range}
 use Rattle.circuit.proofs.Base.{cases}
 use Rattle.circuit.proofs.Numbered.{map-at, range-at}
 use Rattle.circuit.proofs.Sizes.{range-length}
+use Rattle.semantics.specs.Values.{byte, at}
+use Rattle.simulation.specs.Internal.Evaluating.{packed}
+use Rattle.simulation.proofs.Packing.{packed-none}
 use Rattle.symbolic.specs.Internal.Sums.{fourAt}
 use Rattle.symbolic.proofs.Running.{Four, four, fours-next}
 use Rattle.counting.specs.Internal.Words.{ones, freeWord}
-use Rattle.counting.specs.Internal.Preparing.{Variables}
+use Rattle.counting.specs.Internal.Pairs.{placed, countVaried}
+use Rattle.counting.specs.Internal.Lanes.{laneBit}
+use Rattle.counting.specs.Internal.Linear.{variedIn}
+use Rattle.counting.specs.Internal.Preparing.{placedWord, FreeFilled, Variables}
+use Rattle.counting.proofs.WordBits.{packed-same}
+use Rattle.counting.proofs.Placed.{rankIn, placed-at, rank-few, rank-next, rank-all}
 
--- the words of the free bits up to one
-pub record FilledTo (batch : ℕ) (words : List ℕ) (i : ℕ) : Type 0 where
-  pub are : (j w : ℕ) → j < i → w < 4 → nth words (4 * j + w) ≡ freeWord j (4 * batch + w)
+-- the word of a free bit: it varies with the pairs' numbers, or is 0
+varied-at : (factors free i : ℕ) → i < free → at (variedIn factors free) i ≡ laneBit i factors
+varied-at factors free i l = map-at (λ j. laneBit j factors) (range 0 free) i false 0 (omega (arith, range-length 0 free)) ∙ ap (λ j. laneBit j factors) (range-at 0 free i l ∙ zero-add i)
+
+placed-word : (factors free i number : ℕ) → i < free → (b : Bool) → laneBit i factors ≡ b → placedWord factors free i number ≡ cond b (freeWord (rankIn (variedIn factors free) i) number) 0
+placed-word factors free i number l b e =
+    let vs = variedIn factors free in
+    packed-same 64 (λ t. at (placed vs (64 * number + t)) i) (λ t. cond b (laneBit (rankIn vs i) (64 * number + t)) false)
+    (λ t h. placed-at vs (64 * number + t) i ∙ ap (λ d. cond d (laneBit (rankIn vs i) (64 * number + t)) false) (varied-at factors free i l ∙ e)) ∙ chosen b
+  where
+    chosen : (d : Bool) → packed 64 (λ t. cond d (laneBit (rankIn (variedIn factors free) i) (64 * number + t)) false) ≡ cond d (freeWord (rankIn (variedIn factors free) i) number) 0
+    chosen true = refl
+    chosen false = packed-none 64
+
+-- how many vary before a place, and in all
+varied-many : (factors free : ℕ) → length (variedIn factors free) ≡ free
+varied-many factors free = length-map (range 0 free) (λ j. laneBit j factors) ∙ range-length 0 free
+
+pub rank-more : (factors free i : ℕ) → i < free → rankIn (variedIn factors free) (i + 1) ≡ rankIn (variedIn factors free) i + byte (laneBit i factors)
+rank-more factors free i l =
+    let vs = variedIn factors free in
+    let n : i + 1 ≡ suc i = omega arith in
+    ap (rankIn vs) n ∙ rank-next vs i (omega (arith, varied-many factors free)) ∙ ap (λ b. rankIn vs i + byte b) (varied-at factors free i l)
+
+pub rank-none : (vs : List Bool) → rankIn vs 0 ≡ 0
+rank-none [] = refl
+rank-none (b ∷ vs) = refl
+
+pub rank-free : (factors free i : ℕ) → i ≡ free → rankIn (variedIn factors free) i ≡ countVaried (variedIn factors free)
+rank-free factors free i e = ap (rankIn (variedIn factors free)) (e ∙ sym (varied-many factors free)) ∙ rank-all (variedIn factors free)
+
+-- the words of the free bits up to one, and how many of them vary
+pub record FilledTo (factors free batch : ℕ) (words : List ℕ) (rank i : ℕ) : Type 0 where
+  pub most : i ≤ free
+  pub are : (j w : ℕ) → j < i → w < 4 → nth words (4 * j + w) ≡ placedWord factors free j (4 * batch + w)
+  pub rank-is : rank ≡ rankIn (variedIn factors free) i
   pub sized : length words ≡ 256
 
-pub filled-start : {batch : ℕ} {words : List ℕ} → length words ≡ 256 → FilledTo batch words 0
-filled-start s = record { are = λ j w l h. absurd (omega arith); sized = s }
+pub filled-start : {factors free batch : ℕ} {words : List ℕ} → length words ≡ 256 → FilledTo factors free batch words 0 0
+filled-start {factors} {free} s = record { most = omega arith; are = λ j w l h. absurd (omega arith); rank-is = sym (rank-none (variedIn factors free)); sized = s }
 
-pub filled-next : {batch i : ℕ} {words new : List ℕ} → FilledTo batch words i → i < 16
-    → new ≡ fourAt words (4 * i) (freeWord i (4 * batch)) (freeWord i (4 * batch + 1)) (freeWord i (4 * batch + 2)) (freeWord i (4 * batch + 3)) → FilledTo batch new (i + 1)
-filled-next {batch} {i} {words} {new} t l e =
-    let none : 4 * batch ≡ 4 * batch + 0 = omega arith in
-    let f : Four words (4 * i) (λ w. freeWord i (4 * batch + w)) new = rw e (four words (4 * i) _ _ _ _ _ (omega (arith, t .sized)) (ap (freeWord i) none, refl, refl, refl)) in
-    record { are = fours-next (λ j w. freeWord j (4 * batch + w)) (t .are) f; sized = f .sized ∙ t .sized }
+module _ {factors free batch : ℕ} {words : List ℕ} {rank i : ℕ} (t : FilledTo factors free batch words rank i) (l : i < free) where
+  pub rank-lt : rank ≤ i
+  rank-lt = omega (arith, t .rank-is, rank-few (variedIn factors free) i)
+
+  next-rank : (b : Bool) → laneBit i factors ≡ b → rank + byte b ≡ rankIn (variedIn factors free) (i + 1)
+  next-rank b e = ap₂ _+_ (t .rank-is) (ap byte (sym e)) ∙ sym (rank-more factors free i l)
+
+  filled-with : {new : List ℕ} {r : ℕ} (b : Bool) → laneBit i factors ≡ b → r ≡ rank + byte b → Four words (4 * i) (λ w. cond b (freeWord rank (4 * batch + w)) 0) new → FilledTo factors free batch new r (i + 1)
+  filled-with {new} b e n f = record {
+    most = omega arith;
+    are = fours-next (λ j w. placedWord factors free j (4 * batch + w)) {old = words} {new = new} (t .are) (record {
+      are = λ w h. f .are w h ∙ ap (λ m. cond b (freeWord m (4 * batch + w)) 0) (t .rank-is) ∙ sym (placed-word factors free i (4 * batch + w) l b e);
+      below = f .below;
+      above = f .above;
+      sized = f .sized;
+    });
+    rank-is = n ∙ next-rank b e;
+    sized = f .sized ∙ t .sized;
+  }
+
+  pub filled-none : {new : List ℕ} → i < 16 → laneBit i factors ≡ false → new ≡ fourAt words (4 * i) 0 0 0 0 → FilledTo factors free batch new rank (i + 1)
+  filled-none {new} few e n = filled-with false e (omega arith) (rw n (four words (4 * i) 0 0 0 0 (λ w. 0) (omega (arith, t .sized)) (refl, refl, refl, refl)))
+
+  pub filled-next : {new : List ℕ} → i < 16 → laneBit i factors ≡ true
+      → new ≡ fourAt words (4 * i) (freeWord rank (4 * batch)) (freeWord rank (4 * batch + 1)) (freeWord rank (4 * batch + 2)) (freeWord rank (4 * batch + 3)) → FilledTo factors free batch new (rank + 1) (i + 1)
+  filled-next {new} few e n =
+      let none : 4 * batch ≡ 4 * batch + 0 = omega arith in
+      filled-with true e refl (rw n (four words (4 * i) _ _ _ _ (λ w. freeWord rank (4 * batch + w)) (omega (arith, t .sized)) (ap (freeWord rank) none, refl, refl, refl)))
 
 -- and those of the two variables behind them
 pub same-words : {words new : List ℕ} {at x : ℕ} → length words ≡ 256 → at + 4 ≤ 256 → new ≡ fourAt words at x x x x → Four words at (λ w. x) new
 same-words {words} {at = at} {x} s room e = rw e (four words at x x x x (λ w. x) (omega arith) (refl, refl, refl, refl))
 
-pub filled-end : {second : Bool} {batch i x : ℕ} {words mid new : List ℕ} → FilledTo batch words i → 16 ≤ i → x ≡ cond second ones 0 → Four words 64 (λ w. x) mid → Four mid 68 (λ w. ones) new → Variables second batch new
-filled-end t l e f g = record {
-  free = λ i w k h. g .below (4 * i + w) (omega arith) ∙ f .below (4 * i + w) (omega arith) ∙ t .are i w (omega arith) h;
+pub filled-end : {factors free : ℕ} {second : Bool} {batch x : ℕ} {words mid new : List ℕ} → free ≤ 16 → FreeFilled factors free batch words → x ≡ cond second ones 0 → Four words 64 (λ w. x) mid → Four mid 68 (λ w. ones) new → Variables factors free second batch new
+filled-end few t e f g = record {
+  free-are = λ i w k h. g .below (4 * i + w) (omega arith) ∙ f .below (4 * i + w) (omega arith) ∙ t .are i w k h;
   set = λ w h. g .below (64 + w) (omega arith) ∙ f .are w h ∙ e;
   one = g .are;
   sized = g .sized ∙ f .sized ∙ t .sized;

@@ -106,7 +106,7 @@ shown-small columns found l few =
     let bs = map (λ i. laneBit l (columns i)) (range 0 found) in
     omega (arith, number-lt bs, pow-mono 8 (length bs) (omega (arith, length-map (range 0 found) (λ i. laneBit l (columns i)), range-length 0 found)))
 
-shown-next : (columns : ℕ → ℕ) (i l : ℕ) → shownBy columns (i + 1) l ≡ 2 * shownBy columns i l + byte (laneBit l (columns i))
+pub shown-next : (columns : ℕ → ℕ) (i l : ℕ) → shownBy columns (i + 1) l ≡ 2 * shownBy columns i l + byte (laneBit l (columns i))
 shown-next columns i l =
     let bit : ℕ → Bool = λ j. laneBit l (columns j) in
     ap (λ r. numberOf (map bit r)) (range-split 0 i 1 ∙ ap (λ n. range 0 i ++ n ∷ []) (zero-add i)) ∙ ap numberOf (map-append bit (range 0 i) (i ∷ [])) ∙ number-next (map bit (range 0 i)) (bit i)

@@ -7,6 +7,9 @@ pub mod Shown
 pub mod Marked
 -- The list as it is written
 pub mod Written
+-- Pairs of which only some free bits vary
+pub mod Placed
+pub mod Folding
 -- Many pairs at once
 pub mod WordBits
 pub mod Gathering
@@ -27,3 +30,10 @@ pub mod Calling
 pub mod Filling
 -- What a batch shows, from the variables' words
 pub mod Preparing
+-- Free bits that are only added
+pub mod Solved
+pub mod Flipped
+pub mod AllPairs
+pub mod Surveying
+pub mod Shifts
+pub mod Shifting

@@ -40,7 +40,7 @@ by-place [] d = refl
 by-place (x ∷ xs) d = ap (λ r. x ∷ r) (by-place xs d ∙ sym (range-next (λ n. getD (x ∷ xs) n d) 0 (length xs)))
 
 -- numbers in pairs, the even one first
-sum-pairs : (n : ℕ) (f : ℕ → ℕ) → sumTo (n * 2) f ≡ sumTo n (λ t. f (t * 2 + 0)) + sumTo n (λ t. f (t * 2 + 1))
+pub sum-pairs : (n : ℕ) (f : ℕ → ℕ) → sumTo (n * 2) f ≡ sumTo n (λ t. f (t * 2 + 0)) + sumTo n (λ t. f (t * 2 + 1))
 sum-pairs zero f = refl
 sum-pairs (suc n) f =
     let e : suc n * 2 ≡ suc (suc (n * 2)) = omega arith in
@@ -48,16 +48,17 @@ sum-pairs (suc n) f =
     let odd : n * 2 + 1 ≡ suc (n * 2) = omega arith in
     rw (e, even, odd) (omega (arith, sum-pairs n f))
 
-free-of : (n t : ℕ) (b : Bool) → freeOf (suc n) (t * 2 + byte b) ≡ b ∷ freeOf n t
-free-of n t b = ap₂ _∷_ (digit b) (ap (freeOf n) (half b))
-  where
-    digit : (b : Bool) → isSet ((t * 2 + byte b) % 2) ≡ b
-    digit true = let e : (t * 2 + 1) % 2 ≡ 1 = omega arith in rw e
-    digit false = let e : (t * 2 + 0) % 2 ≡ 0 = omega arith in rw e
+-- the lowest digit, and the others
+pub digit-of : (t : ℕ) (b : Bool) → isSet ((t * 2 + byte b) % 2) ≡ b
+digit-of t true = let e : (t * 2 + 1) % 2 ≡ 1 = omega arith in rw e
+digit-of t false = let e : (t * 2 + 0) % 2 ≡ 0 = omega arith in rw e
 
-    half : (b : Bool) → (t * 2 + byte b) / 2 ≡ t
-    half true = omega arith
-    half false = omega arith
+pub half-of : (t : ℕ) (b : Bool) → (t * 2 + byte b) / 2 ≡ t
+half-of t true = omega arith
+half-of t false = omega arith
+
+free-of : (n t : ℕ) (b : Bool) → freeOf (suc n) (t * 2 + byte b) ≡ b ∷ freeOf n t
+free-of n t b = ap₂ _∷_ (digit-of t b) (ap (freeOf n) (half-of t b))
 
 pub sum-numbers : (n : ℕ) (f : List Bool → ℕ) → sumBits n f ≡ sumTo (2 ^ n) (λ t. f (freeOf n t))
 sum-numbers zero f = omega arith

@@ -5,7 +5,7 @@ use mathlib.Core.List.{List, [], _∷_, _++_, map, map-append}
 use Prim.Native.Nat.{ℕ, zero, suc, _+_, _*_, _-_, _^_, _≤_, _<_}
 use native.Mathlib.Nat.{zero-add, sub-zero, mul-comm}
 use native.Mathlib.Omega.{arith}
-use lib.Bits.{bitXor, xor-lt}
+use lib.Bits.{bitXor, xor-lt, xor-self, xor-zero-l}
 use lib.ListN.{length, take, drop, replicate, length-map, length-take, length-drop, length-replicate}
 use lib.Pow.{pow-lt}
 use lib.Seq.{sets, sets-eq, length-sets, take-at, slice, length-take-le, take-add, drop-at, ext-getD, getD-take, getD-drop}
@@ -25,12 +25,15 @@ use Rattle.symbolic.proofs.Masks.{added-none, added-xor, added-one}
 use Rattle.symbolic.proofs.Running.{term-same}
 use Rattle.symbolic.proofs.Standing.{words-at}
 use Rattle.counting.specs.declared.tally.Plan.{Plan}
-use Rattle.counting.specs.Internal.Pairs.{completed, freeOf, valuesIn}
-use Rattle.counting.specs.Internal.Words.{ones, freeWord, FreeWords, sharesOf, allShares}
+use Rattle.counting.specs.Internal.Pairs.{completed, valuesWith, placed}
+use Rattle.counting.specs.Internal.Lanes.{laneBit}
+use Rattle.counting.specs.Internal.Linear.{variedIn}
+use Rattle.counting.specs.Internal.Words.{sharesOf, allShares}
 use Rattle.counting.specs.Internal.Preparing.{secretSum, secretSums, SecretSums, freeSums, preparedShares, preparedTape, Variables}
 use Rattle.counting.specs.Internal.Tallying.{Countable, Planned, setOf, Prepared, HoldsShown}
 use Rattle.counting.proofs.FreeBits.{ones-are}
-use Rattle.counting.proofs.Completing.{map-take, map-drop, shares-packed, tape-packed}
+use Rattle.counting.proofs.Completing.{map-take, map-drop, sharing-packed, drawn-packed}
+use Rattle.counting.proofs.Placed.{placed-length}
 use Rattle.counting.proofs.Sharing.{all-length}
 use Rattle.counting.proofs.Batches.{Sizes, sizes}
 
@@ -42,6 +45,10 @@ pub part-is : (from to : ℕ) (xs : List ℕ) → from ≤ to → to ≤ length 
 part-is from to xs h l =
     let e : to ≡ from + (to - from) = omega arith in
     sym (ap (λ n. drop from (take n xs)) e ∙ ap (drop from) (take-add from (to - from) xs) ∙ drop-at (take from xs) (part from to xs) from (length-take-le from xs (omega arith)))
+
+-- as many sums as there are secret bits
+pub secrets-many : (n : ℕ) (secrets : List ℕ) → length (secretSums n secrets) ≡ n
+secrets-many n secrets = length-map (range 0 n) (λ j. secretSum (nth secrets j) (nth secrets (n + j))) ∙ range-length 0 n
 
 -- words of sums
 module _ (f : Values) where
@@ -59,53 +66,50 @@ module _ (f : Values) where
   all-words n (z ∷ zs) ws = map-append word (sharesOf z (take n ws)) (allShares n zs (drop n ws))
       ∙ ap₂ _++_ (shares-words z (take n ws) ∙ ap (sharesOf (word z)) (map-take word n ws)) (all-words n zs (drop n ws) ∙ ap (allShares n (map word zs)) (map-drop word n ws))
 
-  -- a secret bit
-  module _ (second : Bool) (set : f 16 ≡ cond second ones 0) (one : f 17 ≡ ones) where
-    one-word : word 0x20000 ≡ ones
+  -- a secret bit, u being the word of a bit that all pairs have
+  module _ (u : ℕ) (second : Bool) (set : f 16 ≡ cond second u 0) (one : f 17 ≡ u) where
+    one-word : word 0x20000 ≡ u
     one-word = added-one 64 17 f (omega arith) ∙ one
 
-    set-word : word 0x10000 ≡ cond second ones 0
+    set-word : word 0x10000 ≡ cond second u 0
     set-word = added-one 64 16 f (omega arith) ∙ set
 
-    both-word : word 0x30000 ≡ bitXor (cond second ones 0) ones
+    both-word : word 0x30000 ≡ bitXor (cond second u 0) u
     both-word = added-xor 64 0x10000 0x20000 f ∙ ap₂ bitXor set-word one-word
 
-    secret-word : (x y : ℕ) → x ≤ 1 → y ≤ 1 → word (secretSum x y) ≡ ones * cond second y x
+    secret-word : (x y : ℕ) → x ≤ 1 → y ≤ 1 → word (secretSum x y) ≡ u * cond second y x
     secret-word zero zero h k = added-none 64 f ∙ none second
       where
-        none : (b : Bool) → 0 ≡ ones * cond b 0 0
-        none true = refl
-        none false = refl
+        none : (b : Bool) → 0 ≡ u * cond b 0 0
+        none true = omega arith
+        none false = omega arith
     secret-word zero (suc zero) h k = set-word ∙ either second
       where
-        either : (b : Bool) → cond b ones 0 ≡ ones * cond b 1 0
-        either true = refl
-        either false = refl
+        either : (b : Bool) → cond b u 0 ≡ u * cond b 1 0
+        either true = omega arith
+        either false = omega arith
     secret-word (suc zero) zero h k = both-word ∙ either second
       where
-        either : (b : Bool) → bitXor (cond b ones 0) ones ≡ ones * cond b 0 1
-        either true = refl
-        either false = refl
+        either : (b : Bool) → bitXor (cond b u 0) u ≡ u * cond b 0 1
+        either true = xor-self u ∙ omega arith
+        either false = xor-zero-l u ∙ omega arith
     secret-word (suc zero) (suc zero) h k = one-word ∙ both second
       where
-        both : (b : Bool) → ones ≡ ones * cond b 1 1
-        both true = refl
-        both false = refl
+        both : (b : Bool) → u ≡ u * cond b 1 1
+        both true = omega arith
+        both false = omega arith
     secret-word (suc (suc x)) y h k = absurd (omega arith)
     secret-word zero (suc (suc y)) h k = absurd (omega arith)
     secret-word (suc zero) (suc (suc y)) h k = absurd (omega arith)
 
     -- all of them, in the set that is taken
-    secret-words : (n : ℕ) (secrets : List ℕ) → length secrets ≡ n + n → ((x : ℕ) → nth secrets x ≤ 1) → map word (secretSums n secrets) ≡ map (λ z. ones * z) (cond second (drop n secrets) (take n secrets))
-    secret-words n secrets e bit = ext-getD 0 (map word (secretSums n secrets)) (map (λ z. ones * z) (cond second (drop n secrets) (take n secrets)))
-        (length-map (secretSums n secrets) word ∙ many ∙ sym (length-map (cond second (drop n secrets) (take n secrets)) (λ z. ones * z) ∙ taken second))
-        (λ j l. let k : j < n = omega (arith, length-map (secretSums n secrets) word, many) in
+    secret-words : (n : ℕ) (secrets : List ℕ) → length secrets ≡ n + n → ((x : ℕ) → nth secrets x ≤ 1) → map word (secretSums n secrets) ≡ map (λ z. u * z) (cond second (drop n secrets) (take n secrets))
+    secret-words n secrets e bit = ext-getD 0 (map word (secretSums n secrets)) (map (λ z. u * z) (cond second (drop n secrets) (take n secrets)))
+        (length-map (secretSums n secrets) word ∙ secrets-many n secrets ∙ sym (length-map (cond second (drop n secrets) (take n secrets)) (λ z. u * z) ∙ taken second))
+        (λ j l. let k : j < n = omega (arith, length-map (secretSums n secrets) word, secrets-many n secrets) in
         words-at f (secretSums n secrets) j ∙ ap word (range-map j k) ∙ secret-word (nth secrets j) (nth secrets (n + j)) (bit j) (bit (n + j))
-        ∙ sym (map-at (λ z. ones * z) (cond second (drop n secrets) (take n secrets)) j 0 0 (omega (arith, taken second)) ∙ ap (λ z. ones * z) (chosen second j k)))
+        ∙ sym (map-at (λ z. u * z) (cond second (drop n secrets) (take n secrets)) j 0 0 (omega (arith, taken second)) ∙ ap (λ z. u * z) (chosen second j k)))
       where
-        many : length (secretSums n secrets) ≡ n
-        many = length-map (range 0 n) (λ j. secretSum (nth secrets j) (nth secrets (n + j))) ∙ range-length 0 n
-
         taken : (b : Bool) → length (cond b (drop n secrets) (take n secrets)) ≡ n
         taken true = length-drop n secrets ∙ omega arith
         taken false = length-take n secrets ∙ omega arith
@@ -117,22 +121,19 @@ module _ (f : Values) where
         chosen true j k = getD-drop n secrets j 0
         chosen false j k = getD-take n secrets j 0 k
 
-pub secrets-many : (n : ℕ) (secrets : List ℕ) → length (secretSums n secrets) ≡ n
-secrets-many n secrets = length-map (range 0 n) (λ j. secretSum (nth secrets j) (nth secrets (n + j))) ∙ range-length 0 n
-
 -- the free bits
 free-at : (i : ℕ) → i < 16 → nth freeSums i ≡ 2 ^ i
 free-at i l = map-at (λ j. 2 ^ j) (range 0 16) i 0 0 l ∙ ap (λ j. 2 ^ j) (range-at 0 16 i l ∙ zero-add i)
 
-free-words : (f : Values) (number free : ℕ) → free ≤ 16 → ((i : ℕ) → i < 16 → f i ≡ freeWord i number) → FreeWords number free (map (λ m. added m f) freeSums)
-free-words f number free few h = record {
-  sized = length-map freeSums (λ m. added m f);
-  are = λ i l. words-at f freeSums i ∙ ap (λ m. added m f) (free-at i (omega arith)) ∙ added-one 64 i f (omega arith) ∙ h i (omega arith);
-}
+-- pairs, each with a list of free bits, where the variables have their words
+pub record Given (plan : Plan) (lanes : ℕ) (given : ℕ → List Bool) (second : Bool) (f : Values) : Type 0 where
+  pub each : (l : ℕ) → length (given l) ≡ plan .free
+  pub free : (i : ℕ) → i < plan .free → f i ≡ packed lanes (λ l. at (given l) i)
+  pub set : f 16 ≡ cond second (packed lanes (λ l. true)) 0
+  pub one : f 17 ≡ packed lanes (λ l. true)
 
--- a batch: the variables, the products and the wires that are read
-module _ {table secrets read sums terms : List ℕ} {outputs found : ℕ} {plan : Plan} (p : Prepared table secrets read sums terms outputs found plan) {second : Bool} {batch : ℕ} {filled mid final shown : List ℕ}
-    (v : Variables second batch filled) (outs : Runs terms 0 outputs filled mid) (reads : Runs terms 32 (32 + found) mid final) (s : Shows sums read found final shown) where
+-- the wires that are read have the words of their sums, where the products have theirs
+module _ {table secrets read sums terms : List ℕ} {outputs found : ℕ} {plan : Plan} (p : Prepared table secrets read sums terms outputs found plan) {lanes : ℕ} {given : ℕ → List Bool} {second : Bool} {f : Values} (g : Given plan lanes given second f) where
   abbrev set : List ℕ
   set = setOf table second secrets
 
@@ -142,6 +143,41 @@ module _ {table secrets read sums terms : List ℕ} {outputs found : ℕ} {plan 
   abbrev z : Sizes set (plan .others) (plan .start) (plan .free)
   z = sizes countable (p .planned)
 
+  sharings : ℕ → List Bool
+  sharings e = completed (plan .others) (bits set) (given e)
+
+  tapes : ℕ → List Bool
+  tapes e = drop (plan .others * length set) (given e)
+
+  taken : plan .others * length set ≤ plan .free
+  taken = omega (arith, z .starts, z .within)
+
+  free-words : (i : ℕ) → i < plan .free → nth (map (λ m. added m f) freeSums) i ≡ packed lanes (λ l. at (given l) i)
+  free-words i l = words-at f freeSums i ∙ ap (λ m. added m f) (free-at i (omega (arith, z .few))) ∙ added-one 64 i f (omega (arith, z .few)) ∙ g .free i l
+
+  long : plan .free ≤ length (map (λ m. added m f) freeSums)
+  long = rw (length-map freeSums (λ m. added m f)) (z .few)
+
+  words : Words (preparedShares plan (circuitIn table .inputs) secrets) (preparedTape plan) lanes sharings tapes f
+  unfolding sharings tapes
+  words = record {
+    full = g .one;
+    shared = rw (all-words f (plan .others) (secretSums (circuitIn table .inputs) secrets) freeSums, secret-words f (packed lanes (λ l. true)) second (g .set) (g .one) (circuitIn table .inputs) secrets (p .sized) (p .bit))
+        (sharing-packed lanes given (plan .free) (g .each) (map (λ m. added m f) freeSums) long free-words (plan .others) set taken (countable .bit));
+    drawn = rw (part-is (plan .start) (plan .free) freeSums (z .within) (omega (arith, z .few)), map-drop (λ m. added m f) (plan .start) (take (plan .free) freeSums), map-take (λ m. added m f) (plan .free) freeSums, ← z .starts)
+        (drawn-packed lanes given (plan .free) (g .each) (map (λ m. added m f) freeSums) long free-words (plan .others) set taken);
+  }
+
+  pub valued : Solves terms outputs read found (size (circuitIn table)) f → (i : ℕ) → i < found → packed lanes (λ l. at (valuesWith (circuitIn table) (bits set) (given l)) (nth read i)) ≡ added (nth sums (nth read i)) f
+  unfolding sharings tapes
+  valued s i h =
+      let k = circuitIn table in
+      let value : (o m : ℕ) → ℕ = λ o m. packed lanes (λ l. at (valuesOf (k .wires) (completed o (bits set) (given l)) (drop m (given l))) (nth read i)) in
+      sym (ap₂ (λ o m. value o (o * m)) (p .planned .others-are) (countable .sized)) ∙ p .expanded .right lanes sharings tapes f words s i h
+
+-- a batch: the variables, the products and the wires that are read
+module _ {table secrets read sums terms : List ℕ} {outputs found : ℕ} {plan : Plan} (p : Prepared table secrets read sums terms outputs found plan) {factors : ℕ} {second : Bool} {batch : ℕ} {filled mid final shown : List ℕ}
+    (v : Variables factors (plan .free) second batch filled) (outs : Runs terms 0 outputs filled mid) (reads : Runs terms 32 (32 + found) mid final) (s : Shows sums read found final shown) where
   few : outputs ≤ 32
   few = p .expanded .few
 
@@ -156,34 +192,20 @@ module _ {table secrets read sums terms : List ℕ} {outputs found : ℕ} {plan 
     kept : (x : ℕ) → x < 4 * 18 → nth final x ≡ nth filled x
     kept x h = reads .below x (omega arith) ∙ outs .below x (omega arith)
 
-    free-is : (i : ℕ) → i < 16 → f i ≡ freeWord i number
-    free-is i h = kept (4 * i + w) (omega arith) ∙ v .free i w h l
+    varied : List Bool
+    varied = variedIn factors (plan .free)
 
-    full : f 17 ≡ ones
-    full = let e : 4 * 17 + w ≡ 68 + w = omega arith in kept (4 * 17 + w) (omega arith) ∙ ap (nth filled) e ∙ v .one w l
+    free-few : plan .free ≤ 16
+    free-few = sizes (p .countable second) (p .planned) .few
 
-    set-is : f 16 ≡ cond second ones 0
-    set-is = let e : 4 * 16 + w ≡ 64 + w = omega arith in kept (4 * 16 + w) (omega arith) ∙ ap (nth filled) e ∙ v .set w l
-
-    sharings : ℕ → List Bool
-    sharings e = completed (plan .others) (bits set) (freeOf (plan .free) (64 * number + e))
-
-    tapes : ℕ → List Bool
-    tapes e = drop (plan .others * length set) (freeOf (plan .free) (64 * number + e))
-
-    taken : plan .others * length set ≤ plan .free
-    taken = omega (arith, z .starts, z .within)
-
-    words : Words (preparedShares plan (circuitIn table .inputs) secrets) (preparedTape plan) 64 sharings tapes f
-    unfolding sharings tapes
-    words =
-        let fw = free-words f number (plan .free) (z .few) free-is in
-        record {
-          full = full ∙ sym ones-are;
-          shared = rw (all-words f (plan .others) (secretSums (circuitIn table .inputs) secrets) freeSums, secret-words f second set-is full (circuitIn table .inputs) secrets (p .sized) (p .bit)) (shares-packed fw (z .few) (plan .others) set taken (countable .bit));
-          drawn = rw (part-is (plan .start) (plan .free) freeSums (z .within) (omega (arith, z .few)), map-drop (λ m. added m f) (plan .start) (take (plan .free) freeSums), map-take (λ m. added m f) (plan .free) freeSums, ← z .starts)
-              (tape-packed fw (z .few) (plan .others) set taken);
-        }
+    given : Given plan 64 (λ e. placed varied (64 * number + e)) second f
+    unfolding varied
+    given = record {
+      each = λ e. placed-length (variedIn factors (plan .free)) (64 * number + e) ∙ length-map (range 0 (plan .free)) (λ i. laneBit i factors) ∙ range-length 0 (plan .free);
+      free = λ i h. kept (4 * i + w) (omega (arith, free-few)) ∙ v .free-are i w h l;
+      set = let e : 4 * 16 + w ≡ 64 + w = omega arith in kept (4 * 16 + w) (omega arith) ∙ ap (nth filled) e ∙ v .set w l ∙ ap (λ n. cond second n 0) (sym ones-are);
+      one = let e : 4 * 17 + w ≡ 68 + w = omega arith in kept (4 * 17 + w) (omega arith) ∙ ap (nth filled) e ∙ v .one w l ∙ sym ones-are;
+    }
 
     -- the products have their words
     solves : Solves terms outputs read found (size (circuitIn table)) f
@@ -193,16 +215,11 @@ module _ {table secrets read sums terms : List ℕ} {outputs found : ℕ} {plan 
       reads = λ i h u. let e : 50 + i ≡ 18 + (32 + i) = omega arith in ap f e ∙ reads .are (32 + i) w (omega arith) (omega arith) l;
     }
 
-    shows : (i : ℕ) → i < found → nth shown (4 * i + w) ≡ packed 64 (λ e. at (valuesIn (circuitIn table) (bits set) (64 * number + e)) (nth read i))
-    unfolding sharings tapes
-    shows i h =
-        let x = nth read i in
-        let k = circuitIn table in
-        let valued : (o m n : ℕ) → ℕ = λ o m n. packed 64 (λ e. let bs = freeOf n (64 * number + e) in at (valuesOf (k .wires) (completed o (bits set) bs) (drop m bs)) x) in
-        s .are i w h l ∙ sym (p .expanded .right 64 sharings tapes f words solves i h)
-        ∙ ap₂ (λ o m. valued o (o * m) (plan .free)) (p .planned .others-are) (countable .sized) ∙ ap (valued (k .d - 1) ((k .d - 1) * k .inputs)) (p .planned .free-is)
+    shows : (i : ℕ) → i < found → nth shown (4 * i + w) ≡ packed 64 (λ e. at (valuesWith (circuitIn table) (bits (setOf table second secrets)) (placed (variedIn factors (plan .free)) (64 * number + e))) (nth read i))
+    unfolding varied
+    shows i h = s .are i w h l ∙ sym (valued p given solves i h)
 
-  pub batch-shown : HoldsShown table set batch read found shown
+  pub batch-shown : HoldsShown table (setOf table second secrets) factors (plan .free) batch read found shown
   batch-shown = record { are = λ i w h l. shows w l i h; sized = s .sized }
 
 -- the shares and the random bits are sums of the first 18 variables

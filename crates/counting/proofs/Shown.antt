@@ -84,7 +84,7 @@ module _ (k : Circuit) (probes : List ℕ) (secrets : List Bool) (some : 1 ≤ k
 
   -- as the code counts: pair by pair, at the number of the combination
   pub count-shown : (n : ℕ) → n < 2 ^ length (readWires k probes)
-      → countOf k probes secrets (getD (combinations (length (readWires k probes))) n []) ≡ shownOf k secrets (readWires k probes) (pairCount k) n
+      → countOf k probes secrets (getD (combinations (length (readWires k probes))) n []) ≡ shownOf k secrets (readWires k probes) n
   count-shown n l =
       let m = length (readWires k probes) in
       let bs = getD (combinations m) n [] in

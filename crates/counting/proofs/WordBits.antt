@@ -6,7 +6,9 @@ use native.Mathlib.Nat.{zero-add, suc-add, pow-succ', div-one, div-div-eq-div-mu
 use native.Mathlib.Omega.{arith}
 use lib.Bits.{block-half, block-odd}
 use Rattle.circuit.specs.Circuit.{isSet}
+use Rattle.circuit.proofs.Base.{cases}
 use Rattle.semantics.specs.Values.{byte}
+use Rattle.gadgets.proofs.Bits.{set-byte}
 use Rattle.simulation.specs.Internal.Evaluating.{packed}
 use Rattle.simulation.proofs.Packing.{packed-none}
 use Rattle.counting.specs.Internal.Lanes.{laneBit}
@@ -45,3 +47,13 @@ lane-part n i x h = sym (low-lane n i (x / 2 ^ n) (x % 2 ^ n) h) ∙ ap (laneBit
 pub lane-shift : (n i x : ℕ) → laneBit (n + i) x ≡ laneBit i (x / 2 ^ n)
 lane-shift zero i x = ap₂ laneBit (zero-add i) (sym (div-one x))
 lane-shift (suc n) i x = ap (λ m. laneBit m x) (suc-add n i) ∙ lane-shift n i (x / 2) ∙ ap (laneBit i) (div-div-eq-div-mul x 2 (2 ^ n) ∙ ap (λ m. x / m) (sym (pow-succ' 2 n)))
+
+-- a digit as the code asks for it
+pub digit-off : (i x : ℕ) → x / 2 ^ i % 2 ≡ 0 → laneBit i x ≡ false
+digit-off i x e = let z : i ≡ i + 0 = omega arith in ap (λ m. laneBit m x) z ∙ lane-shift i 0 x ∙ ap isSet e
+
+pub digit-is : (i x : ℕ) → x / 2 ^ i % 2 ≡ byte (laneBit i x)
+digit-is i x = let z : i + 0 ≡ i = omega arith in set-byte (x / 2 ^ i % 2) (omega arith) ∙ ap byte (sym (lane-shift i 0 x) ∙ ap (λ m. laneBit m x) z)
+
+pub digit-on : (i x : ℕ) → (x / 2 ^ i % 2 ≡ 0 → ⊥) → laneBit i x ≡ true
+digit-on i x h = cases (laneBit i x) (λ e. e) (λ e. absurd (h (digit-is i x ∙ ap byte e)))

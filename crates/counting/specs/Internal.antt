@@ -8,6 +8,8 @@ pub mod Lanes
 pub mod Words
 -- Shares and random bits as sums
 pub mod Preparing
+-- Free bits that are only added
+pub mod Linear
 -- All pairs of one set
 pub mod Tallying
 -- The rules before 25

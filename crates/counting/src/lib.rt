@@ -11,6 +11,7 @@ ghost use Rattle.counting.specs.Internal.Judging.{refusalIn};
 
 mod judge;
 mod lanes;
+mod linear;
 mod listing;
 mod numbers;
 mod pairs;

@@ -13,7 +13,7 @@ use super::tally::Plan;
 use symbolic::expand;
 
 // Numbers of the terms that an expanded table has.
-pub(crate) const TERMS: usize = 120;
+pub(crate) const TERMS: usize = 80;
 
 // The variable that is 1 under the second set of secret bits, and the sum that is 1.
 const SET: u64 = 0x1_0000;
@@ -68,8 +68,8 @@ pub(crate) fn prepare(
     sums: &mut [u64],
     terms: &mut [u64; TERMS],
 ) -> usize
-    requires { ⌜ Countable (now table) (take inputs (now secrets)) × Planned (now table) plan × ReadIn (now table) (now read) found × (inputs ≡ circuitIn (now table) .inputs) × (length (now secrets) ≡ inputs + inputs) × (size (circuitIn (now table)) ≤ length (now sums)) × (length (now sums) ≤ wireLimit) × (now terms ≡ replicate 120 0) ⌝ }
-    ensures { λ r. ⌜ Expanded (now (table .entry)) (preparedShares plan inputs (now (secrets .entry))) (preparedTape plan) (now (read .entry)) found (now (sums .exit)) (now (terms .exit)) r × (length (now (terms .exit)) ≡ 120) ⌝ }
+    requires { ⌜ Countable (now table) (take inputs (now secrets)) × Planned (now table) plan × ReadIn (now table) (now read) found × (inputs ≡ circuitIn (now table) .inputs) × (length (now secrets) ≡ inputs + inputs) × (size (circuitIn (now table)) ≤ length (now sums)) × (length (now sums) ≤ wireLimit) × (now terms ≡ replicate 80 0) ⌝ }
+    ensures { λ r. ⌜ Expanded (now (table .entry)) (preparedShares plan inputs (now (secrets .entry))) (preparedTape plan) (now (read .entry)) found (now (sums .exit)) (now (terms .exit)) r × (length (now (terms .exit)) ≡ 80) ⌝ }
 {
     let free = free_sums();
     let lasts = secret_sums(secrets, inputs);

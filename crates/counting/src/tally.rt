@@ -1,15 +1,17 @@
-// All pairs of a sharing of given secret bits and a tape, 256 at once: how often the read wires show each combination.
+// All pairs of a sharing of given secret bits and a tape: how often the read wires show each combination. Those that are gone through
+// are taken 256 at once.
 ghost use mathlib.Core.Path.{_≡_};
 ghost use mathlib.Core.List.{List};
 ghost use Prim.Native.Nat.{ℕ, _≤_, _<_};
 ghost use lib.ListN.{length, take};
 ghost use Rattle.circuit.specs.Limits.{wireLimit};
-ghost use Rattle.circuit.specs.Lists.{nth};
 ghost use Rattle.gadgets.specs.Internal.Accepting.{circuitIn};
 ghost use Rattle.counting.specs.Counting.{pairCount};
-ghost use Rattle.counting.specs.Internal.Tallying.{Numbered, Listable, Divides, Planned, Prepared, Ready, HoldsShown, setOf, Tallied, ListsCounts};
+ghost use Rattle.counting.specs.Internal.Tallying.{Numbered, Listable, Divides, Planned, Enumerates, Prepared, Ready, HoldsShown, setOf, TalliedSome, Tallied, ListsCounts};
+ghost use Rattle.counting.specs.Internal.Linear.{Surveyed, ShiftsIn};
 use super::FEW;
 use super::lanes;
+use super::linear;
 use super::listing;
 use super::numbers;
 use super::prepare::TERMS;
@@ -18,36 +20,37 @@ use super::variables::fill_variables;
 use circuit::WIRES;
 use symbolic::evaluate;
 
-// How the pairs of a set of secret bits are gone through.
+// How sharings and tapes are made of free bits.
 pub struct Plan {
     // the shares of a secret bit that are free; the free bits before those of the tape, and all
     pub others: usize,
     pub start: usize,
     pub free: usize,
+}
+
+// The pairs that are gone through: only free bits that are factors vary.
+pub struct Enumeration {
+    pub factors: u64,
     // batches of pairs, and the pairs of each
     pub batches: usize,
     pub lanes: usize,
 }
 
-// Batches of pairs: how many there are, and how many pairs each has.
-struct Batches {
-    count: usize,
-    lanes: usize,
-}
-
-// The batches of all pairs of so many free bits: 256 pairs each, or one of fewer.
-fn divide(free: usize) -> Batches
-    requires { ⌜ free ≤ 16 ⌝ }
-    ensures { λ r. ⌜ Divides free (r .count) (r .lanes) ⌝ }
+// The pairs of so many free bits in batches: 256 pairs each, or one of fewer.
+fn divide(factors: u64, varied: usize) -> Enumeration
+    requires { ⌜ varied ≤ 16 ⌝ }
+    ensures { λ r. ⌜ (r .factors ≡ factors) × Divides varied (r .batches) (r .lanes) ⌝ }
 {
-    if free < 8 {
-        return Batches {
-            count: 1,
-            lanes: numbers::power(free),
+    if varied < 8 {
+        return Enumeration {
+            factors,
+            batches: 1,
+            lanes: numbers::power(varied),
         };
     }
-    Batches {
-        count: numbers::power(free - 8),
+    Enumeration {
+        factors,
+        batches: numbers::power(varied - 8),
         lanes: 256,
     }
 }
@@ -59,14 +62,10 @@ fn plan_pairs(table: &[u16], inputs: usize, randoms: usize) -> Plan
 {
     let others = table[1] as usize - 1;
     let start = others * inputs;
-    let free = start + randoms;
-    let batches = divide(free);
     Plan {
         others,
         start,
-        free,
-        batches: batches.count,
-        lanes: batches.lanes,
+        free: start + randoms,
     }
 }
 
@@ -78,22 +77,23 @@ fn show_batch(
     read: &[u16; 8],
     found: usize,
     plan: Plan,
+    enumeration: Enumeration,
     second: bool,
     batch: usize,
     words: &mut [u64; 256],
     shown: &mut [u64; 32],
 )
-    requires { ⌜ Ready (now read) (now sums) (now terms) outputs found plan × (batch < plan .batches) × (length (now words) ≡ 256) × (length (now shown) ≡ 32) ⌝ }
+    requires { ⌜ Ready (now read) (now sums) (now terms) outputs found plan × Enumerates (plan .free) enumeration × (batch < enumeration .batches) × (length (now words) ≡ 256) × (length (now shown) ≡ 32) ⌝ }
     ensures { λ _. ⌜ ((table secrets : List ℕ) → Prepared table secrets (now (read .entry)) (now (sums .entry)) (now (terms .entry)) outputs found plan
-        → HoldsShown table (setOf table second secrets) batch (now (read .entry)) found (now (shown .exit))) × (length (now (words .exit)) ≡ 256) ⌝ }
+        → HoldsShown table (setOf table second secrets) (enumeration .factors) (plan .free) batch (now (read .entry)) found (now (shown .exit))) × (length (now (words .exit)) ≡ 256) ⌝ }
 {
-    fill_variables(words, second, batch);
+    fill_variables(words, enumeration.factors, plan.free, second, batch);
     evaluate::run(terms, 0, outputs, words);
     evaluate::run(terms, 32, 32 + found, words);
     evaluate::show(sums, read, found, words, shown);
 }
 
-// Counts, from 0, how many pairs of a set of secret bits show each combination on the read wires.
+// Counts, from 0, how many of the pairs that are gone through show each combination on the read wires, under a set of secret bits.
 fn tally_set(
     sums: &[u64],
     terms: &[u64; TERMS],
@@ -101,17 +101,18 @@ fn tally_set(
     read: &[u16; 8],
     found: usize,
     plan: Plan,
+    enumeration: Enumeration,
     second: bool,
-    tally: &mut [u32; 256],
-)
-    requires { ⌜ Ready (now read) (now sums) (now terms) outputs found plan × (length (now tally) ≡ 256) × ((n : ℕ) → nth (now tally) n ≡ 0) ⌝ }
-    ensures { λ _. ⌜ ((table secrets : List ℕ) → Prepared table secrets (now (read .entry)) (now (sums .entry)) (now (terms .entry)) outputs found plan
-        → Tallied table (setOf table second secrets) (take found (now (read .entry))) (now (tally .exit))) ⌝ }
+) -> [u32; 256]
+    requires { ⌜ Ready (now read) (now sums) (now terms) outputs found plan × Enumerates (plan .free) enumeration ⌝ }
+    ensures { λ r. ⌜ ((table secrets : List ℕ) → Prepared table secrets (now (read .entry)) (now (sums .entry)) (now (terms .entry)) outputs found plan
+        → TalliedSome table (setOf table second secrets) (take found (now (read .entry))) (enumeration .factors) (plan .free) r) ⌝ }
 {
+    let mut tally = [0u32; 256];
     let mut words = [0u64; 256];
     let mut shown = [0u64; 32];
     let mut batch = 0;
-    while batch < plan.batches {
+    while batch < enumeration.batches {
         show_batch(
             sums,
             terms,
@@ -119,14 +120,37 @@ fn tally_set(
             read,
             found,
             plan,
+            enumeration,
             second,
             batch,
             &mut words,
             &mut shown,
         );
-        lanes::add_batch(tally, &shown, found, plan.lanes);
+        lanes::add_batch(&mut tally, &shown, found, enumeration.lanes);
         batch += 1;
     }
+    tally
+}
+
+// The same of all pairs, given by which numbers the free bits move what is shown.
+fn tally_pairs(
+    sums: &[u64],
+    terms: &[u64; TERMS],
+    outputs: usize,
+    read: &[u16; 8],
+    found: usize,
+    plan: Plan,
+    enumeration: Enumeration,
+    shifts: &[usize; 16],
+    second: bool,
+) -> [u32; 256]
+    requires { ⌜ Ready (now read) (now sums) (now terms) outputs found plan × Enumerates (plan .free) enumeration × Surveyed (now sums) (now terms) (now read) outputs found (enumeration .factors) × ShiftsIn (now sums) (now read) found (plan .free) (now shifts) ⌝ }
+    ensures { λ r. ⌜ ((table secrets : List ℕ) → Prepared table secrets (now (read .entry)) (now (sums .entry)) (now (terms .entry)) outputs found plan
+        → Tallied table (setOf table second secrets) (take found (now (read .entry))) r) ⌝ }
+{
+    let mut tally = tally_set(sums, terms, outputs, read, found, plan, enumeration, second);
+    linear::fold(&mut tally, enumeration.factors, shifts, plan.free, found);
+    tally
 }
 
 // Lists the counts under both sets of secret bits, on a given sheet, and answers how many pairs a set has.
@@ -145,13 +169,35 @@ fn list_on(
     ensures { λ r. ⌜ (r ≡ pairCount (circuitIn (now (table .entry)))) × ListsCounts (now (table .entry)) (now (secrets .entry)) inputs (take found (now (read .entry))) (now (counts .entry)) (now (counts .exit)) ⌝ }
 {
     let plan = plan_pairs(table, inputs, randoms);
+    let free = plan.free;
     let mut terms = [0u64; TERMS];
     let outputs = prepare(table, secrets, inputs, plan, read, found, sums, &mut terms);
-    let pairs = plan.batches * plan.lanes;
-    let mut first = [0u32; 256];
-    let mut second = [0u32; 256];
-    tally_set(sums, &terms, outputs, read, found, plan, false, &mut first);
-    tally_set(sums, &terms, outputs, read, found, plan, true, &mut second);
+    let factors = linear::find_factors(sums, &terms, outputs, read, found);
+    let enumeration = divide(factors, linear::count_factors(factors, free));
+    let shifts = linear::list_shifts(sums, read, found, free);
+    let first = tally_pairs(
+        sums,
+        &terms,
+        outputs,
+        read,
+        found,
+        plan,
+        enumeration,
+        &shifts,
+        false,
+    );
+    let second = tally_pairs(
+        sums,
+        &terms,
+        outputs,
+        read,
+        found,
+        plan,
+        enumeration,
+        &shifts,
+        true,
+    );
+    let pairs = numbers::power(free);
     listing::write_list(&first, &second, numbers::power(found), pairs as u32, counts);
     pairs
 }

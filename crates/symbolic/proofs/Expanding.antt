@@ -23,9 +23,9 @@ use Rattle.simulation.proofs.Walked.{walked-start, rank-is, frame-within, walke
 use Rattle.simulation.proofs.Equations.{frame-values}
 use Rattle.symbolic.specs.declared.gadget.Term.{Term}
 use Rattle.symbolic.specs.Internal.Sums.{added, Before}
-use Rattle.symbolic.specs.Internal.Terms.{termAt}
+use Rattle.symbolic.specs.Internal.Terms.{product, termAt}
 use Rattle.symbolic.specs.Internal.Expanding.{Words, Solves, Expanded}
-use Rattle.symbolic.proofs.Standing.{termValue}
+use Rattle.symbolic.proofs.Standing.{productValue}
 use Rattle.symbolic.proofs.Bounded.{some, more, Below}
 
 -- a wire that others name, or that is read
@@ -46,7 +46,7 @@ pub record ExpandedTo (room : ℕ) (table shares tape read : List ℕ) (found : 
   pub right : (x : ℕ) → x < w → Told (whole (walked .evaluable .accepted)) read found x → Right (whole (walked .evaluable .accepted)) shares tape read found terms outputs w x (nth sums x)
   pub before : (n : ℕ) → n < outputs → Before terms n
   pub reads-before : (i : ℕ) → i < found → Before terms (32 + i)
-  pub sized : length terms ≡ 120
+  pub sized : length terms ≡ 80
 
 zeros-at : (m n : ℕ) → nth (replicate m 0) n ≡ 0
 zeros-at zero n = refl
@@ -54,7 +54,7 @@ zeros-at (suc m) zero = refl
 zeros-at (suc m) (suc n) = zeros-at m n
 
 -- before the first frame
-pub expanded-start : {table shares tape read sums : List ℕ} {found : ℕ} → Evaluable table shares tape (length sums) → ExpandedTo (length sums) table shares tape read found sums (replicate 120 0) 2 0 0 0 0
+pub expanded-start : {table shares tape read sums : List ℕ} {found : ℕ} → Evaluable table shares tape (length sums) → ExpandedTo (length sums) table shares tape read found sums (replicate 80 0) 2 0 0 0 0
 expanded-start {found = found} e = record {
   walked = walked-start e;
   sums-sized = refl;
@@ -62,12 +62,12 @@ expanded-start {found = found} e = record {
   below = λ x l. absurd (omega arith);
   right = λ x l. absurd (omega arith);
   before = λ n l. absurd (omega arith);
-  reads-before = λ i l. record { one = zero-below (3 * (32 + i)) (18 + (32 + i)); other = zero-below (3 * (32 + i) + 1) (18 + (32 + i)); more = zero-below (3 * (32 + i) + 2) (18 + (32 + i)) };
+  reads-before = λ i l. record { one = zero-below (2 * (32 + i)) (18 + (32 + i)); other = zero-below (2 * (32 + i) + 1) (18 + (32 + i)) };
   sized = refl;
 }
   where
-    zero-below : (x m : ℕ) → nth (replicate 120 0) x < 2 ^ m
-    zero-below x m = rw (zeros-at 120 x) (some m)
+    zero-below : (x m : ℕ) → nth (replicate 80 0) x < 2 ^ m
+    zero-below x m = rw (zeros-at 80 x) (some m)
 
 module _ {room : ℕ} {table shares tape read : List ℕ} {found : ℕ} {sums terms : List ℕ} {place w from used outputs : ℕ} (t : ExpandedTo room table shares tape read found sums terms place w from used outputs) where
   abbrev a : AcceptedTable table
@@ -80,22 +80,20 @@ module _ {room : ℕ} {table shares tape read : List ℕ} {found : ℕ} {sums te
   pub earlier : {terms′ : List ℕ} {r w′ : ℕ} (f : Values) → outputs ≤ r → w ≤ w′ → ((n : ℕ) → n < outputs → termAt terms′ n ≡ termAt terms n) → ((i : ℕ) → i < found → nth read i < w → termAt terms′ (32 + i) ≡ termAt terms (32 + i))
       → Solves terms′ r read found w′ f → Solves terms outputs read found w f
   earlier f more wide outs reads s = record {
-    outs = λ n l. s .outs n (omega arith) ∙ ap (termValue f) (outs n l);
-    reads = λ i l u. s .reads i l (omega arith) ∙ ap (termValue f) (reads i l u);
+    outs = λ n l. s .outs n (omega arith) ∙ ap (productValue f) (outs n l);
+    reads = λ i l u. s .reads i l (omega arith) ∙ ap (productValue f) (reads i l u);
   }
 
   pub before-same : {terms′ : List ℕ} {n : ℕ} → termAt terms′ n ≡ termAt terms n → Before terms n → Before terms′ n
   before-same {terms′} {n} e b = record {
     one = subst (λ (x : Term). x .one < 2 ^ (18 + n)) (sym e) (b .one);
     other = subst (λ (x : Term). x .other < 2 ^ (18 + n)) (sym e) (b .other);
-    more = subst (λ (x : Term). x .more < 2 ^ (18 + n)) (sym e) (b .more);
   }
 
-  pub before-term : {terms′ : List ℕ} {n : ℕ} (x : Term) → termAt terms′ n ≡ x → Below (18 + n) x → Before terms′ n
+  pub before-term : {terms′ : List ℕ} {n : ℕ} (x : Term) → termAt terms′ n ≡ product x → Below (18 + n) x → Before terms′ n
   before-term {n = n} x e b = record {
     one = subst (λ (y : Term). y .one < 2 ^ (18 + n)) (sym e) (b .first);
     other = subst (λ (y : Term). y .other < 2 ^ (18 + n)) (sym e) (b .second);
-    more = subst (λ (y : Term). y .more < 2 ^ (18 + n)) (sym e) (b .third);
   }
 
   module _ {d : ℕ} {fr : FrameCode} {sh : ShapeCode} {wk : Walk} (same : d ≡ a .d) (m : Met a (t .walked .between) d w from fr sh wk) where

@@ -5,6 +5,7 @@ use mathlib.Core.List.{List}
 use Prim.Native.Nat.{ℕ, _+_, _*_, _-_, _^_, _≤_, _<_}
 use native.Mathlib.Nat.{mul-le-mul-right}
 use native.Mathlib.Omega.{arith}
+use lib.Bits.{xor-lt}
 use lib.Dec.{ltb}
 use lib.ListN.{length}
 use lib.Pow.{pow-lt}
@@ -31,12 +32,12 @@ use Rattle.simulation.specs.Internal.Evaluating.{packed}
 use Rattle.simulation.specs.Internal.Walked.{valuesAt}
 use Rattle.semantics.specs.Values.{at, valuesOf}
 use Rattle.simulation.proofs.Walked.{room-in, inputs-in, draws-in}
+use Rattle.symbolic.specs.declared.gadget.Term.{Term}
 use Rattle.symbolic.specs.Internal.Sums.{added, Before}
-use Rattle.symbolic.specs.Internal.Terms.{Inside, termAt, innerTerm, outputTerm}
+use Rattle.symbolic.specs.Internal.Terms.{Inside, product, sumWith, termAt, innerTerm, outputTerm}
 use Rattle.symbolic.specs.Internal.Expanding.{AndWrites, FrameAsks, FrameWrites, Words, Solves}
-use Rattle.symbolic.proofs.Masks.{added-one}
-use Rattle.symbolic.proofs.Standing.{termValue, inner-right, output-right}
-use Rattle.symbolic.proofs.Bounded.{more, below-more, inner-below, output-below}
+use Rattle.symbolic.proofs.Standing.{termValue, productValue, term-sum, inner-right, output-right}
+use Rattle.symbolic.proofs.Bounded.{more, Below, below-more, inner-below, output-below}
 use Rattle.symbolic.proofs.Linear.{gate-below, gate-kept, gate-sized, gate-right, ref-below, ref-right}
 use Rattle.symbolic.proofs.Expanding.{Told, by-name, by-list, ExpandedTo, earlier, before-same, before-term, holds, Made}
 
@@ -197,9 +198,16 @@ module _ {room : ℕ} {table shares tape read : List ℕ} {found : ℕ} {sums te
           (λ e. inside (l, ltb-true x (w + crossStart d d) e))
           (λ e. let z = ltb-false x (w + crossStart d d) e in out (x - (w + crossStart d d)) (omega (arith, m .as-many)) (omega arith))
 
+      -- an output is of variables before it
+      output-term : (i : ℕ) → i < d → Below (18 + outputs) (outputTerm d ops (wr .mid-sums) tape used i)
+      output-term = output-below (18 + outputs) (omega arith) d ops (wr .mid-sums) tape used
+          (λ j p. subst (λ (y : ℕ). y < 2 ^ (18 + outputs)) (sym (mid-same _ (early-a j p))) (t .below _ (early-a j p) (m .names .0 j p)))
+          (λ j p. subst (λ (y : ℕ). y < 2 ^ (18 + outputs)) (sym (mid-same _ (early-b j p))) (t .below _ (early-b j p) (m .names .1 j p)))
+          (λ y. more {m = 18} (omega arith) (tape-below y))
+
       below : (x : ℕ) → w ≤ x → x < w + sh .wires → Named x → nth sums′ x < 2 ^ (18 + (outputs + d))
       below x l u e = which x l u (λ i. clash x i e)
-          (λ i p z. rw (z, wr .outs .sum-is i p) (pow-lt {i = 18 + outputs + i} {j = 18 + (outputs + d)} (omega arith)))
+          (λ i p z. rw (z, wr .outs .sum-is i p) (xor-lt (18 + (outputs + d)) _ _ (pow-lt {i = 18 + outputs + i} {j = 18 + (outputs + d)} (omega arith)) (more {m = 18 + outputs} (omega arith) (output-term i p .third))))
 
       -- words of the variables
       module _ (n : ℕ) (sharings tapes : ℕ → List Bool) (f : Values) (v : Words shares tape n sharings tapes f) (s : Solves terms′ (outputs + d) read found (w + sh .wires) f) where
@@ -228,14 +236,16 @@ module _ {room : ℕ} {table shares tape read : List ℕ} {found : ℕ} {sums te
         listed x i l e here u =
             let (j, p, q, sum) = wr .reads .sum-is i l (subst (Inside d w) (sym e) here) in
             let same-wire : nth read j ≡ x = q ∙ e in
-            let term = read-mid j ∙ wr .reads .term-is j p (subst (Inside d w) (sym same-wire) here) in
-            inner-is x here ∙ ap (termValue f) (sym (term ∙ ap (λ y. innerTerm d ops sums tape used (y - w)) same-wire)) ∙ sym (s .reads j p (omega (arith, same-wire))) ∙ sym (added-one 64 (50 + j) f (omega (arith, found-few)))
-            ∙ ap (λ y. added y f) (sym (wr .outs .sum-kept x (omega (arith, here .1)) ∙ ap (nth (wr .mid-sums)) (sym e) ∙ sum))
+            let inner : ℕ → Term = λ y. innerTerm d ops sums tape used (y - w) in
+            let term = read-mid j ∙ wr .reads .term-is j p (subst (Inside d w) (sym same-wire) here) ∙ ap (λ y. product (inner y)) same-wire in
+            inner-is x here ∙ term-sum f (50 + j) (inner x) (omega (arith, found-few)) (s .reads j p (omega (arith, same-wire)) ∙ ap (productValue f) term)
+            ∙ ap (λ y. added y f) (sym (wr .outs .sum-kept x (omega (arith, here .1)) ∙ ap (nth (wr .mid-sums)) (sym e) ∙ sum ∙ ap (λ y. sumWith (50 + j) (inner y)) e))
 
         out : (x i : ℕ) → i < d → x ≡ outAt d w i → value x ≡ added (nth sums′ x) f
         out x i p z =
             let place : 18 + (outputs + i) ≡ 18 + outputs + i = omega arith in
-            ap value z ∙ output-is i p ∙ ap (termValue f) (sym (wr .outs .term-is i p)) ∙ sym (s .outs (outputs + i) (omega arith)) ∙ ap f place ∙ sym (added-one 64 (18 + outputs + i) f (omega (arith, bits .1)))
+            ap value z ∙ output-is i p
+            ∙ term-sum f (18 + outputs + i) (outputTerm d ops (wr .mid-sums) tape used i) (omega (arith, bits .1)) (ap f (sym place) ∙ s .outs (outputs + i) (omega arith) ∙ ap (productValue f) (wr .outs .term-is i p))
             ∙ ap (λ y. added y f) (sym (ap (nth sums′) z ∙ wr .outs .sum-is i p))
 
         right : (x : ℕ) → w ≤ x → x < w + sh .wires → Told k read found x → value x ≡ added (nth sums′ x) f
@@ -246,11 +256,7 @@ module _ {room : ℕ} {table shares tape read : List ℕ} {found : ℕ} {sums te
       before n l u =
           let i = n - outputs in
           let z : outputs + i ≡ n = omega arith in
-          subst (Before terms′) z (before-term t (outputTerm d ops (wr .mid-sums) tape used i) (wr .outs .term-is i (omega arith)) (below-more (omega arith)
-          (output-below (18 + outputs) (omega arith) d ops (wr .mid-sums) tape used
-          (λ j p. subst (λ (y : ℕ). y < 2 ^ (18 + outputs)) (sym (mid-same _ (early-a j p))) (t .below _ (early-a j p) (m .names .0 j p)))
-          (λ j p. subst (λ (y : ℕ). y < 2 ^ (18 + outputs)) (sym (mid-same _ (early-b j p))) (t .below _ (early-b j p) (m .names .1 j p)))
-          (λ y. more {m = 18} (omega arith) (tape-below y)) i (omega arith))))
+          subst (Before terms′) z (before-term t (outputTerm d ops (wr .mid-sums) tape used i) (wr .outs .term-is i (omega arith)) (below-more (omega arith) (output-term i (omega arith))))
 
       reads-inside : (i : ℕ) → i < found → Inside d w (nth read i) → Before terms′ (32 + i)
       reads-inside i l here = before-term t (innerTerm d ops sums tape used (nth read i - w)) (read-mid i ∙ wr .reads .term-is i l here) (below-more (omega (arith, bits .1))

@@ -15,7 +15,7 @@ use Rattle.gadgets.specs.Internal.Places.{wordA, wordB, maskAt, crossStart, out
 use Rattle.gadgets.proofs.Stored.{nth-set}
 use Rattle.simulation.specs.Internal.Filling.{wordSum}
 use Rattle.symbolic.specs.declared.gadget.Term.{Term}
-use Rattle.symbolic.specs.Internal.Terms.{term, productTerm, crossTerm, shareAt, innerTerm, outputTerm, termAt, withTerm, AndAsks, Inside, readSums, readTerms, ReadsInside, WritesOutputs}
+use Rattle.symbolic.specs.Internal.Terms.{term, product, sumWith, productTerm, crossTerm, shareAt, innerTerm, outputTerm, termAt, withTerm, AndAsks, Inside, readSums, readTerms, ReadsInside, WritesOutputs}
 use Rattle.symbolic.proofs.Inside.{decoded, inner-mask, inner-share, inner-pair}
 use Rattle.symbolic.proofs.Written.{term-parts, term-here, term-other, term-sized}
 
@@ -77,26 +77,26 @@ module _ {d first : ℕ} {ops tape : List ℕ} {used : ℕ} {read sums terms sum
       before j l z = let apart : j ≡ i → ⊥ = λ e. out (subst (λ (n : ℕ). Inside d first (nth read n)) e z) in omega arith
 
   -- one that is
-  reads-here : (t : Term) → Inside d first (nth read i) → nth read i < length sums → 3 * (32 + i) + 3 ≤ length terms → t ≡ innerTerm d ops sums tape used (nth read i - first)
-      → ReadsInside d first ops tape used read (i + 1) sums terms (set sums′ (nth read i) (2 ^ (50 + i))) (withTerm terms′ (32 + i) t)
+  reads-here : (t : Term) → Inside d first (nth read i) → nth read i < length sums → 2 * (32 + i) + 2 ≤ length terms → t ≡ innerTerm d ops sums tape used (nth read i - first)
+      → ReadsInside d first ops tape used read (i + 1) sums terms (set sums′ (nth read i) (sumWith (50 + i) t)) (withTerm terms′ (32 + i) t)
   reads-here t inside room space is = record {
     term-is = λ j l z. cases (eqb j i)
-        (λ e. let same = eqb-true j i e in rw same (term-here terms′ (32 + i) t (omega (arith, r .terms-sized)) ∙ is))
+        (λ e. let same = eqb-true j i e in rw same (term-here terms′ (32 + i) t (omega (arith, r .terms-sized)) ∙ ap product is))
         (λ e. term-other terms′ (32 + i) t (32 + j) (λ y. eqb-false j i e (omega arith)) ∙ r .term-is j (omega (arith, eqb-false j i e)) z);
-    sum-is = λ j l z. nth-set sums′ (nth read i) (2 ^ (50 + i)) (nth read j) (omega (arith, r .sums-sized))
-        (λ same y. (i, omega arith, sym same, y))
+    sum-is = λ j l z. nth-set sums′ (nth read i) (sumWith (50 + i) t) (nth read j) (omega (arith, r .sums-sized))
+        (λ same y. (i, omega arith, sym same, y ∙ ap (sumWith (50 + i)) (is ∙ ap (λ x. innerTerm d ops sums tape used (x - first)) (sym same))))
         (λ apart y. let (k, m, e, f) = r .sum-is j (before j l apart) z in (k, omega arith, e, y ∙ f));
     term-kept = λ n h. term-other terms′ (32 + i) t n (λ z. h i (omega arith) z inside) ∙ r .term-kept n (λ j l. h j (omega arith));
-    sum-kept = λ x h. getD-set-other sums′ (nth read i) x (2 ^ (50 + i)) 0 (λ z. h (rw z inside)) ∙ r .sum-kept x h;
-    sums-sized = length-set sums′ (nth read i) (2 ^ (50 + i)) ∙ r .sums-sized;
+    sum-kept = λ x h. getD-set-other sums′ (nth read i) x (sumWith (50 + i) t) 0 (λ z. h (rw z inside)) ∙ r .sum-kept x h;
+    sums-sized = length-set sums′ (nth read i) (sumWith (50 + i) t) ∙ r .sums-sized;
     terms-sized = term-sized terms′ (32 + i) t ∙ r .terms-sized;
   }
     where
       before : (j : ℕ) → j < i + 1 → (nth read j ≡ nth read i → ⊥) → j < i
       before j l z = let apart : j ≡ i → ⊥ = λ e. z (ap (nth read) e) in omega arith
 
-  pub reads-next : {room drawn : ℕ} → AndAsks d first ops room drawn used → nth read i < length sums → 3 * (32 + i) + 3 ≤ length terms
-      → ReadsInside d first ops tape used read (i + 1) sums terms (readSums d first (nth read i) i sums′) (readTerms d first ops sums′ tape used (nth read i) i terms′)
+  pub reads-next : {room drawn : ℕ} → AndAsks d first ops room drawn used → nth read i < length sums → 2 * (32 + i) + 2 ≤ length terms
+      → ReadsInside d first ops tape used read (i + 1) sums terms (readSums d first ops sums′ tape used (nth read i) i) (readTerms d first ops sums′ tape used (nth read i) i terms′)
   reads-next asks room space = cases (ltb (nth read i) first)
       (λ e. let h = ltb-true (nth read i) first e in rw e (reads-past (λ z. omega arith)))
       (λ e. let h = ltb-false (nth read i) first e in cases (leb (crossStart d d) (nth read i - first))
@@ -106,8 +106,8 @@ module _ {d first : ℕ} {ops tape : List ℕ} {used : ℕ} {read sums terms sum
 -- the outputs, up to a share
 module _ (d first : ℕ) (ops tape : List ℕ) (used outputs : ℕ) (sums terms : List ℕ) where
   pub record OutputsTo (sums′ terms′ : List ℕ) (i : ℕ) : Type 0 where
-    pub term-is : (j : ℕ) → j < i → termAt terms′ (outputs + j) ≡ outputTerm d ops sums tape used j
-    pub sum-is : (j : ℕ) → j < i → nth sums′ (outAt d first j) ≡ 2 ^ (18 + outputs + j)
+    pub term-is : (j : ℕ) → j < i → termAt terms′ (outputs + j) ≡ product (outputTerm d ops sums tape used j)
+    pub sum-is : (j : ℕ) → j < i → nth sums′ (outAt d first j) ≡ sumWith (18 + outputs + j) (outputTerm d ops sums tape used j)
     pub term-kept : (n : ℕ) → (outputs ≤ n → n < outputs + i → ⊥) → termAt terms′ n ≡ termAt terms n
     pub sum-kept : (x : ℕ) → (x < outAt d first 0) → nth sums′ x ≡ nth sums x
     pub sums-sized : length sums′ ≡ length sums
@@ -135,15 +135,15 @@ module _ {d first : ℕ} {ops tape : List ℕ} {used outputs : ℕ} {sums terms 
   }
 
   -- one share more
-  pub outputs-next : (w row masks p e : ℕ) → outAt d first i < length sums → 3 * (outputs + i) + 3 ≤ length terms → w < first
-      → (w ≡ wordA ops i) × (row ≡ wordSum (range 0 d) (λ j. nth sums (wordB d ops j))) × (masks ≡ bitXor 0 (wordSum (others d i) (λ j. nth tape (maskAt d used i j)))) × (p ≡ outAt d first i) × (e ≡ 2 ^ (18 + outputs + i))
+  pub outputs-next : (w row masks p e : ℕ) → outAt d first i < length sums → 2 * (outputs + i) + 2 ≤ length terms → w < first
+      → (w ≡ wordA ops i) × (row ≡ wordSum (range 0 d) (λ j. nth sums (wordB d ops j))) × (masks ≡ bitXor 0 (wordSum (others d i) (λ j. nth tape (maskAt d used i j)))) × (p ≡ outAt d first i) × (e ≡ bitXor (2 ^ (18 + outputs + i)) masks)
       → OutputsTo d first ops tape used outputs sums terms (set sums′ p e) (withTerm terms′ (outputs + i) (term (nth sums′ w) row masks)) (i + 1)
   outputs-next w row masks p e room space early (wire, all, drawn, at, var) = record {
     term-is = λ j l. cases (eqb j i)
-        (λ f. let same = eqb-true j i f in rw same (term-here terms′ (outputs + i) t (omega (arith, r .terms-sized)) ∙ is))
+        (λ f. let same = eqb-true j i f in rw same (term-here terms′ (outputs + i) t (omega (arith, r .terms-sized)) ∙ ap product is))
         (λ f. term-other terms′ (outputs + i) t (outputs + j) (λ y. eqb-false j i f (omega arith)) ∙ r .term-is j (omega (arith, eqb-false j i f)));
     sum-is = λ j l. nth-set sums′ p e (outAt d first j) (omega (arith, r .sums-sized))
-        (λ same y. y ∙ var ∙ ap (λ (n : ℕ). 2 ^ (18 + outputs + n)) (omega arith))
+        (λ same y. let e′ : i ≡ j = omega arith in y ∙ var ∙ ap (sumWith (18 + outputs + i)) is ∙ ap (λ n. sumWith (18 + outputs + n) (outputTerm d ops sums tape used n)) e′)
         (λ apart y. y ∙ r .sum-is j (omega arith));
     term-kept = λ n h. term-other terms′ (outputs + i) t n (λ z. h (omega arith) (omega arith)) ∙ r .term-kept n (λ l u. h l (omega arith));
     sum-kept = λ x h. getD-set-other sums′ p x e 0 (λ z. omega arith) ∙ r .sum-kept x h;

@@ -3,7 +3,7 @@ use mathlib.Core.Path.{_≡_, refl, sym, ap₂, _∙_}
 use mathlib.Core.List.{List}
 use Prim.Native.Nat.{ℕ, zero, suc, _+_, _*_, _≤_, _<_}
 use native.Mathlib.Omega.{arith}
-use lib.Bits.{bitAnd, bitXor}
+use lib.Bits.{bitAnd}
 use lib.Dec.{ltb}
 use lib.ListN.{length, set, length-set}
 use lib.Seq.{getD-set-same, getD-set-other}
@@ -59,7 +59,7 @@ fours-next f {i = i} s t j w l h = cases (ltb j i)
 
 -- sums of variables before a place do not change behind it
 pub term-same : (terms : List ℕ) (n : ℕ) (f g : Values) → Before terms n → ((s : ℕ) → s < 18 + n → f s ≡ g s) → termWord terms n f ≡ termWord terms n g
-term-same terms n f g b h = ap₂ bitXor (ap₂ bitAnd (added-same 64 (18 + n) _ f g (b .one) h) (added-same 64 (18 + n) _ f g (b .other) h)) (added-same 64 (18 + n) _ f g (b .more) h)
+term-same terms n f g b h = ap₂ bitAnd (added-same 64 (18 + n) _ f g (b .one) h) (added-same 64 (18 + n) _ f g (b .other) h)
 
 -- one product
 pub product-written : {terms old new : List ℕ} {n : ℕ} → Before terms n → Four old (4 * (18 + n)) (λ w. termWord terms n (wordsAt w old)) new → Runs terms n (n + 1) old new

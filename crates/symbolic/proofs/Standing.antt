@@ -2,7 +2,7 @@
 use mathlib.Core.Path.{_≡_, refl, sym, ap, ap₂, _∙_}
 use mathlib.Core.Bool.{Bool, true}
 use mathlib.Core.List.{List, map}
-use Prim.Native.Nat.{ℕ, zero, suc, _+_, _*_, _-_, _/_, _%_, _≤_, _<_}
+use Prim.Native.Nat.{ℕ, zero, suc, _+_, _*_, _-_, _/_, _%_, _^_, _≤_, _<_}
 use native.Mathlib.Omega.{arith}
 use lib.Bits.{bitAnd, bitXor, xor-zero-r}
 use lib.Dec.{ltb}
@@ -22,7 +22,7 @@ use Rattle.simulation.proofs.Adding.{wordSum-ext}
 use Rattle.simulation.proofs.Equations.{apart}
 use Rattle.symbolic.specs.declared.gadget.Term.{Term}
 use Rattle.symbolic.specs.Internal.Sums.{added}
-use Rattle.symbolic.specs.Internal.Terms.{one, alone, times, productTerm, crossTerm, innerTerm, outputTerm}
+use Rattle.symbolic.specs.Internal.Terms.{one, alone, times, sumWith, productTerm, crossTerm, innerTerm, outputTerm}
 use Rattle.symbolic.proofs.Masks.{added-none, added-xor, added-sum, added-one}
 use Rattle.symbolic.proofs.Products.{output-is}
 use Rattle.symbolic.proofs.Inside.{decoded, inner-mask, inner-share, inner-pair}
@@ -30,6 +30,13 @@ use Rattle.symbolic.proofs.Inside.{decoded, inner-mask, inner-share, in
 -- the word of a term
 abbrev pub termValue : Values → Term → ℕ
 termValue f t = bitXor (bitAnd (added (t .one) f) (added (t .other) f)) (added (t .more) f)
+
+-- and of its product, which is a variable's where the term is the sum with that variable
+abbrev pub productValue : Values → Term → ℕ
+productValue f t = bitAnd (added (t .one) f) (added (t .other) f)
+
+pub term-sum : (f : Values) (s : ℕ) (t : Term) → s < 64 → f s ≡ productValue f t → termValue f t ≡ added (sumWith s t) f
+term-sum f s t l e = ap (λ x. bitXor x (added (t .more) f)) (sym e ∙ sym (added-one 64 s f l)) ∙ sym (added-xor 64 (2 ^ s) (t .more) f)
 
 alone-value : (f : Values) (m : ℕ) → termValue f (alone m) ≡ added m f
 alone-value f m = ap (λ x. bitXor (bitAnd x x) (added m f)) (added-none 64 f)

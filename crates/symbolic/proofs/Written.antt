@@ -14,7 +14,7 @@ use Rattle.gadgets.specs.Internal.Frames.{RowBefore}
 use Rattle.gadgets.proofs.Stored.{nth-set}
 use Rattle.simulation.specs.Internal.Filling.{wordSum}
 use Rattle.symbolic.specs.declared.gadget.Term.{Term}
-use Rattle.symbolic.specs.Internal.Terms.{term, termAt, withTerm, Copies, Refreshes}
+use Rattle.symbolic.specs.Internal.Terms.{term, product, termAt, withTerm, Copies, Refreshes}
 
 -- sums that are copied: none, and one more
 pub copies-none : (source : List ℕ) (from at : ℕ) (old : List ℕ) → Copies source from at 0 old old
@@ -73,31 +73,25 @@ module _ {d first : ℕ} {ops tape : List ℕ} {used : ℕ} {old new : List ℕ}
       value : (j : ℕ) → j < d → refreshed d ops tape used old j ≡ refreshed d ops tape used sums j
       value j l = ap (λ n. bitXor n (wordSum (others d j) (λ k. nth tape (maskAt d used j k)))) (h .below (wordA ops j) (early j l))
 
--- a term at its place, and the others
+-- a term's product at its place, and the others
 pub term-parts : {x y z x′ y′ z′ : ℕ} → x ≡ x′ → y ≡ y′ → z ≡ z′ → term x y z ≡ term x′ y′ z′
 term-parts p q r = rw (p, q, r)
 
 module _ (terms : List ℕ) (n : ℕ) (t : Term) where
   abbrev one : List ℕ
-  one = set terms (3 * n) (t .one)
+  one = set terms (2 * n) (t .one)
 
-  abbrev two : List ℕ
-  two = set one (3 * n + 1) (t .other)
-
-  pub term-here : 3 * n + 3 ≤ length terms → termAt (withTerm terms n t) n ≡ t
+  pub term-here : 2 * n + 2 ≤ length terms → termAt (withTerm terms n t) n ≡ product t
   term-here room = term-parts
-      (getD-set-other two (3 * n + 2) (3 * n) (t .more) 0 (λ z. omega arith) ∙ getD-set-other one (3 * n + 1) (3 * n) (t .other) 0 (λ z. omega arith) ∙ getD-set-same terms (3 * n) (t .one) 0 (omega arith))
-      (getD-set-other two (3 * n + 2) (3 * n + 1) (t .more) 0 (λ z. omega arith) ∙ getD-set-same one (3 * n + 1) (t .other) 0 (simp length-set (omega arith)))
-      (getD-set-same two (3 * n + 2) (t .more) 0 (simp length-set (omega arith)))
+      (getD-set-other one (2 * n + 1) (2 * n) (t .other) 0 (λ z. omega arith) ∙ getD-set-same terms (2 * n) (t .one) 0 (omega arith))
+      (getD-set-same one (2 * n + 1) (t .other) 0 (simp length-set (omega arith)))
+      refl
 
-  other : (x : ℕ) → (x ≡ 3 * n → ⊥) → (x ≡ 3 * n + 1 → ⊥) → (x ≡ 3 * n + 2 → ⊥) → nth (withTerm terms n t) x ≡ nth terms x
-  other x p q r = getD-set-other two (3 * n + 2) x (t .more) 0 r ∙ getD-set-other one (3 * n + 1) x (t .other) 0 q ∙ getD-set-other terms (3 * n) x (t .one) 0 p
+  other : (x : ℕ) → (x ≡ 2 * n → ⊥) → (x ≡ 2 * n + 1 → ⊥) → nth (withTerm terms n t) x ≡ nth terms x
+  other x p q = getD-set-other one (2 * n + 1) x (t .other) 0 q ∙ getD-set-other terms (2 * n) x (t .one) 0 p
 
   pub term-other : (m : ℕ) → (m ≡ n → ⊥) → termAt (withTerm terms n t) m ≡ termAt terms m
-  term-other m h = term-parts
-      (other (3 * m) (λ z. h (omega arith)) (λ z. omega arith) (λ z. omega arith))
-      (other (3 * m + 1) (λ z. omega arith) (λ z. h (omega arith)) (λ z. omega arith))
-      (other (3 * m + 2) (λ z. omega arith) (λ z. omega arith) (λ z. h (omega arith)))
+  term-other m h = term-parts (other (2 * m) (λ z. h (omega arith)) (λ z. omega arith)) (other (2 * m + 1) (λ z. omega arith) (λ z. h (omega arith))) refl
 
   pub term-sized : length (withTerm terms n t) ≡ length terms
   term-sized = simp length-set

@@ -1,7 +1,7 @@
 // The words of variables and of wires, for 256 sharings and tapes at once: four words of 64 bits for each.
 ghost use mathlib.Core.Path.{_≡_};
 ghost use Prim.Native.Nat.{ℕ, _+_, _*_, _≤_, _<_};
-ghost use lib.Bits.{bitAnd, bitXor};
+ghost use lib.Bits.{bitAnd};
 ghost use lib.ListN.{length};
 ghost use Rattle.circuit.specs.Lists.{nth};
 ghost use Rattle.symbolic.specs.Internal.Sums.{added, wordsAt, fourAt, Before, BoundedTerms, Runs, Shows};
@@ -36,15 +36,15 @@ fn sum(words: &[u64], variables: u64) -> Four
     Four { a, b, c, d }
 }
 
-// Products of words, with others added.
-fn multiply_add(one: Four, other: Four, more: Four) -> Four
-    ensures { λ r. ⌜ (r .a ≡ bitXor (bitAnd (one .a) (other .a)) (more .a)) × (r .b ≡ bitXor (bitAnd (one .b) (other .b)) (more .b)) × (r .c ≡ bitXor (bitAnd (one .c) (other .c)) (more .c)) × (r .d ≡ bitXor (bitAnd (one .d) (other .d)) (more .d)) ⌝ }
+// Products of words.
+fn multiply(one: Four, other: Four) -> Four
+    ensures { λ r. ⌜ (r .a ≡ bitAnd (one .a) (other .a)) × (r .b ≡ bitAnd (one .b) (other .b)) × (r .c ≡ bitAnd (one .c) (other .c)) × (r .d ≡ bitAnd (one .d) (other .d)) ⌝ }
 {
     Four {
-        a: one.a & other.a ^ more.a,
-        b: one.b & other.b ^ more.b,
-        c: one.c & other.c ^ more.c,
-        d: one.d & other.d ^ more.d,
+        a: one.a & other.a,
+        b: one.b & other.b,
+        c: one.c & other.c,
+        d: one.d & other.d,
     }
 }
 
@@ -59,20 +59,19 @@ fn write_four(words: &mut [u64], at: usize, four: Four)
     words[at + 3] = four.d;
 }
 
-// The words of a variable that is a product of two sums, with a third sum added.
+// The words of a variable that is a product of two sums.
 fn write_product(terms: &[u64], n: usize, words: &mut [u64])
-    requires { ⌜ (length (now terms) ≡ 120) × (length (now words) ≡ 256) × (n < 40) × Before (now terms) n ⌝ }
+    requires { ⌜ (length (now terms) ≡ 80) × (length (now words) ≡ 256) × (n < 40) × Before (now terms) n ⌝ }
     ensures { λ _. ⌜ Runs (now (terms .entry)) n (n + 1) (now (words .entry)) (now (words .exit)) ⌝ }
 {
-    let one = sum(words, terms[3 * n]);
-    let other = sum(words, terms[3 * n + 1]);
-    let more = sum(words, terms[3 * n + 2]);
-    write_four(words, 4 * (18 + n), multiply_add(one, other, more));
+    let one = sum(words, terms[2 * n]);
+    let other = sum(words, terms[2 * n + 1]);
+    write_four(words, 4 * (18 + n), multiply(one, other));
 }
 
 // Those of such variables from one to another.
 pub fn run(terms: &[u64], from: usize, to: usize, words: &mut [u64])
-    requires { ⌜ (length (now terms) ≡ 120) × (length (now words) ≡ 256) × (from ≤ to) × (to ≤ 40) × BoundedTerms (now terms) from to ⌝ }
+    requires { ⌜ (length (now terms) ≡ 80) × (length (now words) ≡ 256) × (from ≤ to) × (to ≤ 40) × BoundedTerms (now terms) from to ⌝ }
     ensures { λ _. ⌜ Runs (now (terms .entry)) from to (now (words .entry)) (now (words .exit)) ⌝ }
 {
     let mut n = from;

@@ -80,7 +80,7 @@ fn write_and(
     found: usize,
     outputs: usize,
 )
-    requires { ⌜ AndAsks d first (now ops) (length (now sums)) (length (now tape)) used × (length (now terms) ≡ 120) × (found ≤ 8) × (found ≤ length (now read)) × ((i : ℕ) → i < found → nth (now read) i < length (now sums)) × (outputs + d ≤ 32) ⌝ }
+    requires { ⌜ AndAsks d first (now ops) (length (now sums)) (length (now tape)) used × (length (now terms) ≡ 80) × (found ≤ 8) × (found ≤ length (now read)) × ((i : ℕ) → i < found → nth (now read) i < length (now sums)) × (outputs + d ≤ 32) ⌝ }
     ensures { λ _. ⌜ AndWrites d first (now (ops .entry)) (now (tape .entry)) used (now (read .entry)) found outputs (now (sums .entry)) (now (terms .entry)) (now (sums .exit)) (now (terms .exit)) ⌝ }
 {
     gadget::read_inside(sums, terms, first, d, ops, tape, used, read, found);
@@ -104,7 +104,7 @@ fn write_frame(
     found: usize,
     outputs: usize,
 ) -> usize
-    requires { ⌜ FrameAsks frame d first from used (now ops) (length (now sums)) (length (now shares)) (length (now tape)) outputs × (randoms ≡ pairs d) × (length (now terms) ≡ 120) × (found ≤ 8) × (found ≤ length (now read)) × ((i : ℕ) → i < found → nth (now read) i < length (now sums)) ⌝ }
+    requires { ⌜ FrameAsks frame d first from used (now ops) (length (now sums)) (length (now shares)) (length (now tape)) outputs × (randoms ≡ pairs d) × (length (now terms) ≡ 80) × (found ≤ 8) × (found ≤ length (now read)) × ((i : ℕ) → i < found → nth (now read) i < length (now sums)) ⌝ }
     ensures { λ r. ⌜ FrameWrites frame d first from used (now (ops .entry)) (now (shares .entry)) (now (tape .entry)) (now (read .entry)) found outputs (now (sums .entry)) (now (terms .entry)) (now (sums .exit)) (now (terms .exit)) r ⌝ }
 {
     match frame {
@@ -161,7 +161,7 @@ pub fn expand(
     terms: &mut [u64],
 ) -> usize
     requires { ⌜ Evaluable (now table) (now shares) (now tape) (length (now sums)) × (length (now tape) ≤ 16) × ((x : ℕ) → nth (now shares) x < 2 ^ 18) × ((x : ℕ) → nth (now tape) x < 2 ^ 18) × (length (now sums) ≤ wireLimit)
-        × (found ≤ 8) × (found ≤ length (now read)) × ((i : ℕ) → i < found → nth (now read) i < size (circuitIn (now table))) × (now terms ≡ replicate 120 0) ⌝ }
+        × (found ≤ 8) × (found ≤ length (now read)) × ((i : ℕ) → i < found → nth (now read) i < size (circuitIn (now table))) × (now terms ≡ replicate 80 0) ⌝ }
     ensures { λ r. ⌜ Expanded (now (table .entry)) (now (shares .entry)) (now (tape .entry)) (now (read .entry)) found (now (sums .exit)) (now (terms .exit)) r ⌝ }
 {
     let d = table[1];

@@ -1,5 +1,5 @@
-// AND and REF by sums of variables: each output of AND is a variable of its own, a product of two sums with a third added, and so is
-// each wire inside it that is read. What REF makes are sums.
+// AND and REF by sums of variables: each output of AND is a product of two sums with a third added, and so is each wire inside it that
+// is read; the product is a variable of its own. What REF makes are sums.
 ghost use mathlib.Core.Path.{_≡_};
 ghost use mathlib.Core.Bool.{cond};
 ghost use Prim.Native.Nat.{ℕ, _+_, _*_, _^_, _≤_, _<_};
@@ -165,17 +165,16 @@ fn inner_term(sums: &[u64], ops: &[u16], d: usize, tape: &[u64], used: usize, of
     pair_term(sums, ops, d, r, i, j, rest % 6)
 }
 
-// A term written at its place.
+// The product of a term written at its place.
 fn write_term(terms: &mut [u64], n: usize, term: Term)
-    requires { ⌜ 3 * n + 3 ≤ length (now terms) ⌝ }
+    requires { ⌜ 2 * n + 2 ≤ length (now terms) ⌝ }
     ensures { λ _. ⌜ now (terms .exit) ≡ withTerm (now (terms .entry)) n term ⌝ }
 {
-    terms[3 * n] = term.one;
-    terms[3 * n + 1] = term.other;
-    terms[3 * n + 2] = term.more;
+    terms[2 * n] = term.one;
+    terms[2 * n + 1] = term.other;
 }
 
-// A wire on the list of those that are read, where it stands inside AND: it is a variable, of the list's own.
+// A wire on the list of those that are read, where it stands inside AND: its product is a variable, of the list's own.
 fn read_one(
     sums: &mut [u64],
     terms: &mut [u64],
@@ -187,8 +186,8 @@ fn read_one(
     wire: usize,
     n: usize,
 )
-    requires { ⌜ AndAsks d first (now ops) (length (now sums)) (length (now tape)) used × (length (now terms) ≡ 120) × (n < 8) × (wire < length (now sums)) ⌝ }
-    ensures { λ _. ⌜ (now (sums .exit) ≡ readSums d first wire n (now (sums .entry))) × (now (terms .exit) ≡ readTerms d first (now (ops .entry)) (now (sums .entry)) (now (tape .entry)) used wire n (now (terms .entry))) ⌝ }
+    requires { ⌜ AndAsks d first (now ops) (length (now sums)) (length (now tape)) used × (length (now terms) ≡ 80) × (n < 8) × (wire < length (now sums)) ⌝ }
+    ensures { λ _. ⌜ (now (sums .exit) ≡ readSums d first (now (ops .entry)) (now (sums .entry)) (now (tape .entry)) used wire n) × (now (terms .exit) ≡ readTerms d first (now (ops .entry)) (now (sums .entry)) (now (tape .entry)) used wire n (now (terms .entry))) ⌝ }
 {
     if wire < first {
         return;
@@ -197,8 +196,9 @@ fn read_one(
     if places::cross_start(d, d) <= offset {
         return;
     }
-    write_term(terms, 32 + n, inner_term(sums, ops, d, tape, used, offset));
-    sums[wire] = variable(50 + n);
+    let term = inner_term(sums, ops, d, tape, used, offset);
+    write_term(terms, 32 + n, term);
+    sums[wire] = variable(50 + n) ^ term.more;
 }
 
 // All wires on the list.
@@ -213,7 +213,7 @@ pub(crate) fn read_inside(
     read: &[u16],
     found: usize,
 )
-    requires { ⌜ AndAsks d first (now ops) (length (now sums)) (length (now tape)) used × (length (now terms) ≡ 120) × (found ≤ 8) × (found ≤ length (now read)) × ((i : ℕ) → i < found → nth (now read) i < length (now sums)) ⌝ }
+    requires { ⌜ AndAsks d first (now ops) (length (now sums)) (length (now tape)) used × (length (now terms) ≡ 80) × (found ≤ 8) × (found ≤ length (now read)) × ((i : ℕ) → i < found → nth (now read) i < length (now sums)) ⌝ }
     ensures { λ _. ⌜ ReadsInside d first (now (ops .entry)) (now (tape .entry)) used (now (read .entry)) found (now (sums .entry)) (now (terms .entry)) (now (sums .exit)) (now (terms .exit)) ⌝ }
 {
     let mut i = 0;
@@ -224,7 +224,7 @@ pub(crate) fn read_inside(
     }
 }
 
-// The outputs of AND, variables behind so many others of their kind.
+// The outputs of AND, their products variables behind so many others of their kind.
 pub(crate) fn write_outputs(
     sums: &mut [u64],
     terms: &mut [u64],
@@ -235,7 +235,7 @@ pub(crate) fn write_outputs(
     used: usize,
     outputs: usize,
 )
-    requires { ⌜ AndAsks d first (now ops) (length (now sums)) (length (now tape)) used × (length (now terms) ≡ 120) × (outputs + d ≤ 32) ⌝ }
+    requires { ⌜ AndAsks d first (now ops) (length (now sums)) (length (now tape)) used × (length (now terms) ≡ 80) × (outputs + d ≤ 32) ⌝ }
     ensures { λ _. ⌜ WritesOutputs d first (now (ops .entry)) (now (tape .entry)) used outputs (now (sums .entry)) (now (terms .entry)) (now (sums .exit)) (now (terms .exit)) ⌝ }
 {
     let row = add_row(sums, ops, d);
@@ -247,7 +247,7 @@ pub(crate) fn write_outputs(
             more: add_masks(tape, used, d, i, 0),
         };
         write_term(terms, outputs + i, term);
-        sums[places::out_at(d, first, i)] = variable(18 + outputs + i);
+        sums[places::out_at(d, first, i)] = variable(18 + outputs + i) ^ term.more;
         i += 1;
     }
 }

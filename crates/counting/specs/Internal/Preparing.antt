@@ -8,7 +8,11 @@ use lib.ListN.{length, take, drop}
 use Rattle.circuit.specs.Lists.{nth, range}
 use Rattle.circuit.specs.Circuit.{isSet}
 use Rattle.counting.specs.declared.tally.Plan.{Plan}
-use Rattle.counting.specs.Internal.Words.{ones, freeWord, allShares}
+use Rattle.semantics.specs.Values.{at}
+use Rattle.simulation.specs.Internal.Evaluating.{packed}
+use Rattle.counting.specs.Internal.Pairs.{placed}
+use Rattle.counting.specs.Internal.Words.{ones, allShares}
+use Rattle.counting.specs.Internal.Linear.{variedIn}
 
 -- a secret bit, from its values in both sets
 abbrev pub secretSum : (one other : ℕ) → ℕ
@@ -35,9 +39,17 @@ preparedShares plan n secrets = allShares (plan .others) (secretSums n secrets) 
 abbrev pub preparedTape : Plan → List ℕ
 preparedTape plan = take (plan .free - plan .start) (drop (plan .start) freeSums)
 
+-- the word of a free bit in 64 of the pairs that are gone through
+abbrev pub placedWord : (factors free i number : ℕ) → ℕ
+placedWord factors free i number = packed 64 (λ l. at (placed (variedIn factors free) (64 * number + l)) i)
+
 -- four words for each of these variables, in the pairs of a batch
-pub record Variables (second : Bool) (batch : ℕ) (words : List ℕ) : Type 0 where
-  pub free : (i w : ℕ) → i < 16 → w < 4 → nth words (4 * i + w) ≡ freeWord i (4 * batch + w)
+pub record FreeFilled (factors free batch : ℕ) (words : List ℕ) : Type 0 where
+  pub are : (i w : ℕ) → i < free → w < 4 → nth words (4 * i + w) ≡ placedWord factors free i (4 * batch + w)
+  pub sized : length words ≡ 256
+
+pub record Variables (factors free : ℕ) (second : Bool) (batch : ℕ) (words : List ℕ) : Type 0 where
+  pub free-are : (i w : ℕ) → i < free → w < 4 → nth words (4 * i + w) ≡ placedWord factors free i (4 * batch + w)
   pub set : (w : ℕ) → w < 4 → nth words (64 + w) ≡ cond second ones 0
   pub one : (w : ℕ) → w < 4 → nth words (68 + w) ≡ ones
   pub sized : length words ≡ 256

@@ -11,9 +11,11 @@ use Rattle.semantics.specs.Values.{bits, at}
 use Rattle.gadgets.specs.Internal.Accepting.{AcceptedTable, circuitIn}
 use Rattle.simulation.specs.Internal.Evaluating.{packed}
 use Rattle.counting.specs.declared.tally.Plan.{Plan}
-use Rattle.counting.specs.Counting.{pairCount, readWires, countList}
+use Rattle.counting.specs.declared.tally.Enumeration.{Enumeration}
+use Rattle.counting.specs.Counting.{readWires, countList}
 use Rattle.symbolic.specs.Internal.Expanding.{Expanded}
-use Rattle.counting.specs.Internal.Pairs.{valuesIn, shownOf}
+use Rattle.counting.specs.Internal.Pairs.{valuesWith, shownAmong, shownOf, placed, countVaried}
+use Rattle.counting.specs.Internal.Linear.{variedIn}
 use Rattle.counting.specs.Internal.Preparing.{preparedShares, preparedTape}
 
 -- an accepted table of few free bits, and its numbers
@@ -42,7 +44,10 @@ pub record Planned (table : List ℕ) (plan : Plan) : Type 0 where
   pub others-are : plan .others ≡ circuitIn table .d - 1
   pub start-is : plan .start ≡ plan .others * circuitIn table .inputs
   pub free-is : plan .free ≡ freeBits (circuitIn table)
-  pub divides : Divides (plan .free) (plan .batches) (plan .lanes)
+
+-- the pairs that are gone through: those of the free bits that vary
+pub record Enumerates (free : ℕ) (e : Enumeration) : Type 0 where
+  pub divides : Divides (countVaried (variedIn (e .factors) free)) (e .batches) (e .lanes)
 
 -- a list of wires that are read
 pub record ReadIn (table read : List ℕ) (found : ℕ) : Type 0 where
@@ -62,7 +67,7 @@ pub record Prepared (table secrets read sums terms : List ℕ) (outputs found : 
   pub room : size (circuitIn table) ≤ length sums
   pub sized : length secrets ≡ circuitIn table .inputs + circuitIn table .inputs
   pub bit : (x : ℕ) → nth secrets x ≤ 1
-  pub terms-sized : length terms ≡ 120
+  pub terms-sized : length terms ≡ 80
   pub expanded : Expanded table (preparedShares plan (circuitIn table .inputs) secrets) (preparedTape plan) read found sums terms outputs
 
 -- sums and terms of some table
@@ -72,8 +77,9 @@ pub record Ready (read sums terms : List ℕ) (outputs found : ℕ) (plan : Plan
   pub prepared : Prepared table secrets read sums terms outputs found plan
 
 -- words of the values of 256 pairs, the first of which has the number 256 · batch: four for each wire that is read
-pub record HoldsShown (table secrets : List ℕ) (batch : ℕ) (read : List ℕ) (found : ℕ) (shown : List ℕ) : Type 0 where
-  pub are : (i w : ℕ) → i < found → w < 4 → nth shown (4 * i + w) ≡ packed 64 (λ l. at (valuesIn (circuitIn table) (bits secrets) (64 * (4 * batch + w) + l)) (nth read i))
+pub record HoldsShown (table secrets : List ℕ) (factors free batch : ℕ) (read : List ℕ) (found : ℕ) (shown : List ℕ) : Type 0 where
+  pub are : (i w : ℕ) → i < found → w < 4
+      → nth shown (4 * i + w) ≡ packed 64 (λ l. at (valuesWith (circuitIn table) (bits secrets) (placed (variedIn factors free) (64 * (4 * batch + w) + l))) (nth read i))
   pub sized : length shown ≡ 32
 
 -- what the list of counts rests on: such a table, two sets of secret bits, wires that are read, and room for the counts
@@ -85,9 +91,15 @@ pub record Listable (table secrets : List ℕ) (inputs randoms wires : ℕ) (rea
   pub read-in : ReadIn table read found
   pub room : 1024 ≤ length counts
 
--- the number of pairs for each combination on wires
+-- the number of pairs that are gone through for each combination on wires
+pub record TalliedSome (table secrets wires : List ℕ) (factors free : ℕ) (tally : List ℕ) : Type 0 where
+  pub counts : (n : ℕ) → n < 256 → nth tally n ≡ shownAmong (circuitIn table) (bits secrets) wires (placed (variedIn factors free)) (2 ^ countVaried (variedIn factors free)) n
+  pub few : (n : ℕ) → nth tally n ≤ 65536
+  pub sized : length tally ≡ 256
+
+-- and of all pairs
 pub record Tallied (table secrets wires tally : List ℕ) : Type 0 where
-  pub counts : (n : ℕ) → n < 256 → nth tally n ≡ shownOf (circuitIn table) (bits secrets) wires (pairCount (circuitIn table)) n
+  pub counts : (n : ℕ) → n < 2 ^ length wires → nth tally n ≡ shownOf (circuitIn table) (bits secrets) wires n
   pub few : (n : ℕ) → nth tally n ≤ 65536
 
 -- the list of counts for probes that read these wires

@@ -1,10 +1,8 @@
 -- 64 pairs at once: the words of their free bits, and of the shares that these make up with given secret bits.
-use mathlib.Core.Path.{_≡_}
 use mathlib.Core.List.{List, [], _∷_, _++_}
-use Prim.Native.Nat.{ℕ, _+_, _*_, _<_}
+use Prim.Native.Nat.{ℕ, _+_, _*_}
 use lib.Bits.{bitXor}
-use lib.ListN.{length, take, drop}
-use Rattle.circuit.specs.Lists.{nth}
+use lib.ListN.{take, drop}
 use Rattle.simulation.specs.Internal.Evaluating.{packed}
 use Rattle.counting.specs.Internal.Lanes.{laneBit}
 
@@ -15,10 +13,6 @@ ones = 0xFFFFFFFFFFFFFFFF
 -- the word of a free bit of 64 pairs, the first of which has the number 64 · number
 abbrev pub freeWord : (i number : ℕ) → ℕ
 freeWord i number = packed 64 (λ l. laneBit i (64 * number + l))
-
-pub record FreeWords (number free : ℕ) (words : List ℕ) : Type 0 where
-  pub sized : length words ≡ 16
-  pub are : (i : ℕ) → i < free → nth words i ≡ freeWord i number
 
 -- words, and behind them the one that makes their sum a given one
 unfoldable pub sharesOf : (last : ℕ) → List ℕ → List ℕ

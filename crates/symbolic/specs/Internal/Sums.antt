@@ -18,15 +18,14 @@ addedIn (suc n) m f = bitXor (cond (isSet (m % 2)) (f 0) 0) (addedIn n (m / 2) (
 abbrev pub added : (sum : ℕ) → Values → ℕ
 added m f = addedIn 64 m f
 
--- the variables that are products of two sums, with a third sum added, come behind 18 others: three numbers for each
+-- the variables that are products of two sums come behind 18 others: two numbers for each
 abbrev pub termWord : (terms : List ℕ) (n : ℕ) → Values → ℕ
-termWord terms n f = bitXor (bitAnd (added (nth terms (3 * n)) f) (added (nth terms (3 * n + 1)) f)) (added (nth terms (3 * n + 2)) f)
+termWord terms n f = bitAnd (added (nth terms (2 * n)) f) (added (nth terms (2 * n + 1)) f)
 
 -- their sums are of variables before them
 pub record Before (terms : List ℕ) (n : ℕ) : Type 0 where
-  pub one : nth terms (3 * n) < 2 ^ (18 + n)
-  pub other : nth terms (3 * n + 1) < 2 ^ (18 + n)
-  pub more : nth terms (3 * n + 2) < 2 ^ (18 + n)
+  pub one : nth terms (2 * n) < 2 ^ (18 + n)
+  pub other : nth terms (2 * n + 1) < 2 ^ (18 + n)
 
 abbrev pub BoundedTerms : (terms : List ℕ) (from to : ℕ) → Type 0
 BoundedTerms terms from to = (n : ℕ) → from ≤ n → n < to → Before terms n

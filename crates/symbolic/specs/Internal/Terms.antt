@@ -62,13 +62,20 @@ module _ (d : ℕ) (ops sums tape : List ℕ) (used : ℕ) where
   abbrev pub outputTerm : (i : ℕ) → Term
   outputTerm i = term (a i) (wordSum (range 0 d) b) (wordSum (others d i) (λ j. nth tape (maskAt d used i j)))
 
--- a list of terms with one written
-abbrev pub withTerm : (terms : List ℕ) (n : ℕ) → Term → List ℕ
-withTerm terms n t = set (set (set terms (3 * n) (t .one)) (3 * n + 1) (t .other)) (3 * n + 2) (t .more)
+-- a product is a variable of its own: the product of a term, and the sum that the term is with a variable in the product's place
+abbrev pub product : Term → Term
+product t = times (t .one) (t .other)
 
--- the term at a place of a list
+abbrev pub sumWith : (variable : ℕ) → Term → ℕ
+sumWith n t = bitXor (2 ^ n) (t .more)
+
+-- a list of products with that of a term written
+abbrev pub withTerm : (terms : List ℕ) (n : ℕ) → Term → List ℕ
+withTerm terms n t = set (set terms (2 * n) (t .one)) (2 * n + 1) (t .other)
+
+-- the product at a place of a list
 abbrev pub termAt : (terms : List ℕ) (n : ℕ) → Term
-termAt terms n = term (nth terms (3 * n)) (nth terms (3 * n + 1)) (nth terms (3 * n + 2))
+termAt terms n = times (nth terms (2 * n)) (nth terms (2 * n + 1))
 
 -- what AND and REF ask for: earlier wires, room for theirs, and their random bits
 pub record AndAsks (d first : ℕ) (ops : List ℕ) (room drawn used : ℕ) : Type 0 where
@@ -96,8 +103,8 @@ pub record RefAsks (d first : ℕ) (ops : List ℕ) (room drawn used : ℕ) : Ty
 abbrev pub whereInside : {A : Type 0} (d first wire : ℕ) (old new : A) → A
 whereInside d first x old new = cond (ltb x first) old (cond (leb (crossStart d d) (x - first)) old new)
 
-abbrev pub readSums : (d first wire n : ℕ) (sums : List ℕ) → List ℕ
-readSums d first x n sums = whereInside d first x sums (set sums x (2 ^ (50 + n)))
+abbrev pub readSums : (d first : ℕ) (ops sums tape : List ℕ) (used wire n : ℕ) → List ℕ
+readSums d first ops sums tape used x n = whereInside d first x sums (set sums x (sumWith (50 + n) (innerTerm d ops sums tape used (x - first))))
 
 abbrev pub readTerms : (d first : ℕ) (ops sums tape : List ℕ) (used wire n : ℕ) (terms : List ℕ) → List ℕ
 readTerms d first ops sums tape used x n terms = whereInside d first x terms (withTerm terms (32 + n) (innerTerm d ops sums tape used (x - first)))
@@ -108,8 +115,9 @@ Inside d first x = (first ≤ x) × (x < first + crossStart d d)
 
 -- all wires that are read
 pub record ReadsInside (d first : ℕ) (ops tape : List ℕ) (used : ℕ) (read : List ℕ) (found : ℕ) (sums terms sums′ terms′ : List ℕ) : Type 0 where
-  pub term-is : (i : ℕ) → i < found → Inside d first (nth read i) → termAt terms′ (32 + i) ≡ innerTerm d ops sums tape used (nth read i - first)
-  pub sum-is : (i : ℕ) → i < found → Inside d first (nth read i) → (j : ℕ) × (j < found) × (nth read j ≡ nth read i) × (nth sums′ (nth read i) ≡ 2 ^ (50 + j))
+  pub term-is : (i : ℕ) → i < found → Inside d first (nth read i) → termAt terms′ (32 + i) ≡ product (innerTerm d ops sums tape used (nth read i - first))
+  pub sum-is : (i : ℕ) → i < found → Inside d first (nth read i)
+      → (j : ℕ) × (j < found) × (nth read j ≡ nth read i) × (nth sums′ (nth read i) ≡ sumWith (50 + j) (innerTerm d ops sums tape used (nth read i - first)))
   pub term-kept : (n : ℕ) → ((i : ℕ) → i < found → n ≡ 32 + i → Inside d first (nth read i) → ⊥) → termAt terms′ n ≡ termAt terms n
   pub sum-kept : (x : ℕ) → (Inside d first x → ⊥) → nth sums′ x ≡ nth sums x
   pub sums-sized : length sums′ ≡ length sums
@@ -117,8 +125,8 @@ pub record ReadsInside (d first : ℕ) (ops tape : List ℕ) (used : ℕ) (read 
 
 -- the outputs
 pub record WritesOutputs (d first : ℕ) (ops tape : List ℕ) (used outputs : ℕ) (sums terms sums′ terms′ : List ℕ) : Type 0 where
-  pub term-is : (i : ℕ) → i < d → termAt terms′ (outputs + i) ≡ outputTerm d ops sums tape used i
-  pub sum-is : (i : ℕ) → i < d → nth sums′ (outAt d first i) ≡ 2 ^ (18 + outputs + i)
+  pub term-is : (i : ℕ) → i < d → termAt terms′ (outputs + i) ≡ product (outputTerm d ops sums tape used i)
+  pub sum-is : (i : ℕ) → i < d → nth sums′ (outAt d first i) ≡ sumWith (18 + outputs + i) (outputTerm d ops sums tape used i)
   pub term-kept : (n : ℕ) → (outputs ≤ n → n < outputs + d → ⊥) → termAt terms′ n ≡ termAt terms n
   pub sum-kept : (x : ℕ) → (x < outAt d first 0) → nth sums′ x ≡ nth sums x
   pub sums-sized : length sums′ ≡ length sums

@@ -12,14 +12,24 @@ use masked_tests::options;
 use masked_tests::subject::subject;
 
 fn main() {
-    options::only(&["rounds", "seed"]);
+    options::only(&["rounds", "seed", "part"]);
     let random = &mut Random::new(options::number("seed", 1));
     let rounds = options::number("rounds", 201) as usize;
     let (subject, name) = subject();
     println!("benchmark: {name} and the tuned opponent; medians of {rounds} turns, microseconds");
-    circuits::print(random, subject.as_ref(), rounds);
-    circuits::print_clocks(random, subject.as_ref(), rounds);
-    probing::print(random, subject.as_ref(), rounds);
-    sharings::print(random, subject.as_ref(), rounds);
-    counting::print(subject.as_ref(), rounds);
+    let part = options::text("part");
+    let wanted = |name: &str| part.as_ref().is_none_or(|part| part == name);
+    if wanted("calls") {
+        circuits::print(random, subject.as_ref(), rounds);
+        circuits::print_clocks(random, subject.as_ref(), rounds);
+    }
+    if wanted("probes") {
+        probing::print(random, subject.as_ref(), rounds);
+    }
+    if wanted("sharings") {
+        sharings::print(random, subject.as_ref(), rounds);
+    }
+    if wanted("count") {
+        counting::print(subject.as_ref(), rounds);
+    }
 }

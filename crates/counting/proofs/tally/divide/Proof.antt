@@ -1,4 +1,5 @@
 -- Under eight free bits one batch has all pairs; from there on each has 256.
+use mathlib.Core.Path.{refl}
 use native.Mathlib.Omega.{arith}
 use Rattle.counting.proofs.tally.divide.Statement.{statement}
 use Rattle.counting.proofs.tally.divide.Tie as tie
@@ -9,6 +10,6 @@ divide-spec =
     tie.close
     (tie.spec
     (λ c κs. omega arith)
-    (λ c. one-batch _ _ (c .before .if1 .taken) (c .power .ensures .0))
+    (λ c. (refl, one-batch _ _ (c .before .if1 .taken) (c .power .ensures .0)))
     (λ c κs. omega arith)
-    (λ c. whole-batches _ _ (c .before .if1 .left) (c .power2 .ensures .0)))
+    (λ c. (refl, whole-batches _ _ (c .before .if1 .left) (c .power2 .ensures .0))))

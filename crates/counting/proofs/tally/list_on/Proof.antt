@@ -1,17 +1,19 @@
 -- The table is prepared once; each set is tallied from 0, and the list is written from the two tallies.
-use mathlib.Core.Path.{_≡_, refl, _∙_}
-use mathlib.Core.Bool.{false}
-use Prim.Native.Nat.{_*_, _≤_}
+use mathlib.Core.Path.{_≡_, refl, sym, ap, _∙_}
+use mathlib.Core.Bool.{Bool, false}
+use Prim.Native.Nat.{_^_, _≤_}
 use native.Mathlib.Omega.{arith}
 use borrow.Author.Needs.{needs}
 use Rattle.gadgets.specs.Internal.Accepting.{circuitIn}
 use Rattle.counting.specs.Counting.{pairCount}
-use Rattle.counting.specs.Internal.Tallying.{Prepared, Ready}
+use Rattle.counting.specs.Internal.Tallying.{Prepared, Ready, Enumerates}
+use Rattle.counting.specs.Internal.Linear.{Surveyed, ShiftsIn}
 use Rattle.counting.proofs.tally.list_on.Statement.{statement}
 use Rattle.counting.proofs.tally.list_on.Tie as tie
 use Rattle.counting.proofs.Numbered.{pow-mono}
 use Rattle.counting.proofs.Batches.{pairs-are, pairs-few}
-use Rattle.counting.proofs.Tallying.{zeros-at}
+use Rattle.counting.proofs.Tallying.{varied-most, enumerates}
+use Rattle.counting.proofs.Surveying.{surveyed-by}
 use Rattle.counting.proofs.Counts.{set-countable, lists}
 
 -- back to the plan and the start
@@ -21,10 +23,16 @@ start c = c .before .before .before .before .before
 abbrev planned : tie.After-prepare → tie.After-plan-pairs
 planned c = c .before .before .before
 
-abbrev first : tie.After-tally-set → tie.After-prepare
-first c = c .before .before .before .before .before .before .before
+abbrev expanded : tie.After-find-factors → tie.After-prepare
+expanded c = c .before .before .before .before .before .before
 
-abbrev both : tie.After-tally-set2 → tie.After-tally-set
+abbrev found : tie.After-list-shifts → tie.After-find-factors
+found c = c .before .before .before .before .before
+
+abbrev first : tie.After-tally-pairs → tie.After-list-shifts
+first c = c .before .before .before .before
+
+abbrev both : tie.After-tally-pairs2 → tie.After-tally-pairs
 both c = c .before .before .before .before
 
 prepare-requires : tie.Need-prepare-requires
@@ -60,34 +68,52 @@ ready : (c : tie.After-prepare) → let a = start (planned c) .args in
 ready c = let a = start (planned c) .args in record { table = a .table .now; secrets = a .secrets .now; prepared = prepared c }
 
 -- the number of pairs
-pairs : (c : tie.After-plan-pairs) → c .plan-pairs .result .batches * c .plan-pairs .result .lanes ≡ pairCount (circuitIn (start c .args .table .now))
+pairs : (c : tie.After-plan-pairs) → 2 ^ c .plan-pairs .result .free ≡ pairCount (circuitIn (start c .args .table .now))
 pairs c = pairs-are (c .plan-pairs .ensures)
 
 few : (c : tie.After-plan-pairs) → (1 ≤ pairCount (circuitIn (start c .args .table .now))) × (pairCount (circuitIn (start c .args .table .now)) ≤ 65536)
 few c = pairs-few (start c .args .table .now) (start c .pre .0 .numbered .few)
 
+free-few : (c : tie.After-plan-pairs) → c .plan-pairs .result .free ≤ 16
+free-few c = omega (arith, c .plan-pairs .ensures .free-is, start c .pre .0 .numbered .few)
+
+-- the pairs that are gone through, and the free bits that are only added
+enumerated : (c : tie.After-list-shifts) → let q = expanded (found c) in Enumerates (planned q .plan-pairs .result .free) (c .before .before .before .divide .result)
+enumerated c =
+    let v = c .before .before .before in
+    let (same, d) = v .divide .ensures in
+    enumerates _ same (v .before .count-factors .ensures) d
+
+surveyed : (c : tie.After-list-shifts) → let q = expanded (found c) in let a = start (planned q) .args in
+    Surveyed (q .prepare .last .1 .1 .1 .1 .1 .1 .0) (q .prepare .last .1 .1 .1 .1 .1 .1 .1 .0) (a .read .now) (q .prepare .result) (a .found) (c .before .before .before .divide .result .factors)
+surveyed c = surveyed-by (c .before .before .before .divide .ensures .0) (found c .find-factors .ensures)
+
 write-list-requires : tie.Need-write-list-requires
 write-list-requires c κs =
     let w = c .before in
-    let t = w .before .before .before in
+    let v = w .before .before .before in
+    let t = v .before in
     let o = both t in
-    let q = first o in
+    let q = expanded (found (first o)) in
     let p = planned q in
     let a = start p .args in
     let most = pow-mono 8 (a .found) (start p .pre .0 .read-in .few) in
-    (omega (arith, w .power .ensures .0, most), omega (arith, w .power .ensures .0, most, start p .pre .0 .room), omega (arith, pairs p, few p), omega (arith, pairs p, few p), o .tally-set .ensures (a .table .now) (a .secrets .now) (prepared q) .few, t .tally-set2 .ensures (a .table .now) (a .secrets .now) (prepared q) .few)
+    let n = v .power .ensures .0 in
+    (omega (arith, w .power2 .ensures .0, most), omega (arith, w .power2 .ensures .0, most, start p .pre .0 .room), omega (arith, n, pairs p, few p), omega (arith, n, pairs p, few p), o .tally-pairs .ensures (a .table .now) (a .secrets .now) (prepared q) .few, t .tally-pairs2 .ensures (a .table .now) (a .secrets .now) (prepared q) .few)
 
 returns : tie.Need-returns
 returns c =
-    let v = c .before .before in
-    let w = v .before .before in
-    let t = w .before .before .before in
+    let u = c .before .before in
+    let w = u .before .before in
+    let v = w .before .before .before in
+    let t = v .before in
     let o = both t in
-    let q = first o in
+    let q = expanded (found (first o)) in
     let p = planned q in
     let a = start p .args in
     let n = start p .pre .0 in
-    (pairs p, lists (n .numbered) (a .secrets .now) (n .sized) (n .bit) (n .read-in) (o .tally-set .ensures (a .table .now) (a .secrets .now) (prepared q)) (t .tally-set2 .ensures (a .table .now) (a .secrets .now) (prepared q)) _ (n .room) _ _ (w .power .ensures .0) (pairs p) (v .write-list .ensures))
+    let all = v .power .ensures .0 ∙ pairs p in
+    (all, lists (n .numbered) (a .secrets .now) (n .sized) (n .bit) (n .read-in) (o .tally-pairs .ensures (a .table .now) (a .secrets .now) (prepared q)) (t .tally-pairs2 .ensures (a .table .now) (a .secrets .now) (prepared q)) _ (n .room) _ _ (w .power2 .ensures .0) all (u .write-list .ensures))
 
 pub list-on-spec : {M : Type 1} → statement M
 list-on-spec =
@@ -95,12 +121,16 @@ list-on-spec =
     (tie.spec
     (λ c κs. search needs)
     prepare-requires
-    (λ c. let p = planned (c .before .before .before) in record { fits = omega (arith, pairs p, few p) })
-    (λ c κs. (ready (c .before .before .before .before .before .before), refl, zeros-at 256))
-    (λ c κs. (ready (first (c .before .before .before)), refl, zeros-at 256))
-    (λ c κs. omega (arith, start (planned (first (both (c .before .before)))) .pre .0 .read-in .few))
-    (λ c. let p = planned (first (both (c .before .before .before))) in record { fits = omega (arith, pairs p, few p) })
+    (λ c κs. let q = c .before .before .before .before .before in let p = prepared q in (p .read-in .few, omega (arith, p .read-in .few, p .read-in .sized), (λ i l. omega (arith, p .read-in .made i l, p .room)), p .expanded .few, p .terms-sized, p .expanded .before, p .expanded .reads-before))
+    (λ c κs. free-few (planned (expanded c)))
+    (λ c κs. let f = c .before in omega (arith, c .count-factors .ensures, varied-most (f .find-factors .result) _ (free-few (planned (expanded f)))))
+    (λ c κs. let q = expanded (c .before .before .before .before) in let p = prepared q in (p .read-in .few, omega (arith, p .read-in .few, p .read-in .sized), free-few (planned q), (λ i l. omega (arith, p .read-in .made i l, p .room))))
+    (λ c κs. let s = c .before .before .before in (ready (expanded (found s)), enumerated s, surveyed s, s .list-shifts .ensures))
+    (λ c κs. let s = first (c .before .before .before) in (ready (expanded (found s)), enumerated s, surveyed s, s .list-shifts .ensures))
+    (λ c κs. free-few (planned (expanded (found (first (both c))))))
+    (λ c κs. let p = planned (expanded (found (first (both (c .before .before .before))))) in omega (arith, start p .pre .0 .read-in .few))
+    (λ c. let v = c .before .before .before in let p = planned (expanded (found (first (both (v .before))))) in record { fits = omega (arith, v .power .ensures) })
     write-list-requires
-    (λ c. search needs)
+    (λ c. expanded (found (first (both (c .before .before .before .before .before .before .before .before)))) .prepare .kept .1 .1 .1 .1 .1 .1 .0)
     (λ c. search needs)
     returns)

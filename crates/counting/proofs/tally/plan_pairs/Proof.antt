@@ -22,16 +22,9 @@ pub plan-pairs-spec : {M : Type 1} → statement M
 plan-pairs-spec =
     tie.close
     (tie.spec
-    (λ c. omega (arith, headed (c .before .before .pre .accepted)))
-    (λ c. record { fits = omega (arith, second-most (c .before .before .pre .accepted)) })
-    (λ c. omega (arith, second-least (c .before .before .pre .accepted)))
-    (λ c. record { fits = omega (arith, numbers (c .before .before) .free, c .before .before .pre .few) })
-    (λ c. record { fits = omega (arith, numbers (c .before .before) .free, c .before .before .pre .few) })
-    (λ c κs. omega (arith, numbers (c .before .before) .free, c .before .before .pre .few))
-    (λ c. let s = c .before .before .before in
-    record {
-      others-are = numbers s .others;
-      start-is = ap (λ n. (nth (s .args .table .now) 1 - 1) * n) (s .pre .inputs-are);
-      free-is = numbers s .free;
-      divides = c .divide .ensures;
-    }))
+    (λ c. omega (arith, headed (c .before .pre .accepted)))
+    (λ c. record { fits = omega (arith, second-most (c .before .pre .accepted)) })
+    (λ c. omega (arith, second-least (c .before .pre .accepted)))
+    (λ c. record { fits = omega (arith, numbers (c .before) .free, c .before .pre .few) })
+    (λ c. record { fits = omega (arith, numbers (c .before) .free, c .before .pre .few) })
+    (λ c. let s = c .before in record { others-are = numbers s .others; start-is = ap (λ n. (nth (s .args .table .now) 1 - 1) * n) (s .pre .inputs-are); free-is = numbers s .free }))

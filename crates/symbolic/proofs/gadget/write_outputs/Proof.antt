@@ -1,7 +1,8 @@
 -- The loop's invariant: the outputs of the shares below i are written.
-use mathlib.Core.Path.{_≡_}
+use mathlib.Core.Path.{_≡_, ap}
 use Prim.Native.Nat.{_+_, _-_, _≤_, _<_}
 use native.Mathlib.Omega.{arith}
+use lib.Bits.{bitXor}
 use lib.ListN.{length}
 use Rattle.circuit.specs.Limits.{wireLimit}
 use Rattle.gadgets.specs.Internal.Places.{outAt}
@@ -28,17 +29,17 @@ inside : (c : tie.In-loop Inv-loop μ-loop) → let s = entry (c .before) .args 
 inside c = let p = entry (c .before) .pre in
     (omega (arith, p .0 .roomy, c .loop-test .taken), c .before .loop .inv .1 .sums-sized, p .0 .few, omega (arith, p .2, c .loop-test .taken))
 
-abbrev turn : tie.After-slice-known4 Inv-loop μ-loop → tie.In-loop Inv-loop μ-loop
-turn c = c .before .before .before .before .before .before .before
+abbrev turn : tie.After-variable Inv-loop μ-loop → tie.In-loop Inv-loop μ-loop
+turn c = c .before .before .before .before .before .before .before .before
 
 loop-again : tie.Need-loop-again Inv-loop μ-loop
 loop-again c =
-    let w = c .before .before .before .before in
+    let w = c .before .before .before .before .before in
     let a = w .before .before .before .before in
     let l = a .before .before in (
       omega (arith, a .before .loop-test .taken),
       rw (w .write-term .ensures) (outputs-next (l .loop .inv .1) _ _ _ _ _ (inside (a .before) .0) (omega (arith, entry l .pre .1, inside (a .before) .3)) (early a)
-          (a .word-a .ensures, l .before .add-row .ensures, w .before .before .add-masks .ensures, c .out-at .ensures .0, c .before .variable .ensures)),
+          (a .word-a .ensures, l .before .add-row .ensures, w .before .before .add-masks .ensures, c .out-at .ensures .0, ap (λ n. bitXor n (w .before .before .add-masks .result)) (c .before .before .variable .ensures))),
     )
 
 pub write-outputs-spec : {M : Type 1} → statement M
@@ -55,9 +56,9 @@ write-outputs-spec =
     (λ c κs. let p = entry (c .before .before .before) .pre .0 in ((omega (arith, p .near), omega (arith, p .two), p .most), c .before .before .loop-test .taken, p .bits))
     (λ c. record { fits = omega (arith, inside (c .before .before .before .before)) })
     (λ c κs. let t = c .before .before .before .before in omega (arith, inside t .3, t .before .loop .inv .1 .terms-sized, entry (t .before) .pre .1))
-    (λ c. record { fits = omega (arith, inside (turn c) .3) })
-    (λ c. record { fits = omega (arith, inside (turn c) .3) })
-    (λ c κs. omega (arith, inside (turn c) .3))
+    (λ c. let t = c .before .before .before .before .before .before .before in record { fits = omega (arith, inside t .3) })
+    (λ c. let t = c .before .before .before .before .before .before .before in record { fits = omega (arith, inside t .3) })
+    (λ c κs. let t = c .before .before .before .before .before .before .before in omega (arith, inside t .3))
     (λ c κs. let t = turn (c .before) in let p = entry (t .before) .pre .0 in ((omega (arith, p .roomy, p .few), omega (arith, p .two), p .most), t .loop-test .taken))
     (λ c. record { fits = omega (arith, c .out-at .ensures .0, inside (turn (c .before .before))) })
     (λ c. omega (arith, c .out-at .ensures .0, inside (turn (c .before .before))))

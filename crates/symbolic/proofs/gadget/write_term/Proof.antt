@@ -16,8 +16,4 @@ write-term-spec =
     (λ c. record { fits = omega (arith, c .good .0) })
     (λ c. record { fits = omega (arith, c .good .0) })
     (λ c. simp length-set (omega arith))
-    (λ c. record { fits = omega (arith, c .good .0) })
-    (λ c. record { fits = omega (arith, c .good .0) })
-    (λ c. record { fits = omega (arith, c .good .0) })
-    (λ c. simp length-set (omega arith))
     (λ c. search needs) (λ c. search needs))
