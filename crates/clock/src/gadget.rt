@@ -10,7 +10,7 @@ ghost use Rattle.gadgets.specs.Internal.Frames.{Small, RowBefore, Roomy};
 ghost use Rattle.frames.specs.declared.walk.Frame.the-variants as frame;
 ghost use Rattle.clock.specs.Internal.Running.{Runs};
 ghost use Rattle.clock.specs.Internal.Parts.{Draws, Products, Crosses, CrossesRow, Rows, Holds, Framed};
-use gadgets::equations;
+use gadgets::gate_values;
 use gadgets::places;
 use simulation::gadget::copy;
 use simulation::gadget::sums;
@@ -40,7 +40,7 @@ fn share_products(values: &mut [u8], bank: &mut [u8], first: usize, d: usize, op
         let x = places::word_a(ops, i);
         let y = places::word_b(ops, d, i);
         let at = places::product_at(d, first, i);
-        let m = equations::m(values[x], values[at]);
+        let m = gate_values::m(values[x], values[at]);
         bank[at] = values[y];
         values[at + 1] = m;
         bank[at + 2] = m;
@@ -54,9 +54,9 @@ fn cross(values: &mut [u8], bank: &mut [u8], at: usize, a: u8, b: u8, r: u8, sho
     requires { ⌜ (at + 6 ≤ length (now values)) × (at + 6 ≤ length (now bank)) ⌝ }
     ensures { λ s. ⌜ Crosses at a b r shown (now (values .entry)) (now (bank .entry)) (now (values .exit)) (now (bank .exit)) s ⌝ }
 {
-    let u = equations::u(a, shown);
-    let v = equations::v(b, r);
-    let w = equations::w(a, values[at + 3]);
+    let u = gate_values::u(a, shown);
+    let v = gate_values::v(b, r);
+    let w = gate_values::w(a, values[at + 3]);
     values[at] = u;
     bank[at + 1] = u;
     values[at + 2] = v;

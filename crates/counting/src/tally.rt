@@ -1,9 +1,10 @@
 // All pairs of a sharing of given secret bits and a tape: how often the read wires show each combination. Those that are gone through
 // are taken 256 at once.
 ghost use mathlib.Core.Path.{_≡_};
+ghost use mathlib.Core.Bool.{true, false};
 ghost use mathlib.Core.List.{List};
 ghost use Prim.Native.Nat.{ℕ, _≤_, _<_};
-ghost use lib.ListN.{length, take};
+ghost use lib.ListN.{length, take, replicate};
 ghost use Rattle.circuit.specs.Limits.{wireLimit};
 ghost use Rattle.gadgets.specs.Internal.Accepting.{circuitIn};
 ghost use Rattle.counting.specs.Counting.{pairCount};
@@ -103,14 +104,14 @@ fn tally_set(
     plan: Plan,
     enumeration: Enumeration,
     second: bool,
-) -> [u32; 256]
-    requires { ⌜ Ready (now read) (now sums) (now terms) outputs found plan × Enumerates (plan .free) enumeration ⌝ }
-    ensures { λ r. ⌜ ((table secrets : List ℕ) → Prepared table secrets (now (read .entry)) (now (sums .entry)) (now (terms .entry)) outputs found plan
-        → TalliedSome table (setOf table second secrets) (take found (now (read .entry))) (enumeration .factors) (plan .free) r) ⌝ }
+    words: &mut [u64; 256],
+    shown: &mut [u64; 32],
+    tally: &mut [u32; 256],
+)
+    requires { ⌜ Ready (now read) (now sums) (now terms) outputs found plan × Enumerates (plan .free) enumeration × (length (now words) ≡ 256) × (length (now shown) ≡ 32) × (now tally ≡ replicate 256 0) ⌝ }
+    ensures { λ _. ⌜ ((table secrets : List ℕ) → Prepared table secrets (now (read .entry)) (now (sums .entry)) (now (terms .entry)) outputs found plan
+        → TalliedSome table (setOf table second secrets) (take found (now (read .entry))) (enumeration .factors) (plan .free) (now (tally .exit))) × (length (now (words .exit)) ≡ 256) × (length (now (shown .exit)) ≡ 32) ⌝ }
 {
-    let mut tally = [0u32; 256];
-    let mut words = [0u64; 256];
-    let mut shown = [0u64; 32];
     let mut batch = 0;
     while batch < enumeration.batches {
         show_batch(
@@ -123,17 +124,16 @@ fn tally_set(
             enumeration,
             second,
             batch,
-            &mut words,
-            &mut shown,
+            words,
+            shown,
         );
-        lanes::add_batch(&mut tally, &shown, found, enumeration.lanes);
+        lanes::add_batch(tally, shown, found, enumeration.lanes);
         batch += 1;
     }
-    tally
 }
 
-// The same of all pairs, given by which numbers the free bits move what is shown.
-fn tally_pairs(
+// Counts, from 0, how many of all pairs do, under both sets, given by which numbers the free bits move what is shown.
+fn tally_both(
     sums: &[u64],
     terms: &[u64; TERMS],
     outputs: usize,
@@ -142,15 +142,44 @@ fn tally_pairs(
     plan: Plan,
     enumeration: Enumeration,
     shifts: &[usize; 16],
-    second: bool,
-) -> [u32; 256]
-    requires { ⌜ Ready (now read) (now sums) (now terms) outputs found plan × Enumerates (plan .free) enumeration × Surveyed (now sums) (now terms) (now read) outputs found (enumeration .factors) × ShiftsIn (now sums) (now read) found (plan .free) (now shifts) ⌝ }
-    ensures { λ r. ⌜ ((table secrets : List ℕ) → Prepared table secrets (now (read .entry)) (now (sums .entry)) (now (terms .entry)) outputs found plan
-        → Tallied table (setOf table second secrets) (take found (now (read .entry))) r) ⌝ }
+    first: &mut [u32; 256],
+    second: &mut [u32; 256],
+)
+    requires { ⌜ Ready (now read) (now sums) (now terms) outputs found plan × Enumerates (plan .free) enumeration × Surveyed (now sums) (now terms) (now read) outputs found (enumeration .factors) × ShiftsIn (now sums) (now read) found (plan .free) (now shifts)
+        × (now first ≡ replicate 256 0) × (now second ≡ replicate 256 0) ⌝ }
+    ensures { λ _. ⌜ ((table secrets : List ℕ) → Prepared table secrets (now (read .entry)) (now (sums .entry)) (now (terms .entry)) outputs found plan
+        → Tallied table (setOf table false secrets) (take found (now (read .entry))) (now (first .exit)) × Tallied table (setOf table true secrets) (take found (now (read .entry))) (now (second .exit))) ⌝ }
 {
-    let mut tally = tally_set(sums, terms, outputs, read, found, plan, enumeration, second);
-    linear::fold(&mut tally, enumeration.factors, shifts, plan.free, found);
-    tally
+    let mut words = [0u64; 256];
+    let mut shown = [0u64; 32];
+    tally_set(
+        sums,
+        terms,
+        outputs,
+        read,
+        found,
+        plan,
+        enumeration,
+        false,
+        &mut words,
+        &mut shown,
+        first,
+    );
+    tally_set(
+        sums,
+        terms,
+        outputs,
+        read,
+        found,
+        plan,
+        enumeration,
+        true,
+        &mut words,
+        &mut shown,
+        second,
+    );
+    linear::fold(first, enumeration.factors, shifts, plan.free, found);
+    linear::fold(second, enumeration.factors, shifts, plan.free, found);
 }
 
 // Lists the counts under both sets of secret bits, on a given sheet, and answers how many pairs a set has.
@@ -175,7 +204,9 @@ fn list_on(
     let factors = linear::find_factors(sums, &terms, outputs, read, found);
     let enumeration = divide(factors, linear::count_factors(factors, free));
     let shifts = linear::list_shifts(sums, read, found, free);
-    let first = tally_pairs(
+    let mut first = [0u32; 256];
+    let mut second = [0u32; 256];
+    tally_both(
         sums,
         &terms,
         outputs,
@@ -184,18 +215,8 @@ fn list_on(
         plan,
         enumeration,
         &shifts,
-        false,
-    );
-    let second = tally_pairs(
-        sums,
-        &terms,
-        outputs,
-        read,
-        found,
-        plan,
-        enumeration,
-        &shifts,
-        true,
+        &mut first,
+        &mut second,
     );
     let pairs = numbers::power(free);
     listing::write_list(&first, &second, numbers::power(found), pairs as u32, counts);

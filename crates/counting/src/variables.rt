@@ -21,12 +21,16 @@ fn write_same(words: &mut [u64; 256], at: usize, word: u64)
     words[at + 3] = word;
 }
 
-// The words of a free bit that varies, the one of so many before it, in the pairs of a batch.
+// The words of a free bit that varies, the one of so many before it, in the pairs of a batch. The lowest six are the same in all words.
 fn write_free(words: &mut [u64; 256], i: usize, rank: usize, batch: usize)
     requires { ⌜ (i < 16) × (rank < 16) × (batch ≤ 65536) × (length (now words) ≡ 256) ⌝ }
     ensures { λ _. ⌜ now (words .exit) ≡ fourAt (now (words .entry)) (4 * i) (freeWord rank (4 * batch)) (freeWord rank (4 * batch + 1)) (freeWord rank (4 * batch + 2)) (freeWord rank (4 * batch + 3)) ⌝ }
 {
     let at = 4 * i;
+    if rank < 6 {
+        write_same(words, at, pairs::free_word(rank, 0));
+        return;
+    }
     let first = 4 * batch;
     words[at] = pairs::free_word(rank, first);
     words[at + 1] = pairs::free_word(rank, first + 1);

@@ -1,3 +1,5 @@
+-- What the gates inside AND are taken of
+pub mod Equations
 -- Where the gadgets' wires stand, and the gates there
 pub mod Places
 pub mod Gates

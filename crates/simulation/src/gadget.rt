@@ -7,7 +7,7 @@ ghost use Rattle.gadgets.specs.Internal.Places.{wordA, wordB, productAt, crossS
 ghost use Rattle.gadgets.specs.Internal.Frames.{Small, RowBefore, Roomy};
 ghost use Rattle.simulation.specs.Internal.Filling.{Fills, Copied, Drawn, ShareProducts, Multiplied, AndValues, Masked, Held, RefValues};
 ghost use Rattle.simulation.specs.Internal.Gadgets.{Crosses, CrossesRow, Sums};
-use gadgets::equations;
+use gadgets::gate_values;
 use gadgets::places;
 
 // So many bytes, from a place of another buffer on.
@@ -47,7 +47,7 @@ fn share_products(values: &mut [u8], first: usize, d: usize, ops: &[u16])
         let x = places::word_a(ops, i);
         let y = places::word_b(ops, d, i);
         let b = values[y];
-        let m = equations::m(values[x], b);
+        let m = gate_values::m(values[x], b);
         let at = places::product_at(d, first, i);
         values[at] = b;
         values[at + 1] = m;
@@ -61,9 +61,9 @@ fn cross(values: &mut [u8], at: usize, a: u8, b: u8, r: u8) -> u8
     requires { ⌜ at + 6 ≤ length (now values) ⌝ }
     ensures { λ s. ⌜ Crosses at a b r (now (values .entry)) (now (values .exit)) s ⌝ }
 {
-    let u = equations::u(a, r);
-    let v = equations::v(b, r);
-    let w = equations::w(a, v);
+    let u = gate_values::u(a, r);
+    let v = gate_values::v(b, r);
+    let w = gate_values::w(a, v);
     values[at] = u;
     values[at + 1] = u;
     values[at + 2] = v;

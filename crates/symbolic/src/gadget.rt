@@ -14,6 +14,8 @@ ghost use Rattle.gadgets.specs.Internal.Places.{wordA, wordB, maskAt, crossStar
 ghost use Rattle.gadgets.specs.Internal.Frames.{Small, RowBefore};
 ghost use Rattle.simulation.specs.Internal.Filling.{wordSum};
 ghost use Rattle.symbolic.specs.Internal.Terms.{alone, times, productTerm, crossTerm, shareAt, innerTerm, withTerm, AndAsks, RefAsks, readSums, readTerms, ReadsInside, WritesOutputs, Copies, Refreshes};
+use gadgets::equations;
+use gadgets::equations::Factors;
 use gadgets::places;
 
 // The sum that is 1.
@@ -38,12 +40,12 @@ fn alone(sum: u64) -> Term
 }
 
 // A product by itself.
-fn times(one: u64, other: u64) -> Term
-    ensures { λ r. ⌜ r ≡ times one other ⌝ }
+fn times(factors: Factors) -> Term
+    ensures { λ r. ⌜ r ≡ times (factors .one) (factors .other) ⌝ }
 {
     Term {
-        one,
-        other,
+        one: factors.one,
+        other: factors.other,
         more: 0,
     }
 }
@@ -99,7 +101,10 @@ fn add_row(sums: &[u64], ops: &[u16], d: usize) -> u64
 fn product_term(a: u64, b: u64, part: usize) -> Term
     ensures { λ r. ⌜ r ≡ productTerm a b part ⌝ }
 {
-    if part < 1 { alone(b) } else { times(a, b) }
+    if part < 1 {
+        return alone(b);
+    }
+    times(equations::m(a, b))
 }
 
 // u, U, v, V, w or W, from the sums that a, b and r are.
@@ -107,12 +112,13 @@ fn cross_term(a: u64, b: u64, r: u64, part: usize) -> Term
     ensures { λ s. ⌜ s ≡ crossTerm a b r part ⌝ }
 {
     if part < 2 {
-        return times(ONE ^ a, r);
+        return times(equations::u(ONE, a, r));
     }
+    let v = equations::v(b, r);
     if part < 4 {
-        return alone(b ^ r);
+        return alone(v);
     }
-    times(a, b ^ r)
+    times(equations::w(a, v))
 }
 
 // A wire B, m or M of the share i.

@@ -29,11 +29,8 @@ expanded c = c .before .before .before .before .before .before
 abbrev found : tie.After-list-shifts → tie.After-find-factors
 found c = c .before .before .before .before .before
 
-abbrev first : tie.After-tally-pairs → tie.After-list-shifts
-first c = c .before .before .before .before
-
-abbrev both : tie.After-tally-pairs2 → tie.After-tally-pairs
-both c = c .before .before .before .before
+abbrev listed : tie.After-tally-both → tie.After-list-shifts
+listed c = c .before .before .before .before .before .before
 
 prepare-requires : tie.Need-prepare-requires
 prepare-requires c κs =
@@ -93,13 +90,13 @@ write-list-requires c κs =
     let w = c .before in
     let v = w .before .before .before in
     let t = v .before in
-    let o = both t in
-    let q = expanded (found (first o)) in
+    let q = expanded (found (listed t)) in
     let p = planned q in
     let a = start p .args in
     let most = pow-mono 8 (a .found) (start p .pre .0 .read-in .few) in
     let n = v .power .ensures .0 in
-    (omega (arith, w .power2 .ensures .0, most), omega (arith, w .power2 .ensures .0, most, start p .pre .0 .room), omega (arith, n, pairs p, few p), omega (arith, n, pairs p, few p), o .tally-pairs .ensures (a .table .now) (a .secrets .now) (prepared q) .few, t .tally-pairs2 .ensures (a .table .now) (a .secrets .now) (prepared q) .few)
+    let (one, other) = t .tally-both .ensures (a .table .now) (a .secrets .now) (prepared q) in
+    (omega (arith, w .power2 .ensures .0, most), omega (arith, w .power2 .ensures .0, most, start p .pre .0 .room), omega (arith, n, pairs p, few p), omega (arith, n, pairs p, few p), one .few, other .few)
 
 returns : tie.Need-returns
 returns c =
@@ -107,13 +104,13 @@ returns c =
     let w = u .before .before in
     let v = w .before .before .before in
     let t = v .before in
-    let o = both t in
-    let q = expanded (found (first o)) in
+    let q = expanded (found (listed t)) in
     let p = planned q in
     let a = start p .args in
     let n = start p .pre .0 in
     let all = v .power .ensures .0 ∙ pairs p in
-    (all, lists (n .numbered) (a .secrets .now) (n .sized) (n .bit) (n .read-in) (o .tally-pairs .ensures (a .table .now) (a .secrets .now) (prepared q)) (t .tally-pairs2 .ensures (a .table .now) (a .secrets .now) (prepared q)) _ (n .room) _ _ (w .power2 .ensures .0) all (u .write-list .ensures))
+    let (one, other) = t .tally-both .ensures (a .table .now) (a .secrets .now) (prepared q) in
+    (all, lists (n .numbered) (a .secrets .now) (n .sized) (n .bit) (n .read-in) one other _ (n .room) _ _ (w .power2 .ensures .0) all (u .write-list .ensures))
 
 pub list-on-spec : {M : Type 1} → statement M
 list-on-spec =
@@ -125,12 +122,11 @@ list-on-spec =
     (λ c κs. free-few (planned (expanded c)))
     (λ c κs. let f = c .before in omega (arith, c .count-factors .ensures, varied-most (f .find-factors .result) _ (free-few (planned (expanded f)))))
     (λ c κs. let q = expanded (c .before .before .before .before) in let p = prepared q in (p .read-in .few, omega (arith, p .read-in .few, p .read-in .sized), free-few (planned q), (λ i l. omega (arith, p .read-in .made i l, p .room))))
-    (λ c κs. let s = c .before .before .before in (ready (expanded (found s)), enumerated s, surveyed s, s .list-shifts .ensures))
-    (λ c κs. let s = first (c .before .before .before) in (ready (expanded (found s)), enumerated s, surveyed s, s .list-shifts .ensures))
-    (λ c κs. free-few (planned (expanded (found (first (both c))))))
-    (λ c κs. let p = planned (expanded (found (first (both (c .before .before .before))))) in omega (arith, start p .pre .0 .read-in .few))
-    (λ c. let v = c .before .before .before in let p = planned (expanded (found (first (both (v .before))))) in record { fits = omega (arith, v .power .ensures) })
+    (λ c κs. let s = c .before .before .before .before .before in (ready (expanded (found s)), enumerated s, surveyed s, s .list-shifts .ensures, refl, refl))
+    (λ c κs. free-few (planned (expanded (found (listed c)))))
+    (λ c κs. let p = planned (expanded (found (listed (c .before .before .before)))) in omega (arith, start p .pre .0 .read-in .few))
+    (λ c. let v = c .before .before .before in record { fits = omega (arith, v .power .ensures) })
     write-list-requires
-    (λ c. expanded (found (first (both (c .before .before .before .before .before .before .before .before)))) .prepare .kept .1 .1 .1 .1 .1 .1 .0)
+    (λ c. expanded (found (listed (c .before .before .before .before .before .before .before .before))) .prepare .kept .1 .1 .1 .1 .1 .1 .0)
     (λ c. search needs)
     returns)

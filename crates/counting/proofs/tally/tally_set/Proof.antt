@@ -14,11 +14,11 @@ use Rattle.counting.proofs.Batches.{sizes}
 use Rattle.counting.proofs.Tallying.{zeros-at, TalliedTo, tallied-start, tallied-next, tallied-small, tallied-end, varied-most}
 
 abbrev Inv-loop : tie.InvT-loop
-Inv-loop sums terms outputs read found plan enumeration second tally₀ words₀ shown₀ batch₀ tally words shown batch = (batch ≤ enumeration .batches) × (length words ≡ 256) × (length shown ≡ 32)
+Inv-loop sums terms outputs read found plan enumeration second words₀ shown₀ tally₀ batch₀ words shown tally batch = (batch ≤ enumeration .batches) × (length words ≡ 256) × (length shown ≡ 32)
     × ((table secrets : List ℕ) → Prepared table secrets read sums terms outputs found plan → TalliedTo table (setOf table second secrets) (take found read) (enumeration .factors) (plan .free) (replicate 256 0) tally batch (enumeration .lanes))
 
 abbrev μ-loop : tie.MeasureT-loop
-μ-loop sums terms outputs read found plan enumeration second tally₀ words₀ shown₀ batch₀ tally words shown batch = enumeration .batches - batch
+μ-loop sums terms outputs read found plan enumeration second words₀ shown₀ tally₀ batch₀ words shown tally batch = enumeration .batches - batch
 
 -- back from a turn, and the counts for some table there
 abbrev start : tie.At-loop Inv-loop μ-loop → tie.Start Inv-loop μ-loop
@@ -61,10 +61,10 @@ tally-set-spec =
     (tie.spec
     Inv-loop
     μ-loop
-    (λ c. (omega arith, refl, refl, λ table secrets p. tallied-start refl (zeros-at 256)))
+    (λ c. let p = c .before .pre in (omega arith, p .2, p .3, λ table secrets q. rw (p .4) (tallied-start refl (zeros-at 256))))
     (λ c κs. let l = c .before .before .before .before in (ready l, start l .pre .1, omega arith, l .loop .inv .1, l .loop .inv .2))
     add-batch-requires
     (λ c. search needs)
     (λ c. omega arith)
     loop-again
-    (λ c. let l = c .before .before in λ table secrets p. tallied-end (l .loop .inv .3 table secrets p) (start l .pre .1 .divides) (omega arith) (few l)))
+    (λ c. let l = c .before .before in ((λ table secrets p. tallied-end (l .loop .inv .3 table secrets p) (start l .pre .1 .divides) (omega arith) (few l)), l .loop .inv .1, l .loop .inv .2)))
