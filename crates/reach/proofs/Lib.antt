@@ -6,4 +6,6 @@ pub mod Reaching
 pub mod Moved
 pub mod Marking
 pub mod Propagating
+-- Frames listed
+pub mod Listed
 pub mod Showing

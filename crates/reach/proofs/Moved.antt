@@ -21,8 +21,8 @@ use Rattle.gadgets.specs.Internal.Gates.{ProductGates, CrossGates, CrossRowGate
 use Rattle.gadgets.proofs.Bits.{set-low}
 use Rattle.gadgets.proofs.Ranges.{others-is, others-split}
 use Rattle.gadgets.proofs.Slots.{slot-low, slot-high, slot-next, slots-up, row-ends, row-room}
-use Rattle.reach.specs.Internal.Marks.{markAll, propagated, sixApart, outWires, Moving, Moves}
-use Rattle.reach.proofs.Reaching.{moving-gate, moving-stop}
+use Rattle.reach.specs.Internal.Marks.{markAll, propagated, sixApart, outWires, Moving, Moves, Unmarked}
+use Rattle.reach.proofs.Reaching.{moving-gate, moving-stop, moving-unmarked}
 
 pub mark-length : (marks xs : List ℕ) → length (markAll marks xs) ≡ length marks
 mark-length marks [] = refl
@@ -207,18 +207,8 @@ pub drawn-moved : (d first : ℕ) (a : ℕ → ℕ) (marks : List ℕ) → Moves
 drawn-moved d first a marks = moves-at refl (omega arith) (moves-stops first (pairs d) marks (λ g h q l. ap isStop (h .draws q l)))
 
 -- wires with no mark
-pub moves-unmarked : {G : (ℕ → Gate) → Type 0} (from to : ℕ) (marks : List ℕ) → ((x : ℕ) → from ≤ x → x < to → nth marks x < 1) → Moves G from to marks marks
-moves-unmarked from to marks k = record {
-  moved = λ ws probes o h l r m. record {
-    into = m .into;
-    from = m .from;
-    made = m .made;
-    settled = λ x p q. cases (ltb x to)
-        (λ e. absurd (false≢true (sym (set-low (nth marks x) (k x p (ltb-true x to e))) ∙ q)))
-        (λ e. m .settled x (ltb-false x to e) q);
-  };
-  size = refl;
-}
+pub moves-unmarked : {G : (ℕ → Gate) → Type 0} (from to : ℕ) (marks : List ℕ) → Unmarked marks from to → Moves G from to marks marks
+moves-unmarked from to marks k = record { moved = λ ws probes o h l r m. moving-unmarked m k; size = refl }
 
 -- a gate with one operand, marked twice
 pub twice-moved : {G : (ℕ → Gate) → Type 0} (x y : ℕ) (marks : List ℕ) → ((g : ℕ → Gate) → G g → g x ≡ inverse y) → Moves G x (x + 1) marks (propagated x (y ∷ y ∷ []) marks)

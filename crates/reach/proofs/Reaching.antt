@@ -16,7 +16,7 @@ use Rattle.semantics.specs.Probes.{operands, stops}
 use Rattle.semantics.proofs.Reading.{same-test, concatMap-in, probe, stop-reads, gate-reads}
 use Rattle.semantics.proofs.Solving.{nothing, gateAt, OrderedFrom}
 use Rattle.gadgets.proofs.Bits.{set-low, set-high}
-use Rattle.reach.specs.Internal.Marks.{markAll, propagated, Marked, Source, Moving}
+use Rattle.reach.specs.Internal.Marks.{markAll, propagated, Marked, Source, Moving, Unmarked}
 use Rattle.reach.specs.Internal.Reading.{OnStops}
 use Rattle.reach.proofs.Marked.{mark-keep, mark-new, mark-cases, clear-cases, clear-other}
 
@@ -91,6 +91,17 @@ module _ (ws : List Wire) (early : OrderedFrom 0 ws) (probes marks : List ℕ) (
 
   pub moving-stop : isStop g ≡ true → Moving ws probes marks w
   moving-stop e = stays (λ m. e)
+
+-- wires with no mark are passed over
+pub moving-unmarked : {ws : List Wire} {probes marks : List ℕ} {from to : ℕ} → Moving ws probes marks to → Unmarked marks from to → Moving ws probes marks from
+moving-unmarked {marks = marks} {to = to} m k = record {
+  into = m .into;
+  from = m .from;
+  made = m .made;
+  settled = λ x p q. cases (ltb x to)
+      (λ e. absurd (false≢true (sym (set-low (nth marks x) (k x p (ltb-true x to e))) ∙ q)))
+      (λ e. m .settled x (ltb-false x to e) q);
+}
 
 -- at the end the marked wires are the stops read
 pub moving-end : (ws : List Wire) → OrderedFrom 0 ws → (probes marks : List ℕ) → Moving ws probes marks 0 → OnStops ws probes marks

@@ -1,5 +1,6 @@
 -- Marks that end on stops
 pub mod Marks
+pub mod Listing
 pub mod Reading
 -- Bytes looked at together
 pub mod Bytes

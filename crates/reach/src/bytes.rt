@@ -1,5 +1,5 @@
 // Bytes looked at together.
-ghost use Prim.Native.Nat.{_+_, _≤_};
+ghost use Prim.Native.Nat.{_+_, _≤_, _<_};
 ghost use lib.ListN.{length};
 ghost use Rattle.reach.specs.Internal.Bytes.{Most};
 
@@ -22,4 +22,12 @@ fn larger(one: u8, other: u8) -> u8
     ensures { λ r. ⌜ (one ≤ r) × (other ≤ r) ⌝ }
 {
     if one < other { other } else { one }
+}
+
+// Where a block of at most so many begins that ends before a place.
+pub fn block_start(end: usize, size: usize) -> usize
+    requires { ⌜ (0 < end) × (0 < size) ⌝ }
+    ensures { λ r. ⌜ r < end ⌝ }
+{
+    if end < size { 0 } else { end - size }
 }

@@ -1,21 +1,23 @@
 // What probes read: marks on probed wires, moved on frame by frame from the last to the first, and shown where they end.
 ghost use mathlib.Core.Path.{_≡_};
-ghost use Prim.Native.Nat.{ℕ, _+_, _*_, _≤_, _<_};
-ghost use lib.ListN.{length, replicate};
-ghost use Rattle.circuit.specs.Limits.{tableLimit, wireLimit};
+ghost use Prim.Native.Nat.{ℕ, _+_, _≤_, _<_};
+ghost use lib.ListN.{length};
+ghost use Rattle.circuit.specs.Limits.{wireLimit};
+ghost use Rattle.circuit.specs.Lists.{nth};
 ghost use Rattle.circuit.proofs.Base.{In};
 ghost use Rattle.circuit.specs.Circuit.{size};
 ghost use Rattle.gadgets.specs.Internal.Places.{wordA, wordB};
 ghost use Rattle.gadgets.specs.Internal.Gates.{AndGates, FrameGates};
 ghost use Rattle.gadgets.specs.Internal.Frames.{frameWires, Small, FrameEarly};
-ghost use Rattle.gadgets.specs.Internal.Accepting.{AcceptedTable, circuitIn};
-ghost use Rattle.reach.specs.Internal.Marks.{Marked, markAll, Moves, shownAt};
-ghost use Rattle.reach.specs.Internal.Reading.{Lists, Propagates, Reachable, OnStops, Shows};
+ghost use Rattle.gadgets.specs.Internal.Accepting.{circuitIn};
+ghost use Rattle.reach.specs.Internal.Marks.{Marked, markAll, Moves, GatesOf, Unmarked, shownAt};
+ghost use Rattle.reach.specs.Internal.Listing.{Room, Lists};
+ghost use Rattle.reach.specs.Internal.Reading.{Reachable, OnStops, Shows};
 use super::bytes;
+use super::listing::list_frames;
 use super::reach;
 use circuit::TABLE_WORDS;
 use circuit::WIRES;
-use frames::kinds::decide;
 use frames::randoms::random_bits;
 use frames::walk::Frame;
 use frames::walk::Gate;
@@ -25,11 +27,12 @@ use gadgets::places;
 
 // The most frames behind HEAD: each of them, and HEAD too, has at least two words.
 const FRAMES: usize = TABLE_WORDS / 2;
-// Words of a table for which a small list of frames does: the list is set to 0 at each call, and a large one takes longer than such a
-// table.
+// Words of a table for which small lists of frames do: they are set to 0 at each call, and large ones take longer than such a table.
 const FEW_WORDS: usize = 512;
 
 const FEW_FRAMES: usize = FEW_WORDS / 2;
+// Frames or wires that are passed over together where none is marked.
+const BLOCK: usize = 32;
 
 // A mark on each probed wire.
 fn mark(marks: &mut [u8], probes: &[u16])
@@ -82,33 +85,23 @@ fn propagate_frame(marks: &mut [u8], frame: Frame, d: usize, first: usize, ops: 
     }
 }
 
-// The places of an accepted table's frames, and how many there are.
-fn list_frames(table: &[u16], starts: &mut [u16]) -> usize
-    requires { ⌜ AcceptedTable (now table) × (length (now table) ≤ 2 * length (now starts)) ⌝ }
-    ensures { λ r. ⌜ Lists (now (table .entry)) (now (starts .exit)) r ⌝ }
-{
-    let d = table[1];
-    let mut at = 2;
-    let mut count = 0;
-    while at < table.len() {
-        starts[count] = at as u16;
-        count += 1;
-        at += 1 + decide(table[at], d, 0).words;
-    }
-    count
-}
-
-// The marks moved on, from the last frame to the first.
-fn propagate_frames(table: &[u16], starts: &[u16], count: usize, wires: usize, marks: &mut [u8])
-    requires { ⌜ Lists (now table) (now starts) count × (count ≤ length (now starts)) × (wires ≡ size (circuitIn (now table))) × (wires ≤ length (now marks)) ⌝ }
-    ensures { λ _. ⌜ Propagates (circuitIn (now (table .entry)) .wires) (now (marks .entry)) (now (marks .exit)) ⌝ }
+// The marks on the wires of the listed frames from one to another, moved on, the last frame first.
+fn propagate_block(
+    table: &[u16],
+    starts: &[u16],
+    firsts: &[u16],
+    from: usize,
+    to: usize,
+    marks: &mut [u8],
+)
+    requires { ⌜ Lists (now table) (now starts) (now firsts) to × (from ≤ to) × Room (now table) (now starts) (now firsts) × (size (circuitIn (now table)) ≤ length (now marks)) ⌝ }
+    ensures { λ _. ⌜ Moves (GatesOf (now (table .entry))) (nth (now (firsts .entry)) from) (nth (now (firsts .entry)) to) (now (marks .entry)) (now (marks .exit)) ⌝ }
 {
     let d = table[1];
     let n = d as usize;
     let randoms = random_bits(d);
-    let mut w = wires;
-    let mut i = count;
-    while 0 < i {
+    let mut i = to;
+    while from < i {
         i -= 1;
         let walk = Walk {
             d,
@@ -124,39 +117,82 @@ fn propagate_frames(table: &[u16], starts: &[u16], count: usize, wires: usize, m
             }
             Step::Next {
                 frame,
-                shape,
+                shape: _,
                 walk: _,
             } => {
                 let ops = walk.operands(table);
-                w -= shape.wires;
-                propagate_frame(marks, frame, n, w, ops);
+                propagate_frame(marks, frame, n, firsts[i] as usize, ops);
             }
         }
     }
 }
 
-// From clear marks, a mark on exactly the stops that the probes on an accepted table's wires read; the frames are listed on the way.
-fn reach_listed(table: &[u16], starts: &mut [u16], wires: usize, probes: &[u16], marks: &mut [u8])
-    requires { ⌜ Reachable (now table) wires (now probes) (now marks) × (length (now table) ≤ 2 * length (now starts)) ⌝ }
-    ensures { λ _. ⌜ OnStops (circuitIn (now (table .entry)) .wires) (now (probes .entry)) (now (marks .exit)) ⌝ }
+// The marks moved on, from the last listed frame to the first. A block of frames is passed over where no wire of theirs is marked.
+fn propagate_frames(table: &[u16], starts: &[u16], firsts: &[u16], count: usize, marks: &mut [u8])
+    requires { ⌜ Lists (now table) (now starts) (now firsts) count × Room (now table) (now starts) (now firsts) × (size (circuitIn (now table)) ≤ length (now marks)) ⌝ }
+    ensures { λ _. ⌜ Moves (GatesOf (now (table .entry))) 0 (nth (now (firsts .entry)) count) (now (marks .entry)) (now (marks .exit)) ⌝ }
 {
-    let count = list_frames(table, starts);
-    mark(marks, probes);
-    propagate_frames(table, starts, count, wires, marks);
+    let mut to = count;
+    while 0 < to {
+        let from = bytes::block_start(to, BLOCK);
+        let low = firsts[from] as usize;
+        let high = firsts[to] as usize;
+        if 0 < bytes::largest(marks, low, high - low) {
+            propagate_block(table, starts, firsts, from, to, marks);
+        }
+        to = from;
+    }
 }
 
-// The same, with a list of its own.
+// A number of wires behind which none is marked.
+fn marked_end(marks: &[u8], wires: usize) -> usize
+    requires { ⌜ wires ≤ length (now marks) ⌝ }
+    ensures { λ r. ⌜ (r ≤ wires) × Unmarked (now (marks .entry)) r wires ⌝ }
+{
+    let mut end = wires;
+    while 0 < end {
+        let from = bytes::block_start(end, BLOCK);
+        if 0 < bytes::largest(marks, from, end - from) {
+            return end;
+        }
+        end = from;
+    }
+    end
+}
+
+// From clear marks, a mark on exactly the stops that the probes on an accepted table's wires read; the frames that make the marked
+// wires are listed on the way.
+fn reach_listed(
+    table: &[u16],
+    starts: &mut [u16],
+    firsts: &mut [u16],
+    wires: usize,
+    probes: &[u16],
+    marks: &mut [u8],
+)
+    requires { ⌜ Reachable (now table) wires (now probes) (now marks) × Room (now table) (now starts) (now firsts) ⌝ }
+    ensures { λ _. ⌜ OnStops (circuitIn (now (table .entry)) .wires) (now (probes .entry)) (now (marks .exit)) ⌝ }
+{
+    mark(marks, probes);
+    let end = marked_end(marks, wires);
+    let count = list_frames(table, end, starts, firsts);
+    propagate_frames(table, starts, firsts, count, marks);
+}
+
+// The same, with lists of its own.
 pub fn reach_stops(table: &[u16], wires: usize, probes: &[u16], marks: &mut [u8])
     requires { ⌜ Reachable (now table) wires (now probes) (now marks) ⌝ }
     ensures { λ _. ⌜ OnStops (circuitIn (now (table .entry)) .wires) (now (probes .entry)) (now (marks .exit)) ⌝ }
 {
     if FEW_WORDS < table.len() {
         let mut starts = [0u16; FRAMES];
-        reach_listed(table, &mut starts, wires, probes, marks);
+        let mut firsts = [0u16; FRAMES];
+        reach_listed(table, &mut starts, &mut firsts, wires, probes, marks);
         return;
     }
     let mut starts = [0u16; FEW_FRAMES];
-    reach_listed(table, &mut starts, wires, probes, marks);
+    let mut firsts = [0u16; FEW_FRAMES];
+    reach_listed(table, &mut starts, &mut firsts, wires, probes, marks);
 }
 
 // A wire's byte of the reading: its value where it is marked, 2 elsewhere.

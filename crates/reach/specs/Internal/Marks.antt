@@ -13,6 +13,7 @@ use Rattle.semantics.specs.Probes.{stops}
 use Rattle.semantics.proofs.Reading.{probe}
 use Rattle.gadgets.specs.Internal.Places.{crossStart, productAt}
 use Rattle.semantics.proofs.Solving.{gateAt, OrderedFrom}
+use Rattle.gadgets.specs.Internal.Accepting.{circuitIn}
 
 -- a mark on each wire of a list
 abbrev pub markAll : List ℕ → List ℕ → List ℕ
@@ -53,6 +54,14 @@ pub record Moves (Gates : (ℕ → Gate) → Type 0) (from to : ℕ) (old new : 
   pub moved : (ws : List Wire) (probes : List ℕ) → OrderedFrom 0 ws → Gates (gateAt ws) → to ≤ length ws → length ws ≤ length old
       → Moving ws probes old to → Moving ws probes new from
   pub size : length new ≡ length old
+
+-- the gates of a table's wires
+abbrev pub GatesOf : (table : List ℕ) → (ℕ → Gate) → Type 0
+GatesOf table g = g ≡ gateAt (circuitIn table .wires)
+
+-- no wire from one to another is marked
+abbrev pub Unmarked : (marks : List ℕ) (from to : ℕ) → Type 0
+Unmarked marks from to = (x : ℕ) → from ≤ x → x < to → nth marks x < 1
 
 -- a wire's byte of the reading
 abbrev pub shownAt : (mark value : ℕ) → ℕ

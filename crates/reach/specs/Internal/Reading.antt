@@ -1,31 +1,19 @@
--- What the functions that read probes leave: the places of a table's frames, marks on stops, a reading.
+-- What the functions that read probes leave: marks on stops, a reading.
 use mathlib.Core.Path.{_≡_}
 use mathlib.Core.Bool.{Bool}
 use mathlib.Core.List.{List}
-use Prim.Native.Nat.{ℕ, _*_, _≤_, _<_}
-use lib.ListN.{length, take, replicate}
+use Prim.Native.Nat.{ℕ, _≤_, _<_}
+use lib.ListN.{length, replicate}
 use Rattle.circuit.specs.Lists.{nth, mem, overwrite}
 use Rattle.circuit.specs.Wires.{Wire}
 use Rattle.circuit.specs.Circuit.{size, isSet}
-use Rattle.circuit.specs.Composition.{Frame}
 use Rattle.circuit.proofs.Base.{In}
 use Rattle.semantics.specs.Values.{bytes, valuesOf}
 use Rattle.semantics.specs.Probes.{stops, readingOf}
-use Rattle.gadgets.specs.Internal.Accepting.{AcceptedTable, circuitIn, Between}
+use Rattle.gadgets.specs.Internal.Accepting.{AcceptedTable, circuitIn}
 use Rattle.reach.specs.Internal.Marks.{Marked}
 
--- a buffer that holds the places of the first frames
-abbrev pub Starts : (table : List ℕ) (fs : List Frame) (starts : List ℕ) (count : ℕ) → Type 0
-Starts table fs starts count = (i : ℕ) → i < count → (b : Between table fs (nth starts i)) × (b .before ≡ take i fs)
-
--- a buffer that holds the places of an accepted table's frames
-pub record Lists (table starts : List ℕ) (count : ℕ) : Type 0 where
-  pub accepted : AcceptedTable table
-  pub all : count ≡ length (accepted .fs)
-  pub few : 2 * count ≤ length table
-  pub starts-are : Starts table (accepted .fs) starts count
-
--- what they are reached from: an accepted table, probes on its wires, and clear marks for all of these
+-- what stops are reached from: an accepted table, probes on its wires, and clear marks for all of these
 pub record Reachable (table : List ℕ) (wires : ℕ) (probes marks : List ℕ) : Type 0 where
   pub accepted : AcceptedTable table
   pub wires-are : wires ≡ size (circuitIn table)
@@ -37,10 +25,6 @@ pub record Reachable (table : List ℕ) (wires : ℕ) (probes marks : List ℕ) 
 pub record OnStops (ws : List Wire) (probes marks : List ℕ) : Type 0 where
   pub is : (x : ℕ) → isSet (nth marks x) ≡ mem x (stops ws probes)
   pub made : (x : ℕ) → Marked marks x → x < length ws
-
--- marks on probed wires that end there
-abbrev pub Propagates : List Wire → (old new : List ℕ) → Type 0
-Propagates ws old new = (probes : List ℕ) → ((x : ℕ) → isSet (nth old x) ≡ mem x probes) → ((x : ℕ) → In x probes → x < length ws) → OnStops ws probes new
 
 -- the reading that is written from such marks and the wires' values
 pub record Shows (marks values old new : List ℕ) : Type 0 where

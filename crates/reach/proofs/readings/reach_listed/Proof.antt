@@ -1,35 +1,44 @@
--- From clear marks the probes are marked, and the marks moved on to the stops.
+-- From clear marks the probes are marked, and the marks moved on to the stops over the frames that make marked wires.
 use mathlib.Core.Path.{ap, _∙_}
 use native.Mathlib.Omega.{arith}
 use lib.ListN.{length}
+use borrow.Author.Needs.{needs}
 use Rattle.reach.proofs.readings.reach_listed.Statement.{statement}
 use Rattle.reach.proofs.readings.reach_listed.Tie as tie
 use Rattle.reach.specs.Internal.Marks.{markAll}
 use Rattle.reach.proofs.Showing.{marked-probes}
+use Rattle.reach.proofs.Propagating.{reached}
 
--- back to the start
-abbrev start : tie.After-list-frames → tie.Start
-start c = c .before .before .before .before .before .before
+-- the places on the way back
+abbrev listed : tie.After-propagate-frames → tie.After-list-frames
+listed c = c .before .before .before .before .before .before .before .before
 
-abbrev listed : tie.After-mark → tie.After-list-frames
-listed c = c .before .before .before .before
+abbrev ended : tie.After-list-frames → tie.After-marked-end
+ended c = c .before .before .before
+
+abbrev marked : tie.After-marked-end → tie.After-mark
+marked c = c .before .before .before .before
+
+abbrev start : tie.After-mark → tie.Start
+start c = c .before .before .before .before .before .before .before
 
 returns : tie.Need-returns
 returns c =
-    let m = c .before .before .before .before .before .before .before in
-    let s = start (listed m) in
-    let p = s .pre .0 in
-    let marked = m .mark .ensures ∙ ap (λ m. markAll m (s .args .probes .now)) (p .clear) in
-    c .before .before .propagate-frames .ensures _ (marked-probes (length (s .args .marks .now)) (s .args .probes .now) marked (λ x i. omega (arith, p .made x i, p .room))) (λ x i. omega (arith, p .made x i, p .wires-are))
+    let p = c .before .before in
+    let l = listed p in
+    let e = ended l in
+    let m = marked e in
+    let s = start m in
+    let r = s .pre .0 in
+    let on = m .mark .ensures ∙ ap (λ m. markAll m (s .args .probes .now)) (r .clear) in
+    reached (l .list-frames .ensures .0) (marked-probes (length (s .args .marks .now)) (s .args .probes .now) on (λ x i. omega (arith, r .made x i, r .room))) (λ x i. omega (arith, r .made x i, r .wires-are))
+    (omega (arith, r .room, r .wires-are, e .before .before .before .marks .given)) (λ x above below. e .marked-end .ensures .1 x (omega (arith, l .list-frames .ensures .1)) (omega (arith, r .wires-are))) (p .propagate-frames .ensures)
 
 pub reach-listed-spec : {M : Type 1} → statement M
 reach-listed-spec =
     tie.close
     (tie.spec
-    (λ c κs. let p = c .before .before .before .before .before .pre in (p .0 .accepted, p .1))
-    (λ c κs. let p = start (c .before .before .before) .pre .0 in λ x i. omega (arith, p .made x i, p .room))
-    (λ c κs. let m = c .before .before .before .before in let l = listed m in let p = start l .pre in
-    (l .list-frames .ensures, omega (arith, l .list-frames .ensures .few, p .1, m .before .before .before .starts .given), p .0 .wires-are, omega (arith, p .0 .room, c .before .before .before .marks .given)))
-    (λ c. c .before .before .before .before .before .before .before .before .before .before .starts .given)
-    (λ c. c .before .marks2 .given ∙ c .before .before .before .before .before .before .marks .given)
+    (λ c κs. let r = c .before .before .before .before .before .before .pre .0 in λ x i. omega (arith, r .made x i, r .room))
+    (λ c κs. search needs) (λ c κs. search needs) (λ c κs. search needs)
+    (λ c. search needs) (λ c. search needs) (λ c. search needs)
     returns)
