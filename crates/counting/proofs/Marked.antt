@@ -17,13 +17,14 @@ use Rattle.circuit.proofs.Exact.{accepted-size}
 use Rattle.gadgets.specs.Internal.Accepting.{circuitIn}
 use Rattle.gadgets.proofs.Bits.{set-low, set-high}
 use Rattle.gadgets.proofs.Ranges.{range-split, filter-append, filter-none}
+use Rattle.reach.specs.Internal.Marks.{Unmarked}
 use Rattle.reach.specs.Internal.Reading.{OnStops}
 use Rattle.counting.specs.Counting.{isRead, readWires}
 use Rattle.counting.specs.Internal.Reading.{markedBelow, listedWith, Listed, Probed, ListsRead}
 
--- one wire more
-marked-next : (marks : List ℕ) (x : ℕ) → markedBelow marks (x + 1) ≡ markedBelow marks x ++ cond (isSet (nth marks x)) (x ∷ []) []
-marked-next marks x = ap (filter (λ y. isSet (nth marks y))) (range-split 0 x 1) ∙ filter-append (λ y. isSet (nth marks y)) (range 0 x) (range (0 + x) 1) ∙ simp zero-add
+-- the marked wires below a number, from those below a lower one
+marked-more : (marks : List ℕ) (x n : ℕ) → markedBelow marks (x + n) ≡ markedBelow marks x ++ filter (λ y. isSet (nth marks y)) (range (0 + x) n)
+marked-more marks x n = ap (filter (λ y. isSet (nth marks y))) (range-split 0 x n) ∙ filter-append (λ y. isSet (nth marks y)) (range 0 x) (range (0 + x) n)
 
 pub listed-start : (marks read : List ℕ) → length read ≡ 8 → Listed marks 0 read 0
 listed-start marks read h = record { all = refl; few = omega arith; sized = h; first = λ i l k. absurd (omega arith) }
@@ -32,14 +33,17 @@ module _ {marks read : List ℕ} {x count : ℕ} (l : Listed marks x read count)
   abbrev before : List ℕ
   before = markedBelow marks x
 
-  unmarked : isSet (nth marks x) ≡ false → Listed marks (x + 1) read count
-  unmarked h =
-      let same : markedBelow marks (x + 1) ≡ before = marked-next marks x ∙ rw h (append-nil before) in
+  -- wires with no mark
+  pub listed-unmarked : {to : ℕ} → x ≤ to → Unmarked marks x to → Listed marks to read count
+  listed-unmarked {to} h none =
+      let e : to ≡ x + (to - x) = omega arith in
+      let same : markedBelow marks to ≡ before = ap (markedBelow marks) e ∙ marked-more marks x (to - x)
+      ∙ ap (λ r. before ++ r) (filter-none (λ y. isSet (nth marks y)) (0 + x) (to - x) (λ y l u. set-low (nth marks y) (none y (omega arith) (omega arith)))) ∙ append-nil before in
       record { all = l .all ∙ ap length (sym same); few = omega (arith, l .few); sized = l .sized; first = λ i k f. l .first i k f ∙ ap (λ ws. nth ws i) (sym same) }
 
   module _ (h : isSet (nth marks x) ≡ true) where
     one-more : markedBelow marks (x + 1) ≡ before ++ (x ∷ [])
-    one-more = marked-next marks x ∙ rw h
+    one-more = marked-more marks x 1 ∙ simp zero-add (rw h)
 
     more : {new : List ℕ} → length new ≡ 8 → ((i : ℕ) → i < count → i < 8 → nth new i ≡ nth read i) → (count < 8 → nth new count ≡ x) → Listed marks (x + 1) new (count + 1)
     more s same last = record {
@@ -54,7 +58,7 @@ module _ {marks read : List ℕ} {x count : ℕ} (l : Listed marks x read count)
 
   pub listed-next : {new : List ℕ} {r : ℕ} → r ≡ cond (ltb (nth marks x) 1) count (count + 1) → new ≡ listedWith (nth marks x) x count read → Listed marks (x + 1) new r
   listed-next {new} {r} e f = subst₂ (λ (ws : List ℕ) (n : ℕ). Listed marks (x + 1) ws n) (sym f) (sym e) (cases (ltb (nth marks x) 1)
-      (λ h. rw h (unmarked (set-low (nth marks x) (ltb-true _ _ h))))
+      (λ h. rw h (listed-unmarked (omega arith) (λ y k u. let e : x ≡ y = omega arith in subst (λ (n : ℕ). nth marks n < 1) e (ltb-true _ _ h))))
       (λ h. let on = set-high (nth marks x) (ltb-false _ _ h) in rw h (cases (ltb count 8)
       (λ k. rw k (more on (length-set read count x ∙ l .sized) (λ i p q. getD-set-other read count i x 0 (λ z. omega arith)) (λ p. getD-set-same read count x 0 (omega (arith, l .sized)))))
       (λ k. rw k (more on (l .sized) (λ i p q. refl) (λ p. absurd (omega (arith, ltb-false count 8 k))))))))

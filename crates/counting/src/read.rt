@@ -1,6 +1,6 @@
 // The wires that probes read, from marks on them.
 ghost use mathlib.Core.Path.{_≡_};
-ghost use Prim.Native.Nat.{_+_, _≤_};
+ghost use Prim.Native.Nat.{_+_, _≤_, _<_};
 ghost use mathlib.Core.Bool.{cond};
 ghost use lib.Dec.{ltb};
 ghost use lib.ListN.{length, set};
@@ -8,7 +8,11 @@ ghost use Rattle.circuit.specs.Limits.{wireLimit};
 ghost use Rattle.counting.specs.Internal.Reading.{listedWith, Listed, Probed, ListsRead};
 use super::FEW;
 use circuit::WIRES;
+use reach::bytes::largest;
 use reach::readings::reach_stops;
+
+// Wires that are passed over together where none is marked.
+const BLOCK: usize = 64;
 
 // One wire more on the list, where it is marked and the list has room; and how many are marked so far.
 fn list_wire(mark: u8, wire: usize, read: &mut [u16; 8], count: usize) -> usize
@@ -25,7 +29,34 @@ fn list_wire(mark: u8, wire: usize, read: &mut [u16; 8], count: usize) -> usize
     count + 1
 }
 
-// The marked wires below a number, the lowest first, as far as the list goes; and how many there are.
+// The list with the marked wires from one to another, the lowest first; and how many are marked so far.
+fn list_block(marks: &[u8], from: usize, to: usize, read: &mut [u16; 8], before: usize) -> usize
+    requires { ⌜ (from ≤ to) × (to ≤ wireLimit) × (to ≤ length (now marks)) × Listed (now marks) from (now read) before ⌝ }
+    ensures { λ r. ⌜ Listed (now (marks .entry)) to (now (read .exit)) r ⌝ }
+{
+    let mut count = before;
+    let mut x = from;
+    while x < to {
+        count = list_wire(marks[x], x, read, count);
+        x += 1;
+    }
+    count
+}
+
+// Where a block of wires ends that begins below a number.
+fn block_end(from: usize, wires: usize) -> usize
+    requires { ⌜ from < wires ⌝ }
+    ensures { λ r. ⌜ (from < r) × (r ≤ wires) ⌝ }
+{
+    if wires - from < BLOCK {
+        wires
+    } else {
+        from + BLOCK
+    }
+}
+
+// The marked wires below a number, the lowest first, as far as the list goes; and how many there are. A block of wires is passed over
+// where none is marked.
 fn list_marked(marks: &[u8], wires: usize, read: &mut [u16; 8]) -> usize
     requires { ⌜ (wires ≤ wireLimit) × (wires ≤ length (now marks)) × (length (now read) ≡ 8) ⌝ }
     ensures { λ r. ⌜ Listed (now (marks .entry)) wires (now (read .exit)) r ⌝ }
@@ -33,8 +64,11 @@ fn list_marked(marks: &[u8], wires: usize, read: &mut [u16; 8]) -> usize
     let mut count = 0;
     let mut x = 0;
     while x < wires {
-        count = list_wire(marks[x], x, read, count);
-        x += 1;
+        let to = block_end(x, wires);
+        if 0 < largest(marks, x, to - x) {
+            count = list_block(marks, x, to, read, count);
+        }
+        x = to;
     }
     count
 }
