@@ -1,13 +1,13 @@
 -- Marks moved on, wire by wire from the last to the first.
 use mathlib.Core.Path.{_≡_, refl, sym, ap, ap₂, subst, subst₂, _∙_}
-use mathlib.Core.Bool.{true, false, false≢true}
+use mathlib.Core.Bool.{true, false}
 use mathlib.Core.List.{List, [], _∷_, _++_, map, map-append}
 use Prim.Native.Nat.{ℕ, zero, suc, _+_, _-_, _*_, _≤_, _<_}
 use native.Mathlib.Nat.{add-zero, add-suc, zero-add, suc-add}
 use native.Mathlib.Omega.{arith}
 use lib.Dec.{ltb, eqb}
 use lib.ListN.{length, set, length-set}
-use borrow.Author.Tests.{le-ltb, ltb-true, ltb-false}
+use borrow.Author.Tests.{le-ltb}
 use Rattle.circuit.specs.Lists.{nth, range, mem}
 use Rattle.circuit.specs.Wires.{Gate, reg, sum, product, andNot, inverse, isStop}
 use Rattle.circuit.specs.Gadgets.{others}
@@ -18,7 +18,6 @@ use Rattle.semantics.specs.Probes.{operands}
 use Rattle.gadgets.specs.Internal.Places.{crossStart, pairAt, crossAt, productAt, outAt, maskAt, sumAt, heldAt}
 use Rattle.semantics.proofs.Solving.{gateAt}
 use Rattle.gadgets.specs.Internal.Gates.{ProductGates, CrossGates, CrossRowGates, CrossAllGates, ProductsGates, OutGates, AndGates, RefGates}
-use Rattle.gadgets.proofs.Bits.{set-low}
 use Rattle.gadgets.proofs.Ranges.{others-is, others-split}
 use Rattle.gadgets.proofs.Slots.{slot-low, slot-high, slot-next, slots-up, row-ends, row-room}
 use Rattle.reach.specs.Internal.Marks.{markAll, propagated, sixApart, outWires, Moving, Moves, Unmarked}

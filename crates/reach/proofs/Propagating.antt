@@ -3,7 +3,7 @@ use mathlib.Core.Path.{_≡_, refl, sym, ap, subst, _∙_}
 use mathlib.Core.List.{List}
 use Prim.Native.Nat.{ℕ, _+_, _-_, _*_, _≤_, _<_}
 use native.Mathlib.Omega.{arith}
-use lib.ListN.{length, take, length-append}
+use lib.ListN.{length, length-append}
 use lib.Seq.{length-take-le, take-length}
 use Rattle.circuit.specs.Lists.{nth, mem}
 use Rattle.circuit.specs.Wires.{Wire}
@@ -22,7 +22,7 @@ use Rattle.gadgets.specs.Internal.Frames.{frameWires}
 use Rattle.gadgets.specs.Internal.Accepting.{AcceptedTable, circuitIn, Between}
 use Rattle.gadgets.proofs.Walking.{whole, whole-ordered, so-far, second-word, Met, Answers, step-answers}
 use Rattle.reach.specs.Internal.Marks.{Moves, GatesOf, Unmarked}
-use Rattle.reach.specs.Internal.Listing.{wiresBefore, Lists}
+use Rattle.reach.specs.Internal.Listing.{Lists}
 use Rattle.reach.specs.Internal.Reading.{OnStops}
 use Rattle.reach.proofs.Reaching.{moving-start, moving-unmarked, moving-end}
 use Rattle.reach.proofs.Moved.{moves-then, moves-for, moves-at}

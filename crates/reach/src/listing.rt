@@ -1,6 +1,5 @@
 // The frames of an accepted table, listed: where each begins, and how many wires come before it.
-ghost use Prim.Native.Nat.{_*_, _≤_, _<_};
-ghost use lib.ListN.{length};
+ghost use Prim.Native.Nat.{_≤_, _<_};
 ghost use Rattle.circuit.specs.Lists.{nth};
 ghost use Rattle.circuit.specs.Circuit.{size};
 ghost use Rattle.gadgets.specs.Internal.Accepting.{AcceptedTable, circuitIn};
@@ -9,7 +8,7 @@ use frames::kinds::decide;
 use frames::randoms::random_bits;
 
 // How far a list goes: where the next frame begins, and how many wires and frames come before it.
-pub(crate) struct Listed {
+pub(crate) struct ListEnd {
     at: usize,
     first: usize,
     count: usize,
@@ -20,10 +19,10 @@ pub(crate) struct Listed {
 fn list_row(
     table: &[u16],
     limit: usize,
-    from: Listed,
+    from: ListEnd,
     starts: &mut [u16],
     firsts: &mut [u16],
-) -> Listed
+) -> ListEnd
     requires { ⌜ ListedTo (now table) (now starts) (now firsts) (from .at) (from .first) (from .count) × (from .first < limit) × (limit ≤ size (circuitIn (now table))) × Room (now table) (now starts) (now firsts) ⌝ }
     ensures { λ r. ⌜ ListedTo (now (table .entry)) (now (starts .exit)) (now (firsts .exit)) (r .at) (r .first) (r .count) × (from .at < r .at) ⌝ }
 {
@@ -40,10 +39,10 @@ fn list_row(
         at += 1 + shape.words;
         first += shape.wires;
         if limit <= first {
-            return Listed { at, first, count };
+            return ListEnd { at, first, count };
         }
         if table[at] != kind {
-            return Listed { at, first, count };
+            return ListEnd { at, first, count };
         }
     }
 }
@@ -59,7 +58,7 @@ pub(crate) fn list_frames(
     requires { ⌜ AcceptedTable (now table) × (limit ≤ size (circuitIn (now table))) × Room (now table) (now starts) (now firsts) ⌝ }
     ensures { λ r. ⌜ Lists (now (table .entry)) (now (starts .exit)) (now (firsts .exit)) r × (limit ≤ nth (now (firsts .exit)) r) ⌝ }
 {
-    let mut listed = Listed {
+    let mut listed = ListEnd {
         at: 2,
         first: 0,
         count: 0,

@@ -31,8 +31,10 @@ const FRAMES: usize = TABLE_WORDS / 2;
 const FEW_WORDS: usize = 512;
 
 const FEW_FRAMES: usize = FEW_WORDS / 2;
-// Frames or wires that are passed over together where none is marked.
-const BLOCK: usize = 32;
+// Frames, and wires behind the last mark, that are passed over together where no wire is marked.
+const FRAME_BLOCK: usize = 16;
+
+const WIRE_BLOCK: usize = 128;
 
 // A mark on each probed wire.
 fn mark(marks: &mut [u8], probes: &[u16])
@@ -134,7 +136,7 @@ fn propagate_frames(table: &[u16], starts: &[u16], firsts: &[u16], count: usize,
 {
     let mut to = count;
     while 0 < to {
-        let from = bytes::block_start(to, BLOCK);
+        let from = bytes::block_start(to, FRAME_BLOCK);
         let low = firsts[from] as usize;
         let high = firsts[to] as usize;
         if 0 < bytes::largest(marks, low, high - low) {
@@ -151,7 +153,7 @@ fn marked_end(marks: &[u8], wires: usize) -> usize
 {
     let mut end = wires;
     while 0 < end {
-        let from = bytes::block_start(end, BLOCK);
+        let from = bytes::block_start(end, WIRE_BLOCK);
         if 0 < bytes::largest(marks, from, end - from) {
             return end;
         }

@@ -2,7 +2,6 @@
 use mathlib.Core.Path.{_≡_, subst}
 use Prim.Native.Nat.{ℕ, _-_, _≤_}
 use native.Mathlib.Omega.{arith}
-use borrow.Author.Needs.{needs}
 use Rattle.reach.proofs.Highest.{none-over}
 use Rattle.counting.specs.Internal.Reading.{Listed}
 use Rattle.counting.proofs.read.list_marked.Statement.{statement}

@@ -1,10 +1,9 @@
 -- The loop's invariant: the frames before the place are listed.
-use mathlib.Core.Path.{_≡_, refl, sym, _∙_}
-use Prim.Native.Nat.{_-_, _≤_, _<_}
+use mathlib.Core.Path.{_≡_, refl, _∙_}
+use Prim.Native.Nat.{_-_, _<_}
 use native.Mathlib.Omega.{arith}
 use lib.ListN.{length, length-set}
 use borrow.Author.Needs.{needs}
-use Rattle.gadgets.proofs.Walking.{whole-few}
 use Rattle.reach.specs.Internal.Listing.{ListedTo}
 use Rattle.reach.proofs.listing.list_frames.Statement.{statement}
 use Rattle.reach.proofs.listing.list_frames.Tie as tie

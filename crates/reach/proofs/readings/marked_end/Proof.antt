@@ -1,7 +1,6 @@
 -- The loop's invariant: no wire is marked from the end on.
 use Prim.Native.Nat.{_≤_}
 use native.Mathlib.Omega.{arith}
-use borrow.Author.Needs.{needs}
 use Rattle.reach.specs.Internal.Marks.{Unmarked}
 use Rattle.reach.proofs.readings.marked_end.Statement.{statement}
 use Rattle.reach.proofs.readings.marked_end.Tie as tie
