@@ -22,9 +22,6 @@ mod variables;
 
 use checker::Verdict;
 
-// Wires of a circuit for which small sheets do: a sheet is set to 0 at each call, and a large one takes longer than such a circuit.
-pub(crate) const FEW: usize = 512;
-
 // Accepted: how many wires are read, how many combinations of values they have, and how many pairs of a sharing and a tape there
 // are for a set of secret bits.
 pub enum Counted {

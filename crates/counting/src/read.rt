@@ -6,13 +6,15 @@ ghost use lib.Dec.{ltb};
 ghost use lib.ListN.{length, set};
 ghost use Rattle.circuit.specs.Limits.{wireLimit};
 ghost use Rattle.counting.specs.Internal.Reading.{listedWith, Listed, Probed, ListsRead};
-use super::FEW;
 use circuit::WIRES;
 use reach::bytes::largest;
 use reach::readings::reach_stops;
 
 // Wires that are passed over together where none is marked.
 const BLOCK: usize = 64;
+
+// Wires of a circuit for which small marks do: they are set to 0 at each call, and those of any circuit take longer than such a circuit.
+const FEW: usize = 512;
 
 // One wire more on the list, where it is marked and the list has room; and how many are marked so far.
 fn list_wire(mark: u8, wire: usize, read: &mut [u16; 8], count: usize) -> usize

@@ -10,7 +10,6 @@ ghost use Rattle.gadgets.specs.Internal.Accepting.{circuitIn};
 ghost use Rattle.counting.specs.Counting.{pairCount};
 ghost use Rattle.counting.specs.Internal.Tallying.{Numbered, Listable, Divides, Planned, Enumerates, Prepared, Ready, HoldsShown, setOf, TalliedSome, Tallied, ListsCounts};
 ghost use Rattle.counting.specs.Internal.Linear.{Surveyed, ShiftsIn};
-use super::FEW;
 use super::lanes;
 use super::linear;
 use super::listing;
@@ -20,6 +19,13 @@ use super::prepare::prepare;
 use super::variables::fill_variables;
 use circuit::WIRES;
 use symbolic::evaluate;
+
+// Wires for which sheets of sums do that are smaller than one for any circuit.
+const SMALL_SHEET: usize = 128;
+
+const MIDDLE_SHEET: usize = 512;
+
+const LARGE_SHEET: usize = 2048;
 
 // How sharings and tapes are made of free bits.
 pub struct Plan {
@@ -223,7 +229,7 @@ fn list_on(
     pairs
 }
 
-// The same on a sheet of its own.
+// The same on a sheet of its own, of the size that the wires ask for: a sheet is set to 0 at each call.
 pub(crate) fn list_counts(
     table: &[u16],
     secrets: &[u8],
@@ -237,8 +243,8 @@ pub(crate) fn list_counts(
     requires { ⌜ Listable (now table) (now secrets) inputs randoms wires (now read) found (now counts) ⌝ }
     ensures { λ r. ⌜ (r ≡ pairCount (circuitIn (now (table .entry)))) × ListsCounts (now (table .entry)) (now (secrets .entry)) inputs (take found (now (read .entry))) (now (counts .entry)) (now (counts .exit)) ⌝ }
 {
-    if FEW < wires {
-        let mut sums = [0u64; WIRES];
+    if wires <= SMALL_SHEET {
+        let mut sums = [0u64; SMALL_SHEET];
         return list_on(
             table,
             secrets,
@@ -251,7 +257,35 @@ pub(crate) fn list_counts(
             counts,
         );
     }
-    let mut sums = [0u64; FEW];
+    if wires <= MIDDLE_SHEET {
+        let mut sums = [0u64; MIDDLE_SHEET];
+        return list_on(
+            table,
+            secrets,
+            inputs,
+            randoms,
+            wires,
+            read,
+            found,
+            &mut sums,
+            counts,
+        );
+    }
+    if wires <= LARGE_SHEET {
+        let mut sums = [0u64; LARGE_SHEET];
+        return list_on(
+            table,
+            secrets,
+            inputs,
+            randoms,
+            wires,
+            read,
+            found,
+            &mut sums,
+            counts,
+        );
+    }
+    let mut sums = [0u64; WIRES];
     list_on(
         table,
         secrets,

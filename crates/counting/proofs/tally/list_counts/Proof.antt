@@ -1,4 +1,4 @@
--- Both kinds of sheets have a place for each wire.
+-- Each sheet has a place for each wire.
 use native.Mathlib.Omega.{arith}
 use borrow.Author.Needs.{needs}
 use Rattle.circuit.proofs.Exact.{accepted-size}
@@ -9,6 +9,9 @@ pub list-counts-spec : {M : Type 1} → statement M
 list-counts-spec =
     tie.close
     (tie.spec
+    (λ c. search needs) (λ c κs. search needs) (λ c. search needs) (λ c. search needs)
+    (λ c. search needs) (λ c κs. search needs) (λ c. search needs) (λ c. search needs)
+    (λ c. search needs) (λ c κs. search needs) (λ c. search needs) (λ c. search needs)
     (λ c. search needs)
-    (λ c κs. let s = c .before .before .before .before .before .before in (s .pre, omega (arith, accepted-size (s .pre .numbered .accepted), s .pre .wires-are), omega arith))
-    (λ c. search needs) (λ c. search needs) (λ c. search needs) (λ c κs. search needs) (λ c. search needs) (λ c. search needs))
+    (λ c κs. let s = c .before .before .before .before .before .before .before .before in (s .pre, omega (arith, accepted-size (s .pre .numbered .accepted), s .pre .wires-are), omega arith))
+    (λ c. search needs) (λ c. search needs))
