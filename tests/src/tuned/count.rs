@@ -1,5 +1,5 @@
-//! Counts: the check's pass, the stops and every wire's sum once, then all values of the free bits that the read wires need, many
-//! at a time, eight in the bits of each byte.
+//! Counts: the check's pass, the stops and every wire's sum once, then all values of the free bits that are multiplied in what the
+//! read wires need, many at a time, eight in the bits of each byte. The other free bits are only added: each moves all counts.
 use super::evaluate::bits;
 use super::lanes::{Lanes, Planes};
 use super::sums::{Sum, Sums};
@@ -17,18 +17,42 @@ pub fn count(
 ) -> Result<[usize; 3], Refused> {
     let task = Task::new(table, notes, secrets, probes, counts.len())?;
     let sums = Sums::new(table, &task, secrets);
-    let needed = sums.needed();
-    let free = ((needed >> 1) & ((1 << task.bits) - 1)).count_ones() as usize;
+    let (needed, factors) = sums.needed();
+    let free = ((factors >> 1) & ((1 << task.bits) - 1)).count_ones() as usize;
     let mut tally = Tally::new(task.wires, free);
     match free {
-        0..=3 => all_pairs::<1>(&task, &sums, needed, &mut tally),
-        4 | 5 => all_pairs::<4>(&task, &sums, needed, &mut tally),
-        6 | 7 => all_pairs::<16>(&task, &sums, needed, &mut tally),
-        _ => all_pairs::<MOST_PLANES>(&task, &sums, needed, &mut tally),
+        0..=3 => all_pairs::<1>(&task, &sums, needed, factors, &mut tally),
+        4 | 5 => all_pairs::<4>(&task, &sums, needed, factors, &mut tally),
+        6 | 7 => all_pairs::<16>(&task, &sums, needed, factors, &mut tally),
+        _ => all_pairs::<MOST_PLANES>(&task, &sums, needed, factors, &mut tally),
     }
-    // each value of those arises with all values of the other free bits
-    let others = task.bits - free;
-    Ok(task.answer(counts, |set, combination| tally.times(set, combination) << others))
+    let mut times = tally.all();
+    let doubled = move_counts(&task, &sums, factors, &mut times);
+    Ok(task.answer(counts, |set, combination| times[set << task.wires | combination] << doubled))
+}
+
+/// Each free bit that is only added, set or not: every count and the one that it is moved to, added. Gives how many of them move
+/// nothing, and so double all counts.
+fn move_counts(task: &Task, sums: &Sums, factors: Sum, times: &mut [u32]) -> usize {
+    let mut doubled = 0;
+    for bit in (1..=task.bits).filter(|&bit| (factors >> bit) & 1 == 0) {
+        let read = sums.read[..task.wires].iter();
+        let shift = read.fold(0, |shift, sum| shift << 1 | (sum >> bit & 1) as usize);
+        if shift == 0 {
+            doubled += 1;
+            continue;
+        }
+        for set in times.chunks_exact_mut(1 << task.wires) {
+            for one in 0..set.len() {
+                let other = one ^ shift;
+                if one < other {
+                    let sum = set[one] + set[other];
+                    (set[one], set[other]) = (sum, sum);
+                }
+            }
+        }
+    }
+    doubled
 }
 
 /// An accepted table, the wires that are read, rising, and the number of free bits.
@@ -197,6 +221,11 @@ impl Tally {
     pub fn times(&self, set: usize, combination: usize) -> u32 {
         self.times[set << self.wires | combination].iter().sum()
     }
+
+    /// Those of all combinations of the first set, then of the second.
+    fn all(&self) -> Vec<u32> {
+        self.times.iter().map(|lanes| lanes.iter().sum()).collect()
+    }
 }
 
 /// Bit i of byte j comes to bit j of byte i.
@@ -209,11 +238,17 @@ fn transposed(mut x: u64) -> u64 {
     x
 }
 
-/// Numbers the pairs by the free bits that are needed, and the set by the bit behind them; goes through them all, 8 · P a pass.
-fn all_pairs<const P: usize>(task: &Task, sums: &Sums, needed: Sum, tally: &mut Tally) {
+/// Numbers the pairs by the free bits that are factors, and the set by the bit behind them; goes through them all, 8 · P a pass.
+fn all_pairs<const P: usize>(
+    task: &Task,
+    sums: &Sums,
+    needed: Sum,
+    factors: Sum,
+    tally: &mut Tally,
+) {
     let mut lanes = [Planes::<P>::ZEROS; 64];
     lanes[0] = Planes::ONES;
-    let variables = (1..=task.bits).filter(|&bit| (needed >> bit) & 1 == 1).chain([task.bits + 1]);
+    let variables = (1..=task.bits).filter(|&bit| (factors >> bit) & 1 == 1).chain([task.bits + 1]);
     let fixed = 3 + P.ilog2() as usize;
     for (bit, variable) in variables.clone().enumerate().take(fixed) {
         lanes[variable] = pattern(bit);

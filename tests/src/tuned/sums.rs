@@ -43,15 +43,17 @@ impl Sums {
         &self.products[..self.count]
     }
 
-    /// The variables that the read wires need, by way of products too.
-    pub fn needed(&self) -> Sum {
+    /// The variables that the read wires need, by way of products too, and those that are multiplied in these products.
+    pub fn needed(&self) -> (Sum, Sum) {
         let mut needed = self.read.iter().fold(0, |all, sum| all | sum);
+        let mut factors = 0;
         for (at, [x, y]) in self.products().iter().enumerate().rev() {
             if (needed >> (self.first + at)) & 1 == 1 {
                 needed |= x | y;
+                factors |= x | y;
             }
         }
-        needed
+        (needed, factors)
     }
 }
 
