@@ -12,7 +12,8 @@ use Rattle.circuit.specs.Kinds.{Kind, HEAD, IN, CON, XOR, NOT, REG, AND, REF, O
 use Rattle.circuit.proofs.Base.{cases}
 use Rattle.frames.specs.declared.walk.Frame.{Frame}
 use Rattle.frames.specs.declared.walk.Framed.the-variants.{Whole, Short}
-use Rattle.frames.specs.Walk.{kindCode, frameCode, framedBy}
+use Rattle.frames.specs.Walk.{kindCode, formOf, frameCode}
+use Rattle.frames.specs.Internal.Framed.{frameIn, framedBy}
 
 pub framed-short : (fr : Frame) (n : ℕ) (rest : List ℕ) → Short ≡ framedBy fr n rest → leb n (length rest) ≡ false
 framed-short fr n rest e = cases (leb n (length rest)) (λ a. let b = rw a at e in let z : _≡_ {A = ℕ} 0 1 = cc in absurd (omega arith)) (λ a. a)
@@ -31,3 +32,15 @@ frame-part d REG rest = simp (getD-take 1 rest 0 0 (omega arith))
 frame-part d AND rest = refl
 frame-part d REF rest = refl
 frame-part d OUT rest = refl
+
+-- the form of a kind gives its frame
+pub frame-form : (kind : Kind) (ops : List ℕ) → frameIn (formOf kind) ops ≡ frameCode (kindCode kind) ops
+frame-form HEAD ops = refl
+frame-form IN ops = refl
+frame-form CON ops = refl
+frame-form XOR ops = refl
+frame-form NOT ops = refl
+frame-form REG ops = refl
+frame-form AND ops = refl
+frame-form REF ops = refl
+frame-form OUT ops = refl

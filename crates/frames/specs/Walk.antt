@@ -16,8 +16,6 @@ use Rattle.frames.specs.declared.kinds.Shape.{Shape as ShapeCode}
 use Rattle.frames.specs.declared.walk.Gate.the-variants as gate
 use Rattle.frames.specs.declared.walk.Frame.{Frame}
 use Rattle.frames.specs.declared.walk.Frame.the-variants as frame
-use Rattle.frames.specs.declared.walk.Framed.{Framed}
-use Rattle.frames.specs.declared.walk.Framed.the-variants.{Whole, Short}
 use Rattle.frames.specs.declared.walk.Walk.{Walk}
 use Rattle.frames.specs.declared.walk.Step.{Step}
 use Rattle.frames.specs.declared.walk.Step.the-variants.{Next, Refused, End}
@@ -109,10 +107,6 @@ frameCode Reg ops = frame.Gate (gate.Reg (nth ops 0))
 frameCode And ops = frame.And
 frameCode Ref ops = frame.Ref
 frameCode Out ops = frame.Gate gate.Out
-
--- a frame of so many words, of which the table has what is left of it
-abbrev pub framedBy : Frame → (count : ℕ) (rest : List ℕ) → Framed
-framedBy fr n rest = cond (leb n (length rest)) (Whole fr) Short
 
 -- the words after the kind word at a place of the table, as far as the table goes
 abbrev pub operandsAt : List ℕ → (d at : ℕ) → List ℕ

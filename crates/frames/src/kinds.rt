@@ -69,7 +69,8 @@ fn kind_line(
 
 // The frame that a kind word begins, where a gadget of d shares takes so many random bits; how many words follow the kind does
 // not depend on them. A word past 8 is no kind and is answered as HEAD. The kinds stand in three groups, so that a processor
-// foresees each by its own branches: one jump for all of them cost some tables of gates twice the time.
+// foresees each by its own branches: one jump for all of them cost some tables of gates twice the time. Between NOT and REG, which
+// have as many words, there is no branch, so that tables of gates in any order are not slowed by it.
 pub fn decide(word: u16, d: u16, randoms: u16) -> Shape
     ensures shaped { λ r. ⌜ r ≡ shapeTaking randoms d (kindOf word) ⌝ }
     ensures formed { λ r. ⌜ Means d (r .form) (kindOf word) ⌝ }
@@ -85,11 +86,11 @@ pub fn decide(word: u16, d: u16, randoms: u16) -> Shape
         };
     }
     if word < 6 {
-        return match word {
-            3 => kind_line(Kind::Xor, Form::Sum, 2, 1, 0, 0),
-            4 => kind_line(Kind::Not, Form::Copy { after: 0 }, 1, 1, 0, 0),
-            _ => kind_line(Kind::Reg, Form::Copy { after: 1 }, 1, 1, 0, 0),
-        };
+        if word == 3 {
+            return kind_line(Kind::Xor, Form::Sum, 2, 1, 0, 0);
+        }
+        let kind = if word == 4 { Kind::Not } else { Kind::Reg };
+        return kind_line(kind, Form::Copy { after: word - 4 }, 1, 1, 0, 0);
     }
     match word {
         6 => kind_line(

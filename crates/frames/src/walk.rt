@@ -1,9 +1,10 @@
 // The walk over the frames of a table.
 ghost use mathlib.Core.Path.{_≡_};
 ghost use Rattle.circuit.specs.Lists.{nth};
-ghost use Rattle.frames.specs.Walk.{shapeTaking, frameCode, framedBy, operandsAt, stepWith};
+ghost use Rattle.frames.specs.Walk.{shapeTaking, operandsAt, stepWith};
+ghost use Rattle.frames.specs.Internal.Framed.{gateAfter, frameIn, framedBy};
 use super::kinds;
-use kinds::Kind;
+use kinds::Form;
 use kinds::Shape;
 
 // A gate, with its words. OUT's stay in the table.
@@ -67,20 +68,32 @@ fn whole(frame: Frame, words: usize, rest: &[u16]) -> Framed
     }
 }
 
-// The frame of a kind, from the table after the kind word. (No HEAD comes here: rule 5 refuses it before.) Each kind asks for
-// its words by itself, so that the compiler leads each from the kind's decision straight to what the frame is taken for.
-fn frame_of(kind: Kind, words: usize, rest: &[u16]) -> Framed
-    ensures { λ r. ⌜ r ≡ framedBy (frameCode kind (now (rest .entry))) words (now (rest .entry)) ⌝ }
+// NOT, or REG, whose wire stands a stage later.
+fn copying(after: u16, wire: u16) -> Gate
+    ensures { λ r. ⌜ r ≡ gateAfter after wire ⌝ }
 {
-    match kind {
-        Kind::In => whole(
+    if after == 0 {
+        Gate::Not { wire }
+    } else {
+        Gate::Reg { wire }
+    }
+}
+
+// The frame of a form, from the table after the kind word. (No HEAD comes here: rule 5 refuses it before.) Each form asks for
+// its words by itself, so that the compiler leads each from the kind's decision straight to what the frame is taken for.
+fn frame_of(form: Form, words: usize, rest: &[u16]) -> Framed
+    ensures { λ r. ⌜ r ≡ framedBy (frameIn form (now (rest .entry))) words (now (rest .entry)) ⌝ }
+{
+    match form {
+        Form::ShareCount => whole(Frame::Gate(Gate::Out), words, rest),
+        Form::Stage => whole(
             Frame::Gate(Gate::In {
                 stage: word_at(rest, 0),
             }),
             words,
             rest,
         ),
-        Kind::Con => whole(
+        Form::Constant => whole(
             Frame::Gate(Gate::Con {
                 label: word_at(rest, 0),
                 value: word_at(rest, 1),
@@ -89,7 +102,7 @@ fn frame_of(kind: Kind, words: usize, rest: &[u16]) -> Framed
             words,
             rest,
         ),
-        Kind::Xor => whole(
+        Form::Sum => whole(
             Frame::Gate(Gate::Xor {
                 first: word_at(rest, 0),
                 second: word_at(rest, 1),
@@ -97,24 +110,13 @@ fn frame_of(kind: Kind, words: usize, rest: &[u16]) -> Framed
             words,
             rest,
         ),
-        Kind::Not => whole(
-            Frame::Gate(Gate::Not {
-                wire: word_at(rest, 0),
-            }),
-            words,
-            rest,
-        ),
-        Kind::Reg => whole(
-            Frame::Gate(Gate::Reg {
-                wire: word_at(rest, 0),
-            }),
-            words,
-            rest,
-        ),
-        Kind::And => whole(Frame::And, words, rest),
-        Kind::Ref => whole(Frame::Ref, words, rest),
-        Kind::Out => whole(Frame::Gate(Gate::Out), words, rest),
-        Kind::Head => whole(Frame::Gate(Gate::Out), words, rest),
+        Form::Copy { after } => {
+            let gate = copying(after, word_at(rest, 0));
+            whole(Frame::Gate(gate), words, rest)
+        }
+        Form::Product => whole(Frame::And, words, rest),
+        Form::Refresh => whole(Frame::Ref, words, rest),
+        Form::Row => whole(Frame::Gate(Gate::Out), words, rest),
     }
 }
 
@@ -158,9 +160,9 @@ impl Walk {
         let n = table.len();
         let rest = &table[start..n];
         let shape = kinds::decide(word, d, randoms);
-        let kind = shape.kind;
+        let form = shape.form;
         let words = shape.words;
-        let framed = frame_of(kind, words, rest);
+        let framed = frame_of(form, words, rest);
         match framed {
             Framed::Short => Step::Refused { rule: 6 },
             Framed::Whole(frame) => {

@@ -1,10 +1,13 @@
 -- Each arm is the kind table's line of its word; d(d−1) as the code computes it is the table's.
-use mathlib.Core.Path.{_≡_, refl, sym, ap, _∙_}
-use Prim.Native.Nat.{_+_, _*_, _<_}
+use mathlib.Core.Logic.{⊎-elim}
+use mathlib.Core.Path.{_≡_, refl, sym, ap, ap₂, _∙_}
+use Prim.Native.Nat.{ℕ, _+_, _*_, _-_, _<_}
 use native.Mathlib.Omega.{arith}
 use borrow.Author.Needs.{needs}
 use Rattle.circuit.specs.Kinds.{HEAD, IN, CON, XOR, NOT, REG, AND, REF, OUT, kindOf, shape}
-use Rattle.frames.specs.declared.kinds.Form.the-variants.{Product, Refresh, Row}
+use Rattle.frames.specs.Walk.{kindLine}
+use Rattle.frames.specs.declared.kinds.Form.the-variants.{Copy, Product, Refresh, Row}
+use Rattle.frames.specs.declared.kinds.Kind.{Kind}
 use Rattle.frames.specs.declared.kinds.Kind.the-variants.{And, Ref, Out}
 use Rattle.circuit.proofs.Sizes.{words-AND, words-REF, words-OUT}
 use Rattle.frames.proofs.KindTable.{ordered, square-least, square-most, no-kind, same-line, decided}
@@ -14,6 +17,20 @@ use Rattle.frames.proofs.kinds.decide.Tie as tie
 -- d·d is small
 square : (s : tie.Start) → s .args .d * s .args .d < 4294967296
 square s = square-most (s .args .d) (omega arith)
+
+-- NOT and REG: the word, less 4, says how many stages later the wire stands
+copied : (c : tie.After-kind-line5) {kind : Kind} {n : ℕ} → c .before .if4 .kind ≡ kind → c .before .before .before .before .before .args .word - 4 ≡ n → c .kind-line5 .result ≡ kindLine kind (Copy n) 1 1 0 0
+copied c e f = c .kind-line5 .ensures ∙ ap₂ (λ k a. kindLine k (Copy a) 1 1 0 0) e f
+
+returns-5 : tie.Need-returns-5
+unfolding kindOf shape
+returns-5 c =
+    let word = c .before .before .before .before .before .args .word in
+    ⊎-elim
+    (λ p. rw (p .0 .taken) (decided NOT (copied c (p .1) (omega (arith, p .0 .taken))) refl))
+    (λ p. let e : word ≡ 5 = omega (arith, p .0 .left, c .before .before .if3 .left, c .before .before .before .if2 .taken, c .before .before .before .before .if1 .left) in
+    rw e (decided REG (copied c (p .1) (omega (arith, e))) refl))
+    (c .before .if4 .came)
 
 pub decide-spec : {M : Type 1} → statement M
 unfolding kindOf shape
@@ -26,17 +43,18 @@ decide-spec =
     (λ c. rw (c .before .match .keys1) (decided IN (c .kind-line .ensures) refl))
     (λ c. rw (c .before .match .keys2) (decided CON (c .kind-line2 .ensures) refl))
     (λ c. let s = c .before .before .before in let h = c .before .match .rest in let e : s .args .word ≡ 0 = omega (arith, c .before .before .if1 .taken, h .0, h .1) in rw e (decided HEAD (c .kind-line3 .ensures) refl))
-    (λ c κs. search needs) (λ c κs. search needs) (λ c κs. search needs)
-    (λ c. rw (c .before .match2 .keys1) (decided XOR (c .kind-line4 .ensures) refl))
-    (λ c. rw (c .before .match2 .keys2) (decided NOT (c .kind-line5 .ensures) refl))
-    (λ c. let s = c .before .before .before .before in let h = c .before .match2 .rest in let e : s .args .word ≡ 5 = omega (arith, c .before .before .if2 .taken, c .before .before .before .if1 .left, h .0, h .1) in rw e (decided REG (c .kind-line6 .ensures) refl))
+    (λ c κs. search needs)
+    (λ c. rw (c .before .if3 .taken) (decided XOR (c .kind-line4 .ensures) refl))
+    (λ c. omega (arith, c .before .if3 .left, c .before .before .before .if1 .left))
+    (λ c κs. search needs)
+    returns-5
     (λ c. search needs) (λ c. search needs)
     (λ c. record { fits = omega (arith, square (c .before .before .before)) })
     (λ c. search needs)
     (λ c. record { fits = omega (arith, square (c .before .before .before)) })
     (λ c κs. search needs) (λ c. search needs) (λ c. search needs) (λ c. search needs)
     (λ c κs. search needs) (λ c κs. search needs) (λ c κs. search needs)
-    (λ c. let d = c .before .before .before .before .args .d in let e = ordered d in rw (c .before .match3 .keys1) (decided AND (c .kind-line7 .ensures ∙ same-line And Product (sym (words-AND d)) (ap (λ n. 7 * n + 4 * d) e) refl) refl))
-    (λ c. let d = c .before .before .before .before .args .d in rw (c .before .match3 .keys2) (decided REF (c .kind-line8 .ensures ∙ same-line Ref Refresh (sym (words-REF d)) refl refl) refl))
-    (λ c. rw (c .before .match3 .keys3) (decided OUT (c .kind-line9 .ensures ∙ same-line Out Row (sym (words-OUT (c .before .before .before .before .args .d))) refl refl) refl))
-    (λ c. let s = c .before .before .before .before in let h = c .before .match3 .rest in rw (no-kind (s .args .word) (omega (arith, c .before .before .if2 .left, h .0 .0, h .0 .1, h .1))) (decided HEAD (c .kind-line10 .ensures) refl)))
+    (λ c. let d = c .before .before .before .before .args .d in let e = ordered d in rw (c .before .match2 .keys1) (decided AND (c .kind-line6 .ensures ∙ same-line And Product (sym (words-AND d)) (ap (λ n. 7 * n + 4 * d) e) refl) refl))
+    (λ c. let d = c .before .before .before .before .args .d in rw (c .before .match2 .keys2) (decided REF (c .kind-line7 .ensures ∙ same-line Ref Refresh (sym (words-REF d)) refl refl) refl))
+    (λ c. rw (c .before .match2 .keys3) (decided OUT (c .kind-line8 .ensures ∙ same-line Out Row (sym (words-OUT (c .before .before .before .before .args .d))) refl refl) refl))
+    (λ c. let s = c .before .before .before .before in let h = c .before .match2 .rest in rw (no-kind (s .args .word) (omega (arith, c .before .before .if2 .left, h .0 .0, h .0 .1, h .1))) (decided HEAD (c .kind-line9 .ensures) refl)))

@@ -9,11 +9,12 @@ use borrow.Author.Needs.{needs}
 use borrow.Author.Tests.{le-ltb, lt-ltb, le-leb, lt-leb}
 use Rattle.circuit.specs.Kinds.{Kind, kindOf, words}
 use Rattle.circuit.specs.Lists.{nth}
-use Rattle.frames.specs.Walk.{kindCode, shapeTaking, frameCode, framedBy, behind}
+use Rattle.frames.specs.Walk.{kindCode, shapeTaking, frameCode, behind}
+use Rattle.frames.specs.Internal.Framed.{frameIn, framedBy}
 use Rattle.frames.specs.declared.walk.Framed.the-variants.{Whole}
 use Rattle.frames.specs.declared.walk.Frame.{Frame}
 use Rattle.frames.specs.declared.walk.Step.the-variants.{Next}
-use Rattle.frames.proofs.Framing.{framed-short, framed-whole, frame-part}
+use Rattle.frames.proofs.Framing.{framed-short, framed-whole, frame-part, frame-form}
 use Rattle.frames.proofs.walk.Walk.step.Statement.{statement}
 use Rattle.frames.proofs.walk.Walk.step.Tie as tie
 
@@ -37,7 +38,8 @@ found c =
     let table = start c .args .table .now in
     let at = start c .args .self .at in
     let all : take (length table - (at + 1)) (rest c) ≡ rest c = take-all (length table - (at + 1)) (rest c) (omega (arith, length-drop (at + 1) table)) in
-    c .frame-of .ensures ∙ ap₂ (λ s r. framedBy (frameCode (s .kind) r) (s .words) r) (decided c) all
+    c .frame-of .ensures ∙ ap₂ (λ s r. framedBy (frameIn (s .form) r) (s .words) r) (decided c) all
+    ∙ ap (λ f. framedBy f (words (shares c) (kind c)) (rest c)) (frame-form (kind c) (rest c))
 
 whole : (c : tie.After-frame-of) {f : Frame} → c .frame-of .result ≡ Whole f → (words (shares c) (kind c) ≤ length (rest c)) × (f ≡ frameCode (kindCode (kind c)) (rest c))
 whole c {f} e = framed-whole f (frameCode (kindCode (kind c)) (rest c)) (words (shares c) (kind c)) (rest c) (sym e ∙ found c)

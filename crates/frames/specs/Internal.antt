@@ -1,0 +1,2 @@
+-- The frame that the words after a kind make
+pub mod Framed
