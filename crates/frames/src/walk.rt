@@ -102,14 +102,12 @@ fn frame_of(form: Form, words: usize, rest: &[u16]) -> Framed
             words,
             rest,
         ),
-        Form::Sum => whole(
-            Frame::Gate(Gate::Xor {
-                first: word_at(rest, 0),
-                second: word_at(rest, 1),
-            }),
-            words,
-            rest,
-        ),
+        Form::Sum => {
+            // the second word first: where it is there, so is the first, and no more is asked
+            let second = word_at(rest, 1);
+            let first = word_at(rest, 0);
+            whole(Frame::Gate(Gate::Xor { first, second }), words, rest)
+        }
         Form::Copy { after } => {
             let gate = copying(after, word_at(rest, 0));
             whole(Frame::Gate(gate), words, rest)
