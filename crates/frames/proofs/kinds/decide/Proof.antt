@@ -8,6 +8,7 @@ use Rattle.circuit.specs.Kinds.{HEAD, IN, CON, XOR, NOT, REG, AND, REF, OUT, ki
 use Rattle.frames.specs.Walk.{kindLine}
 use Rattle.frames.specs.declared.kinds.Form.the-variants.{Copy, Product, Refresh, Row}
 use Rattle.frames.specs.declared.kinds.Kind.{Kind}
+use Rattle.frames.specs.declared.kinds.Shape.{Shape as ShapeCode}
 use Rattle.frames.specs.declared.kinds.Kind.the-variants.{And, Ref, Out}
 use Rattle.circuit.proofs.Sizes.{words-AND, words-REF, words-OUT}
 use Rattle.frames.proofs.KindTable.{ordered, square-least, square-most, no-kind, same-line, decided}
@@ -18,18 +19,18 @@ use Rattle.frames.proofs.kinds.decide.Tie as tie
 square : (s : tie.Start) → s .args .d * s .args .d < 4294967296
 square s = square-most (s .args .d) (omega arith)
 
--- NOT and REG: the word, less 4, says how many stages later the wire stands
-copied : (c : tie.After-kind-line5) {kind : Kind} {n : ℕ} → c .before .if4 .kind ≡ kind → c .before .before .before .before .before .args .word - 4 ≡ n → c .kind-line5 .result ≡ kindLine kind (Copy n) 1 1 0 0
-copied c e f = c .kind-line5 .ensures ∙ ap₂ (λ k a. kindLine k (Copy a) 1 1 0 0) e f
+-- a line of NOT or REG, by its kind and by how many stages later the wire stands
+copied : {sh : ShapeCode} {k kind : Kind} {a n : ℕ} → sh ≡ kindLine k (Copy a) 1 1 0 0 → k ≡ kind → a ≡ n → sh ≡ kindLine kind (Copy n) 1 1 0 0
+copied e f g = e ∙ ap₂ (λ x b. kindLine x (Copy b) 1 1 0 0) f g
 
 returns-5 : tie.Need-returns-5
 unfolding kindOf shape
 returns-5 c =
     let word = c .before .before .before .before .before .args .word in
     ⊎-elim
-    (λ p. rw (p .0 .taken) (decided NOT (copied c (p .1) (omega (arith, p .0 .taken))) refl))
+    (λ p. rw (p .0 .taken) (decided NOT (copied (c .kind-line5 .ensures) (p .1) (omega (arith, p .0 .taken))) refl))
     (λ p. let e : word ≡ 5 = omega (arith, p .0 .left, c .before .before .if3 .left, c .before .before .before .if2 .taken, c .before .before .before .before .if1 .left) in
-    rw e (decided REG (copied c (p .1) (omega (arith, e))) refl))
+    rw e (decided REG (copied (c .kind-line5 .ensures) (p .1) (omega (arith, e))) refl))
     (c .before .if4 .came)
 
 pub decide-spec : {M : Type 1} → statement M
