@@ -225,7 +225,8 @@ fn list_on(
         &mut second,
     );
     let pairs = numbers::power(free);
-    listing::write_list(&first, &second, numbers::power(found), pairs as u32, counts);
+    let combinations = numbers::power(found);
+    listing::write_list(&first, &second, combinations, pairs as u32, free, counts);
     pairs
 }
 

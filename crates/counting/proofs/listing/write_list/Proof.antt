@@ -7,10 +7,10 @@ use Rattle.counting.proofs.listing.write_list.Tie as tie
 use Rattle.counting.proofs.Written.{WrittenTo, written-start, written-next, written-end}
 
 abbrev Inv-loop : tie.InvT-loop
-Inv-loop one other combinations pairs counts₀ n₀ counts n = WrittenTo one other pairs combinations counts₀ counts n
+Inv-loop one other combinations pairs free counts₀ n₀ counts n = WrittenTo one other pairs combinations counts₀ counts n
 
 abbrev μ-loop : tie.MeasureT-loop
-μ-loop one other combinations pairs counts₀ n₀ counts n = combinations - n
+μ-loop one other combinations pairs free counts₀ n₀ counts n = combinations - n
 
 write-four-requires : tie.Need-write-four-requires Inv-loop μ-loop
 write-four-requires c κs =

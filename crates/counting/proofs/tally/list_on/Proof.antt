@@ -87,8 +87,8 @@ surveyed c = surveyed-by (c .before .before .before .divide .ensures .0) (found 
 
 write-list-requires : tie.Need-write-list-requires
 write-list-requires c κs =
-    let w = c .before in
-    let v = w .before .before .before in
+    let w = c .before .before .before in
+    let v = w .before in
     let t = v .before in
     let q = expanded (found (listed t)) in
     let p = planned q in
@@ -96,13 +96,13 @@ write-list-requires c κs =
     let most = pow-mono 8 (a .found) (start p .pre .0 .read-in .few) in
     let n = v .power .ensures .0 in
     let (one, other) = t .tally-both .ensures (a .table .now) (a .secrets .now) (prepared q) in
-    (omega (arith, w .power2 .ensures .0, most), omega (arith, w .power2 .ensures .0, most, start p .pre .0 .room), omega (arith, n, pairs p, few p), omega (arith, n, pairs p, few p), one .few, other .few)
+    (omega (arith, w .power2 .ensures .0, most), omega (arith, w .power2 .ensures .0, most, start p .pre .0 .room), n, free-few p, one .few, other .few)
 
 returns : tie.Need-returns
 returns c =
     let u = c .before .before in
-    let w = u .before .before in
-    let v = w .before .before .before in
+    let w = u .before .before .before .before in
+    let v = w .before in
     let t = v .before in
     let q = expanded (found (listed t)) in
     let p = planned q in
@@ -124,7 +124,7 @@ list-on-spec =
     (λ c κs. let q = expanded (c .before .before .before .before) in let p = prepared q in (p .read-in .few, omega (arith, p .read-in .few, p .read-in .sized), free-few (planned q), (λ i l. omega (arith, p .read-in .made i l, p .room))))
     (λ c κs. let s = c .before .before .before .before .before in (ready (expanded (found s)), enumerated s, surveyed s, s .list-shifts .ensures, refl, refl))
     (λ c κs. free-few (planned (expanded (found (listed c)))))
-    (λ c κs. let p = planned (expanded (found (listed (c .before .before .before)))) in omega (arith, start p .pre .0 .read-in .few))
+    (λ c κs. let p = planned (expanded (found (listed (c .before)))) in omega (arith, start p .pre .0 .read-in .few))
     (λ c. let v = c .before .before .before in record { fits = omega (arith, v .power .ensures) })
     write-list-requires
     (λ c. expanded (found (listed (c .before .before .before .before .before .before .before .before))) .prepare .kept .1 .1 .1 .1 .1 .1 .0)
