@@ -105,14 +105,27 @@ survey-next {n = n} room a b = record {
 }
 
 -- all: those that are read, then the outputs
-pub all-surveyed : {sums terms read : List ℕ} {outputs found start needed factors needed′ factors′ : ℕ} → outputs ≤ 32 → ((i : ℕ) → i < found → Within (nth sums (nth read i)) start)
-    → SurveysMore terms 32 (32 + found) start 0 needed factors → SurveysMore terms 0 outputs needed factors needed′ factors′ → Surveyed sums terms read outputs found factors′
-all-surveyed {needed′ = needed′} few reads inner outs = record {
-  needed = needed′;
-  reads = λ i h s d. outs .needed-more s (inner .needed-more s (reads i h s d));
-  outs = outs .done;
-  inner = λ n l u. lifted outs n (omega arith) (inner .done n l u);
-}
+module _ {sums terms read : List ℕ} {outputs found start needed factors needed′ factors′ : ℕ} (few : outputs ≤ 32) (reads : (i : ℕ) → i < found → Within (nth sums (nth read i)) start)
+    (inner : SurveysMore terms 32 (32 + found) start 0 needed factors) (outs : SurveysMore terms 0 outputs needed factors needed′ factors′) where
+  pub all-surveyed : Surveyed sums terms read outputs found factors′
+  all-surveyed = record {
+    needed = needed′;
+    reads = λ i h s d. outs .needed-more s (inner .needed-more s (reads i h s d));
+    outs = outs .done;
+    inner = λ n l u. lifted outs n (omega arith) (inner .done n l u);
+  }
+
+  -- where all that are needed vary
+  pub needed-surveyed : Surveyed sums terms read outputs found needed′
+  needed-surveyed = record {
+    needed = needed′;
+    reads = λ i h s d. outs .needed-more s (inner .needed-more s (reads i h s d));
+    outs = λ n l u. both (outs .done n l u);
+    inner = λ n l u. both (lifted outs n (omega arith) (inner .done n l u));
+  }
+    where
+      both : {n : ℕ} → Surveys terms needed′ factors′ n → Surveys terms needed′ needed′ n
+      both v = record { one = λ d. (v .one d .0, v .one d .0); other = λ d. (v .other d .0, v .other d .0) }
 
 pub surveyed-by : {sums terms read : List ℕ} {outputs found factors f : ℕ} → f ≡ factors → Surveyed sums terms read outputs found factors → Surveyed sums terms read outputs found f
 surveyed-by {sums} {terms} {read} {outputs} {found} e s = subst (Surveyed sums terms read outputs found) (sym e) s

@@ -63,15 +63,17 @@ fn survey_products(terms: &[u64; TERMS], from: usize, to: usize, survey: Survey)
     all
 }
 
-// The factors of the products that the read wires need.
-pub(crate) fn find_factors(
+// The variables of which the free bits are gone through: the factors of the products that the read wires need, or all that they need
+// where these are so few that moving counts would take longer.
+pub(crate) fn find_varied(
     sums: &[u64],
     terms: &[u64; TERMS],
     outputs: usize,
     read: &[u16],
     found: usize,
+    free: usize,
 ) -> u64
-    requires { ⌜ (found ≤ 8) × (found ≤ length (now read)) × ((i : ℕ) → i < found → nth (now read) i < length (now sums)) × (outputs ≤ 32) × (length (now terms) ≡ 80) × BoundedTerms (now terms) 0 outputs × BoundedTerms (now terms) 32 (32 + found) ⌝ }
+    requires { ⌜ (free ≤ 16) × (found ≤ 8) × (found ≤ length (now read)) × ((i : ℕ) → i < found → nth (now read) i < length (now sums)) × (outputs ≤ 32) × (length (now terms) ≡ 80) × BoundedTerms (now terms) 0 outputs × BoundedTerms (now terms) 32 (32 + found) ⌝ }
     ensures { λ r. ⌜ Surveyed (now (sums .entry)) (now (terms .entry)) (now (read .entry)) outputs found r ⌝ }
 {
     let start = Survey {
@@ -80,6 +82,9 @@ pub(crate) fn find_factors(
     };
     let inner = survey_products(terms, 32, 32 + found, start);
     let all = survey_products(terms, 0, outputs, inner);
+    if count_free(all.needed, free) <= found {
+        return all.needed;
+    }
     all.factors
 }
 
@@ -195,15 +200,15 @@ pub(crate) fn fold(
     scale(tally, numbers::power(doubles) as u32, count);
 }
 
-// How many of the free bits are factors.
-pub(crate) fn count_factors(factors: u64, free: usize) -> usize
+// How many free bits are among variables.
+pub(crate) fn count_free(variables: u64, free: usize) -> usize
     requires { ⌜ free ≤ 16 ⌝ }
-    ensures { λ r. ⌜ r ≡ countVaried (variedIn factors free) ⌝ }
+    ensures { λ r. ⌜ r ≡ countVaried (variedIn variables free) ⌝ }
 {
     let mut count = 0;
     let mut i = 0;
     while i < free {
-        count += ((factors >> i) % 2) as usize;
+        count += ((variables >> i) % 2) as usize;
         i += 1;
     }
     count

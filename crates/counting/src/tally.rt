@@ -35,7 +35,7 @@ pub struct Plan {
     pub free: usize,
 }
 
-// The pairs that are gone through: only free bits that are factors vary.
+// The pairs that are gone through: only free bits that are factors vary, or others beside them.
 pub struct Enumeration {
     pub factors: u64,
     // batches of pairs, and the pairs of each
@@ -207,8 +207,8 @@ fn list_on(
     let free = plan.free;
     let mut terms = [0u64; TERMS];
     let outputs = prepare(table, secrets, inputs, plan, read, found, sums, &mut terms);
-    let factors = linear::find_factors(sums, &terms, outputs, read, found);
-    let enumeration = divide(factors, linear::count_factors(factors, free));
+    let factors = linear::find_varied(sums, &terms, outputs, read, found, free);
+    let enumeration = divide(factors, linear::count_free(factors, free));
     let shifts = linear::list_shifts(sums, read, found, free);
     let mut first = [0u32; 256];
     let mut second = [0u32; 256];

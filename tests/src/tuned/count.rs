@@ -1,5 +1,6 @@
 //! Counts: the check's pass, the stops and every wire's sum once, then all values of the free bits that are multiplied in what the
-//! read wires need, many at a time, eight in the bits of each byte. The other free bits are only added: each moves all counts.
+//! read wires need, or of all that they need where these are few, many at a time, eight in the bits of each byte. The other free
+//! bits are only added: each moves all counts.
 use super::evaluate::bits;
 use super::lanes::{Lanes, Planes};
 use super::sums::{Sum, Sums};
@@ -18,24 +19,26 @@ pub fn count(
     let task = Task::new(table, notes, secrets, probes, counts.len())?;
     let sums = Sums::new(table, &task, secrets);
     let (needed, factors) = sums.needed();
-    let free = ((factors >> 1) & ((1 << task.bits) - 1)).count_ones() as usize;
+    let free_bits = |sum: Sum| ((sum >> 1) & ((1 << task.bits) - 1)).count_ones() as usize;
+    let varied = if free_bits(needed) <= task.wires { needed } else { factors };
+    let free = free_bits(varied);
     let mut tally = Tally::new(task.wires, free);
     match free {
-        0..=3 => all_pairs::<1>(&task, &sums, needed, factors, &mut tally),
-        4 | 5 => all_pairs::<4>(&task, &sums, needed, factors, &mut tally),
-        6 | 7 => all_pairs::<16>(&task, &sums, needed, factors, &mut tally),
-        _ => all_pairs::<MOST_PLANES>(&task, &sums, needed, factors, &mut tally),
+        0..=3 => all_pairs::<1>(&task, &sums, needed, varied, &mut tally),
+        4 | 5 => all_pairs::<4>(&task, &sums, needed, varied, &mut tally),
+        6 | 7 => all_pairs::<16>(&task, &sums, needed, varied, &mut tally),
+        _ => all_pairs::<MOST_PLANES>(&task, &sums, needed, varied, &mut tally),
     }
     let mut times = tally.all();
-    let doubled = move_counts(&task, &sums, factors, &mut times);
+    let doubled = move_counts(&task, &sums, varied, &mut times);
     Ok(task.answer(counts, |set, combination| times[set << task.wires | combination] << doubled))
 }
 
-/// Each free bit that is only added, set or not: every count and the one that it is moved to, added. Gives how many of them move
+/// Each free bit that does not vary, set or not: every count and the one that it is moved to, added. Gives how many of them move
 /// nothing, and so double all counts.
-fn move_counts(task: &Task, sums: &Sums, factors: Sum, times: &mut [u32]) -> usize {
+fn move_counts(task: &Task, sums: &Sums, varied: Sum, times: &mut [u32]) -> usize {
     let mut doubled = 0;
-    for bit in (1..=task.bits).filter(|&bit| (factors >> bit) & 1 == 0) {
+    for bit in (1..=task.bits).filter(|&bit| (varied >> bit) & 1 == 0) {
         let read = sums.read[..task.wires].iter();
         let shift = read.fold(0, |shift, sum| shift << 1 | (sum >> bit & 1) as usize);
         if shift == 0 {
@@ -238,17 +241,17 @@ fn transposed(mut x: u64) -> u64 {
     x
 }
 
-/// Numbers the pairs by the free bits that are factors, and the set by the bit behind them; goes through them all, 8 · P a pass.
+/// Numbers the pairs by the free bits that vary, and the set by the bit behind them; goes through them all, 8 · P a pass.
 fn all_pairs<const P: usize>(
     task: &Task,
     sums: &Sums,
     needed: Sum,
-    factors: Sum,
+    varied: Sum,
     tally: &mut Tally,
 ) {
     let mut lanes = [Planes::<P>::ZEROS; 64];
     lanes[0] = Planes::ONES;
-    let variables = (1..=task.bits).filter(|&bit| (factors >> bit) & 1 == 1).chain([task.bits + 1]);
+    let variables = (1..=task.bits).filter(|&bit| (varied >> bit) & 1 == 1).chain([task.bits + 1]);
     let fixed = 3 + P.ilog2() as usize;
     for (bit, variable) in variables.clone().enumerate().take(fixed) {
         lanes[variable] = pattern(bit);

@@ -23,10 +23,10 @@ start c = c .before .before .before .before .before
 abbrev planned : tie.After-prepare → tie.After-plan-pairs
 planned c = c .before .before .before
 
-abbrev expanded : tie.After-find-factors → tie.After-prepare
+abbrev expanded : tie.After-find-varied → tie.After-prepare
 expanded c = c .before .before .before .before .before .before
 
-abbrev found : tie.After-list-shifts → tie.After-find-factors
+abbrev found : tie.After-list-shifts → tie.After-find-varied
 found c = c .before .before .before .before .before
 
 abbrev listed : tie.After-tally-both → tie.After-list-shifts
@@ -79,11 +79,11 @@ enumerated : (c : tie.After-list-shifts) → let q = expanded (found c) in Enume
 enumerated c =
     let v = c .before .before .before in
     let (same, d) = v .divide .ensures in
-    enumerates _ same (v .before .count-factors .ensures) d
+    enumerates _ same (v .before .count-free .ensures) d
 
 surveyed : (c : tie.After-list-shifts) → let q = expanded (found c) in let a = start (planned q) .args in
     Surveyed (q .prepare .last .1 .1 .1 .1 .1 .1 .0) (q .prepare .last .1 .1 .1 .1 .1 .1 .1 .0) (a .read .now) (q .prepare .result) (a .found) (c .before .before .before .divide .result .factors)
-surveyed c = surveyed-by (c .before .before .before .divide .ensures .0) (found c .find-factors .ensures)
+surveyed c = surveyed-by (c .before .before .before .divide .ensures .0) (found c .find-varied .ensures)
 
 write-list-requires : tie.Need-write-list-requires
 write-list-requires c κs =
@@ -118,9 +118,9 @@ list-on-spec =
     (tie.spec
     (λ c κs. search needs)
     prepare-requires
-    (λ c κs. let q = c .before .before .before .before .before in let p = prepared q in (p .read-in .few, omega (arith, p .read-in .few, p .read-in .sized), (λ i l. omega (arith, p .read-in .made i l, p .room)), p .expanded .few, p .terms-sized, p .expanded .before, p .expanded .reads-before))
+    (λ c κs. let q = c .before .before .before .before .before in let p = prepared q in (free-few (planned q), p .read-in .few, omega (arith, p .read-in .few, p .read-in .sized), (λ i l. omega (arith, p .read-in .made i l, p .room)), p .expanded .few, p .terms-sized, p .expanded .before, p .expanded .reads-before))
     (λ c κs. free-few (planned (expanded c)))
-    (λ c κs. let f = c .before in omega (arith, c .count-factors .ensures, varied-most (f .find-factors .result) _ (free-few (planned (expanded f)))))
+    (λ c κs. let f = c .before in omega (arith, c .count-free .ensures, varied-most (f .find-varied .result) _ (free-few (planned (expanded f)))))
     (λ c κs. let q = expanded (c .before .before .before .before) in let p = prepared q in (p .read-in .few, omega (arith, p .read-in .few, p .read-in .sized), free-few (planned q), (λ i l. omega (arith, p .read-in .made i l, p .room))))
     (λ c κs. let s = c .before .before .before .before .before in (ready (expanded (found s)), enumerated s, surveyed s, s .list-shifts .ensures, refl, refl))
     (λ c κs. free-few (planned (expanded (found (listed c)))))
