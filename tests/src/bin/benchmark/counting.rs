@@ -198,6 +198,17 @@ fn shuffled(name: &str, bits: usize, wires: usize) -> Load {
     probed(name, builder, &Vec::from_iter(last - 6..last))
 }
 
+/// ANDs of two shares in a chain, each multiplying the last by one secret: nearly all of the free bits are factors.
+fn chain(bits: usize) -> Load {
+    let mut builder = Builder::new(2);
+    let (mut product, mut secret) = (builder.input(1), builder.input(0));
+    for _ in 2..bits {
+        product = builder.and(&product, &secret);
+        secret = builder.registers(&secret);
+    }
+    Load::new(&format!("{bits} bits, AND chain"), builder, product)
+}
+
 /// A circuit with six registers at its end, which are probed.
 fn probed(name: &str, mut builder: Builder, wires: &[u16]) -> Load {
     let probes = builder.registers(wires);
@@ -219,6 +230,10 @@ pub fn print(subject: &dyn Calls, rounds: usize) {
     println!("growth with the free bits");
     for bits in [4, 6, 8, 10, 12, 14, 15, 16] {
         filled(&format!("{bits} free bits"), bits, 300).print(subject, rounds);
+    }
+    println!("free bits that are factors");
+    for bits in [8, 12, 16] {
+        chain(bits).print(subject, rounds);
     }
     println!("growth with the wires");
     for wires in [100, 200, 400, 800, 1600, 3200] {
