@@ -48,13 +48,24 @@ fn secret_sums(secrets: &[u8], inputs: usize) -> [u64; 16]
 fn free_sums() -> [u64; 16]
     ensures { λ r. ⌜ FreeSums r ⌝ }
 {
-    let mut sums = [0u64; 16];
-    let mut i = 0;
-    while i < 16 {
-        sums[i] = 1 << i;
-        i += 1;
-    }
-    sums
+    [
+        0x1,
+        0x2,
+        0x4,
+        0x8,
+        0x10,
+        0x20,
+        0x40,
+        0x80,
+        0x100,
+        0x200,
+        0x400,
+        0x800,
+        0x1000,
+        0x2000,
+        0x4000,
+        0x8000,
+    ]
 }
 
 // Expands an accepted table for the wires that are read, and answers how many outputs of ANDs it has.
