@@ -2,14 +2,14 @@
 -- those in which only the factors vary.
 use mathlib.Core.Path.{_≡_, refl, sym, ap, ap₂, _∙_}
 use mathlib.Core.Bool.{Bool, true, false, true≢false, cond}
-use mathlib.Core.List.{List, [], _∷_, _++_, map}
+use mathlib.Core.List.{List, [], _∷_, _++_}
 use Prim.Native.Nat.{ℕ, zero, suc, _+_, _*_, _-_, _^_, _≤_, _<_}
 use native.Mathlib.Omega.{arith}
 use lib.Bits.{bitAnd, bitXor}
 use lib.Dec.{ltb, eqb}
 use lib.ListN.{length, take, length-append}
 use lib.Seq.{length-take-le}
-use borrow.Author.Tests.{ltb-true, ltb-false, lt-ltb, le-ltb, ne-eqb}
+use borrow.Author.Tests.{ltb-true, ltb-false, lt-ltb, le-ltb}
 use Rattle.circuit.specs.Lists.{_⊕_, nth, range}
 use Rattle.circuit.specs.Circuit.{Circuit, size}
 use Rattle.circuit.proofs.Base.{cases, range-in}
@@ -19,11 +19,10 @@ use Rattle.secrecy.proofs.Sums.{sumBits}
 use Rattle.gadgets.specs.Internal.Accepting.{circuitIn}
 use Rattle.simulation.specs.Internal.Filling.{Values}
 use Rattle.symbolic.specs.Internal.Sums.{added, termWord, Before}
-use Rattle.symbolic.specs.Internal.Expanding.{Solves}
 use Rattle.counting.specs.declared.tally.Plan.{Plan}
 use Rattle.counting.specs.Internal.Pairs.{freeOf, valuesWith, numberWith, shownOf}
 use Rattle.counting.specs.Internal.Lanes.{laneBit}
-use Rattle.counting.specs.Internal.Linear.{folded, Within, Surveys, Surveyed, variedIn, shiftIn, ShiftsIn, Remade}
+use Rattle.counting.specs.Internal.Linear.{folded, Surveys, Surveyed, variedIn, shiftIn, ShiftsIn, Remade}
 use Rattle.counting.specs.Internal.Tallying.{setOf, Prepared, TalliedSome, Tallied}
 use Rattle.counting.proofs.Numbered.{pow-mono, sum-numbers}
 use Rattle.counting.proofs.Adding.{few-ones}

@@ -2,14 +2,14 @@
 use mathlib.Core.Path.{_≡_, refl, sym, ap, ap₂, _∙_}
 use mathlib.Core.Bool.{Bool, true, false, true≢false}
 use mathlib.Core.List.{List, [], _∷_, _++_, map}
-use Prim.Native.Nat.{ℕ, zero, suc, _+_, _*_, _/_, _%_, _^_, _≤_, _<_}
+use Prim.Native.Nat.{ℕ, zero, suc, _+_, _*_, _/_, _%_, _^_, _<_}
 use native.Mathlib.Nat.{pow-suc}
 use native.Mathlib.Omega.{arith}
 use lib.Bits.{bitXor, xor-block, xor-comm, xor-zero-r}
 use lib.ListN.{length, length-map}
-use Rattle.circuit.specs.Lists.{_⊕_, range}
+use Rattle.circuit.specs.Lists.{_⊕_}
 use Rattle.circuit.specs.Circuit.{isSet}
-use Rattle.circuit.proofs.Base.{cases, In, in-head, in-tail, range-in}
+use Rattle.circuit.proofs.Base.{cases, In, in-head, in-tail}
 use Rattle.semantics.specs.Values.{byte, at}
 use Rattle.simulation.specs.Internal.Filling.{Values}
 use Rattle.simulation.proofs.Adding.{xor-assoc}

@@ -16,7 +16,7 @@ use Rattle.semantics.specs.Probes.{sheet}
 use Rattle.semantics.specs.Counts.{alike, EqualCounts, freeBits}
 use Rattle.secrecy.proofs.Sums.{sumBits, sum-same}
 use Rattle.counting.specs.Counting.{combinations, showing, isRead, readWires, pairCount, countOf, total, AddUp, SameColumns}
-use Rattle.counting.specs.Internal.Pairs.{freeOf, sumTo, numberOf, sharingOf, tapeOf, seen, shownOf}
+use Rattle.counting.specs.Internal.Pairs.{freeOf, numberOf, sharingOf, tapeOf, seen, shownOf}
 use Rattle.counting.proofs.Free.{sum-none, arises, pairs-free}
 use Rattle.counting.proofs.Numbered.{sum-numbers, combination-at, combination-length, sum-to-same}
 

@@ -217,22 +217,6 @@ module _ {table : List ℕ} (a : AcceptedTable table) {at : ℕ} (b : Between ta
           randoms-next = at-d (λ n. so-far a onward .randoms ≡ k .randoms + shape n kind .randoms) (ap (λ (c : Circuit). c .randoms) grown);
         }
 
-  -- the place behind the next frame, where the table goes on
-  pub record Onward (place : ℕ) : Type 0 where
-    pub next : Between table (a .fs) place
-    pub more : length (next .before) ≡ suc (length (b .before))
-    pub past : at + 2 ≤ place
-
-  pub frame-words : {d : ℕ} → d ≡ a .d → at < length table → Onward (at + (1 + words d (kindOf (nth table at))))
-  frame-words {d} same l = go (b .after) refl (fitting .1)
-    where
-      go : (after : List Frame) → b .after ≡ after → AllFit k after → Onward (at + (1 + words d (kindOf (nth table at))))
-      go [] e fit = absurd (omega (arith, length-drop at table, ap length (b .rest ∙ ap wordsOf e)))
-      go (f ∷ later) e (next fits few more) =
-          let m = met f later e fits few in
-          let place : at + 1 + words (a .d) (f .kind) ≡ at + (1 + words (a .d) (f .kind)) = omega arith in
-          rw (same, word-is f later e fits few, kind-known (f .kind), ← place) (record { next = m .onward; more = m .longer; past = m .later })
-
   -- what the step's answer says: a frame is met, or no frame is left; a refusal never comes
   abbrev pub Answers : (d w from : ℕ) → Step → Type 0
   Answers d w from (Next fr sh wk) = Met a b d w from fr sh wk

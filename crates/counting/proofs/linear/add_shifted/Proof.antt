@@ -1,8 +1,7 @@
 -- The loop's invariant: the counts up to one, and those with which they are added, are sums.
-use mathlib.Core.Path.{_≡_, _∙_}
-use Prim.Native.Nat.{_-_, _≤_, _<_}
+use mathlib.Core.Path.{_∙_}
+use Prim.Native.Nat.{_-_}
 use native.Mathlib.Omega.{arith}
-use lib.ListN.{length}
 use Rattle.counting.proofs.linear.add_shifted.Statement.{statement}
 use Rattle.counting.proofs.linear.add_shifted.Tie as tie
 use Rattle.counting.proofs.Shifting.{PairedTo, paired-start, paired-next, paired-few, paired-end}

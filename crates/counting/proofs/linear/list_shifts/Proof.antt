@@ -1,8 +1,6 @@
 -- The loop's invariant: the numbers of the free bits up to one are written, and none is too large.
-use mathlib.Core.Path.{_≡_}
-use Prim.Native.Nat.{_-_, _≤_, _<_}
+use Prim.Native.Nat.{_-_, _≤_}
 use native.Mathlib.Omega.{arith}
-use lib.ListN.{length}
 use Rattle.counting.proofs.linear.list_shifts.Statement.{statement}
 use Rattle.counting.proofs.linear.list_shifts.Tie as tie
 use Rattle.counting.specs.Internal.Linear.{ShiftsIn}

@@ -1,13 +1,13 @@
 -- The table is prepared once; each set is tallied from 0, and the list is written from the two tallies.
-use mathlib.Core.Path.{_≡_, refl, sym, ap, _∙_}
-use mathlib.Core.Bool.{Bool, false}
+use mathlib.Core.Path.{_≡_, refl, _∙_}
+use mathlib.Core.Bool.{false}
 use Prim.Native.Nat.{_^_, _≤_}
 use native.Mathlib.Omega.{arith}
 use borrow.Author.Needs.{needs}
 use Rattle.gadgets.specs.Internal.Accepting.{circuitIn}
 use Rattle.counting.specs.Counting.{pairCount}
 use Rattle.counting.specs.Internal.Tallying.{Prepared, Ready, Enumerates}
-use Rattle.counting.specs.Internal.Linear.{Surveyed, ShiftsIn}
+use Rattle.counting.specs.Internal.Linear.{Surveyed}
 use Rattle.counting.proofs.tally.list_on.Statement.{statement}
 use Rattle.counting.proofs.tally.list_on.Tie as tie
 use Rattle.counting.proofs.Numbered.{pow-mono}

@@ -1,5 +1,5 @@
 -- Free bits that are no factors are counted once those that are factors have been gone through.
-use mathlib.Core.Path.{refl, _∙_}
+use mathlib.Core.Path.{refl}
 use mathlib.Core.Bool.{true, false}
 use borrow.Author.Needs.{needs}
 use Rattle.counting.proofs.tally.tally_both.Statement.{statement}

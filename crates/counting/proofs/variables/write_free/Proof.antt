@@ -3,7 +3,6 @@ use mathlib.Core.Path.{_≡_, sym, _∙_}
 use Prim.Native.Nat.{ℕ, _+_, _*_, _<_}
 use native.Mathlib.Omega.{arith}
 use borrow.Author.Needs.{needs}
-use Rattle.symbolic.specs.Internal.Sums.{fourAt}
 use Rattle.counting.specs.Internal.Words.{freeWord}
 use Rattle.counting.proofs.variables.write_free.Statement.{statement}
 use Rattle.counting.proofs.variables.write_free.Tie as tie

@@ -1,5 +1,5 @@
 -- v and V are a sum; the others are products.
-use mathlib.Core.Path.{_≡_, ap, _∙_}
+use mathlib.Core.Path.{ap, _∙_}
 use borrow.Author.Tests.{lt-ltb, le-ltb}
 use borrow.Author.Needs.{needs}
 use Rattle.gadgets.specs.declared.equations.Factors.{Factors}
