@@ -25,7 +25,7 @@ fn larger(one: u8, other: u8) -> u8
 }
 
 // Where a block of at most so many begins that ends before a place.
-pub fn block_start(end: usize, size: usize) -> usize
+pub(crate) fn block_start(end: usize, size: usize) -> usize
     requires { ⌜ (0 < end) × (0 < size) ⌝ }
     ensures { λ r. ⌜ r < end ⌝ }
 {

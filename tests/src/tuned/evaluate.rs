@@ -225,8 +225,9 @@ fn and<const D: usize>(words: &[u16], random: &[u8], old: &[u8], new: &mut [u8])
     new[6 * D * (D - 1)..].copy_from_slice(&c);
 }
 
+/// The sums of a REF: each share with the random bits of its pairs.
 #[inline(always)]
-fn refresh<const D: usize>(words: &[u16], random: &[u8], old: &[u8], new: &mut [u8]) {
+pub fn refreshed<const D: usize>(words: &[u16], random: &[u8], old: &[u8]) -> [u8; D] {
     let mut sums = row::<D>(words, old);
     let mut next = 0;
     for i in 0..D {
@@ -236,6 +237,12 @@ fn refresh<const D: usize>(words: &[u16], random: &[u8], old: &[u8], new: &mut [
             next += 1;
         }
     }
+    sums
+}
+
+#[inline(always)]
+fn refresh<const D: usize>(words: &[u16], random: &[u8], old: &[u8], new: &mut [u8]) {
+    let sums = refreshed::<D>(words, random, old);
     let (bits, outputs) = new.split_at_mut(random.len());
     bits.copy_from_slice(random);
     outputs[..D].copy_from_slice(&sums);

@@ -1,5 +1,5 @@
 //! What a clock does with the registers inside the gadgets; and rule 18 of the bank.
-use super::evaluate::row;
+use super::evaluate::{refreshed, row};
 use super::{Found, Refused, Sizes};
 use std::mem::replace;
 
@@ -121,15 +121,7 @@ pub fn refresh<const D: usize>(
     new: &mut [u8],
     held: &mut [u8],
 ) {
-    let mut sums = row::<D>(words, old);
-    let mut next = 0;
-    for i in 0..D {
-        for j in i + 1..D {
-            sums[i] ^= random[next];
-            sums[j] ^= random[next];
-            next += 1;
-        }
-    }
+    let sums = refreshed::<D>(words, random, old);
     let (bits, shown) = new.split_at_mut(random.len());
     bits.copy_from_slice(random);
     shown[..D].copy_from_slice(&sums);
