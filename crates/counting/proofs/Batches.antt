@@ -1,4 +1,4 @@
--- All pairs in batches of 256, or in one of fewer; and the numbers of a table and its plan.
+-- All pairs in batches of 128, or in one of fewer; and the numbers of a table and its plan.
 use mathlib.Core.Path.{_≡_, sym, ap, _∙_}
 use mathlib.Core.List.{List}
 use Prim.Native.Nat.{ℕ, _+_, _*_, _-_, _^_, _≤_, _<_}
@@ -17,18 +17,18 @@ use Rattle.counting.specs.Internal.Tallying.{Countable, Planned, Divides
 use Rattle.counting.specs.declared.tally.Plan.{Plan}
 use Rattle.counting.proofs.Numbered.{pow-mono}
 
-pub one-batch : (free lanes : ℕ) → free < 8 → lanes ≡ 2 ^ free → Divides free 1 lanes
+pub one-batch : (free lanes : ℕ) → free < 7 → lanes ≡ 2 ^ free → Divides free 1 lanes
 one-batch free lanes h e = record {
   all = omega arith;
   some = omega (arith, pow-mono free 0 (omega arith));
-  few = omega (arith, pow-mono 8 free (omega arith));
+  few = omega (arith, pow-mono 7 free (omega arith));
   behind = λ batch l. let z : batch ≡ 0 = omega arith in rw z (omega arith);
 }
 
-pub whole-batches : (free count : ℕ) → 8 ≤ free → count ≡ 2 ^ (free - 8) → Divides free count 256
+pub whole-batches : (free count : ℕ) → 7 ≤ free → count ≡ 2 ^ (free - 7) → Divides free count 128
 whole-batches free count h e =
-    let f : free ≡ free - 8 + 8 = omega arith in
-    record { all = ap (λ n. n * 256) e ∙ sym (ap (λ n. 2 ^ n) f ∙ pow-add 2 (free - 8) 8); some = omega arith; few = omega arith; behind = λ batch l. omega arith }
+    let f : free ≡ free - 7 + 7 = omega arith in
+    record { all = ap (λ n. n * 128) e ∙ sym (ap (λ n. 2 ^ n) f ∙ pow-add 2 (free - 7) 7); some = omega arith; few = omega arith; behind = λ batch l. omega arith }
 
 -- numbers of an accepted table with few free bits
 d-is : {table : List ℕ} (a : AcceptedTable table) → circuitIn table .d ≡ a .d

@@ -2,10 +2,10 @@
 use mathlib.Core.Path.{_≡_, refl, sym, ap, ap₂, _∙_}
 use mathlib.Core.Bool.{Bool, true, false, cond}
 use mathlib.Core.List.{List, [], _∷_, map}
-use Prim.Native.Nat.{ℕ, suc, _+_, _*_, _≤_, _<_}
+use Prim.Native.Nat.{ℕ, suc, _+_, _*_, _%_, _≤_, _<_}
 use native.Mathlib.Nat.{zero-add}
 use native.Mathlib.Omega.{arith}
-use lib.Dec.{ltb}
+use lib.Dec.{ltb, leb}
 use lib.ListN.{length, take, set, length-set, length-map}
 use lib.Seq.{getD-set-same, getD-set-other, getD-take, length-take-le, ext-getD}
 use borrow.Author.Tests.{ltb-true, ltb-false}
@@ -60,7 +60,7 @@ rank-free factors free i e = ap (rankIn (variedIn factors free)) (e ∙ sym (var
 -- the words of the free bits up to one, and how many of them vary
 pub record FilledTo (factors free batch : ℕ) (words : List ℕ) (rank i : ℕ) : Type 0 where
   pub most : i ≤ free
-  pub are : (j w : ℕ) → j < i → w < 4 → nth words (4 * j + w) ≡ placedWord factors free j (4 * batch + w)
+  pub are : (j w : ℕ) → j < i → w < 4 → nth words (4 * j + w) ≡ placedWord factors free j (2 * batch + w % 2)
   pub rank-is : rank ≡ rankIn (variedIn factors free) i
   pub sized : length words ≡ 256
 
@@ -74,11 +74,11 @@ module _ {factors free batch : ℕ} {words : List ℕ} {rank i : ℕ} (t : Fille
   next-rank : (b : Bool) → laneBit i factors ≡ b → rank + byte b ≡ rankIn (variedIn factors free) (i + 1)
   next-rank b e = ap₂ _+_ (t .rank-is) (ap byte (sym e)) ∙ sym (rank-more factors free i l)
 
-  filled-with : {new : List ℕ} {r : ℕ} (b : Bool) → laneBit i factors ≡ b → r ≡ rank + byte b → Four words (4 * i) (λ w. cond b (freeWord rank (4 * batch + w)) 0) new → FilledTo factors free batch new r (i + 1)
+  filled-with : {new : List ℕ} {r : ℕ} (b : Bool) → laneBit i factors ≡ b → r ≡ rank + byte b → Four words (4 * i) (λ w. cond b (freeWord rank (2 * batch + w % 2)) 0) new → FilledTo factors free batch new r (i + 1)
   filled-with {new} b e n f = record {
     most = omega arith;
-    are = fours-next (λ j w. placedWord factors free j (4 * batch + w)) {old = words} {new = new} (t .are) (record {
-      are = λ w h. f .are w h ∙ ap (λ m. cond b (freeWord m (4 * batch + w)) 0) (t .rank-is) ∙ sym (placed-word factors free i (4 * batch + w) l b e);
+    are = fours-next (λ j w. placedWord factors free j (2 * batch + w % 2)) {old = words} {new = new} (t .are) (record {
+      are = λ w h. f .are w h ∙ ap (λ m. cond b (freeWord m (2 * batch + w % 2)) 0) (t .rank-is) ∙ sym (placed-word factors free i (2 * batch + w % 2) l b e);
       below = f .below;
       above = f .above;
       sized = f .sized;
@@ -91,19 +91,22 @@ module _ {factors free batch : ℕ} {words : List ℕ} {rank i : ℕ} (t : Fille
   filled-none {new} few e n = filled-with false e (omega arith) (rw n (four words (4 * i) 0 0 0 0 (λ w. 0) (omega (arith, t .sized)) (refl, refl, refl, refl)))
 
   pub filled-next : {new : List ℕ} → i < 16 → laneBit i factors ≡ true
-      → new ≡ fourAt words (4 * i) (freeWord rank (4 * batch)) (freeWord rank (4 * batch + 1)) (freeWord rank (4 * batch + 2)) (freeWord rank (4 * batch + 3)) → FilledTo factors free batch new (rank + 1) (i + 1)
+      → new ≡ fourAt words (4 * i) (freeWord rank (2 * batch)) (freeWord rank (2 * batch + 1)) (freeWord rank (2 * batch)) (freeWord rank (2 * batch + 1)) → FilledTo factors free batch new (rank + 1) (i + 1)
   filled-next {new} few e n =
-      let none : 4 * batch ≡ 4 * batch + 0 = omega arith in
-      filled-with true e refl (rw n (four words (4 * i) _ _ _ _ (λ w. freeWord rank (4 * batch + w)) (omega (arith, t .sized)) (ap (freeWord rank) none, refl, refl, refl)))
+      let none : 2 * batch ≡ 2 * batch + 0 = omega arith in
+      filled-with true e refl (rw n (four words (4 * i) _ _ _ _ (λ w. freeWord rank (2 * batch + w % 2)) (omega (arith, t .sized)) (ap (freeWord rank) none, refl, ap (freeWord rank) none, refl)))
 
 -- and those of the two variables behind them
-pub same-words : {words new : List ℕ} {at x : ℕ} → length words ≡ 256 → at + 4 ≤ 256 → new ≡ fourAt words at x x x x → Four words at (λ w. x) new
-same-words {words} {at = at} {x} s room e = rw e (four words at x x x x (λ w. x) (omega arith) (refl, refl, refl, refl))
+pub set-words : {words new : List ℕ} → length words ≡ 256 → new ≡ fourAt words 64 0 0 ones ones → Four words 64 (λ w. cond (leb 2 w) ones 0) new
+set-words {words} s e = rw e (four words 64 0 0 ones ones (λ w. cond (leb 2 w) ones 0) (omega arith) (refl, refl, refl, refl))
 
-pub filled-end : {factors free : ℕ} {second : Bool} {batch x : ℕ} {words mid new : List ℕ} → free ≤ 16 → FreeFilled factors free batch words → x ≡ cond second ones 0 → Four words 64 (λ w. x) mid → Four mid 68 (λ w. ones) new → Variables factors free second batch new
-filled-end few t e f g = record {
+pub one-words : {words new : List ℕ} → length words ≡ 256 → new ≡ fourAt words 68 ones ones ones ones → Four words 68 (λ w. ones) new
+one-words {words} s e = rw e (four words 68 ones ones ones ones (λ w. ones) (omega arith) (refl, refl, refl, refl))
+
+pub filled-end : {factors free batch : ℕ} {words mid new : List ℕ} → free ≤ 16 → FreeFilled factors free batch words → Four words 64 (λ w. cond (leb 2 w) ones 0) mid → Four mid 68 (λ w. ones) new → Variables factors free batch new
+filled-end few t f g = record {
   free-are = λ i w k h. g .below (4 * i + w) (omega arith) ∙ f .below (4 * i + w) (omega arith) ∙ t .are i w k h;
-  set = λ w h. g .below (64 + w) (omega arith) ∙ f .are w h ∙ e;
+  set = λ w h. g .below (64 + w) (omega arith) ∙ f .are w h;
   one = g .are;
   sized = g .sized ∙ f .sized ∙ t .sized;
 }

@@ -2,10 +2,12 @@
 use mathlib.Core.Path.{_≡_, refl, sym, ap, ap₂, _∙_}
 use mathlib.Core.Bool.{Bool, true, false, cond}
 use mathlib.Core.List.{List, [], _∷_, _++_, map, map-append}
-use Prim.Native.Nat.{ℕ, zero, suc, _+_, _*_, _-_, _^_, _≤_, _<_}
+use Prim.Native.Nat.{ℕ, zero, suc, _+_, _*_, _-_, _%_, _^_, _≤_, _<_}
 use native.Mathlib.Nat.{zero-add, sub-zero, mul-comm}
 use native.Mathlib.Omega.{arith}
 use lib.Bits.{bitXor, xor-lt, xor-self, xor-zero-l}
+use lib.Dec.{leb}
+use borrow.Author.Tests.{le-leb, lt-leb}
 use lib.ListN.{length, take, drop, replicate, length-map, length-take, length-drop, length-replicate}
 use lib.Pow.{pow-lt}
 use lib.Seq.{sets, sets-eq, length-sets, take-at, slice, length-take-le, take-add, drop-at, ext-getD, getD-take, getD-drop}
@@ -26,10 +28,10 @@ use Rattle.symbolic.proofs.Running.{term-same}
 use Rattle.symbolic.proofs.Standing.{words-at}
 use Rattle.counting.specs.declared.tally.Plan.{Plan}
 use Rattle.counting.specs.Internal.Pairs.{completed, valuesWith, placed}
-use Rattle.counting.specs.Internal.Lanes.{laneBit}
+use Rattle.counting.specs.Internal.Lanes.{laneBit, placeOf}
 use Rattle.counting.specs.Internal.Linear.{variedIn}
 use Rattle.counting.specs.Internal.Words.{sharesOf, allShares}
-use Rattle.counting.specs.Internal.Preparing.{secretSum, secretSums, SecretSums, freeSums, preparedShares, preparedTape, Variables}
+use Rattle.counting.specs.Internal.Preparing.{secretSum, secretSums, SecretSums, freeSums, preparedShares, preparedTape, placedWord, Variables}
 use Rattle.counting.specs.Internal.Tallying.{Countable, Planned, setOf, Prepared, HoldsShown}
 use Rattle.counting.proofs.FreeBits.{ones-are}
 use Rattle.counting.proofs.Completing.{map-take, map-drop, sharing-packed, drawn-packed}
@@ -175,19 +177,38 @@ module _ {table secrets read sums terms : List ℕ} {outputs found : ℕ} {plan 
       let value : (o m : ℕ) → ℕ = λ o m. packed lanes (λ l. at (valuesOf (k .wires) (completed o (bits set) (given l)) (drop m (given l))) (nth read i)) in
       sym (ap₂ (λ o m. value o (o * m)) (p .planned .others-are) (countable .sized)) ∙ p .expanded .right lanes sharings tapes f words s i h
 
+-- where the two words of a set stand
+place-lt : (second : Bool) (half : ℕ) → half < 2 → placeOf second half < 4
+place-lt true half h = omega arith
+place-lt false half h = omega arith
+
+place-half : (second : Bool) (half : ℕ) → half < 2 → placeOf second half % 2 ≡ half
+place-half true half h = omega arith
+place-half false half h = omega arith
+
+place-set : (second : Bool) (half : ℕ) → half < 2 → leb 2 (placeOf second half) ≡ second
+place-set true half h = le-leb 2 (half + 2) (omega arith)
+place-set false half h = lt-leb 2 half (omega arith)
+
 -- a batch: the variables, the products and the wires that are read
-module _ {table secrets read sums terms : List ℕ} {outputs found : ℕ} {plan : Plan} (p : Prepared table secrets read sums terms outputs found plan) {factors : ℕ} {second : Bool} {batch : ℕ} {filled mid final shown : List ℕ}
-    (v : Variables factors (plan .free) second batch filled) (outs : Runs terms 0 outputs filled mid) (reads : Runs terms 32 (32 + found) mid final) (s : Shows sums read found final shown) where
+module _ {table secrets read sums terms : List ℕ} {outputs found : ℕ} {plan : Plan} (p : Prepared table secrets read sums terms outputs found plan) {factors batch : ℕ} {filled mid final shown : List ℕ}
+    (v : Variables factors (plan .free) batch filled) (outs : Runs terms 0 outputs filled mid) (reads : Runs terms 32 (32 + found) mid final) (s : Shows sums read found final shown) where
   few : outputs ≤ 32
   few = p .expanded .few
 
-  -- the words of one kind
-  module _ (w : ℕ) (l : w < 4) where
+  -- one of the two words of a set
+  module _ (second : Bool) (half : ℕ) (low : half < 2) where
+    abbrev w : ℕ
+    w = placeOf second half
+
+    l : w < 4
+    l = place-lt second half low
+
     abbrev f : Values
     f = wordsAt w final
 
     abbrev number : ℕ
-    number = 4 * batch + w
+    number = 2 * batch + half
 
     kept : (x : ℕ) → x < 4 * 18 → nth final x ≡ nth filled x
     kept x h = reads .below x (omega arith) ∙ outs .below x (omega arith)
@@ -202,16 +223,16 @@ module _ {table secrets read sums terms : List ℕ} {outputs found : ℕ} {plan 
     unfolding varied
     given = record {
       each = λ e. placed-length (variedIn factors (plan .free)) (64 * number + e) ∙ length-map (range 0 (plan .free)) (λ i. laneBit i factors) ∙ range-length 0 (plan .free);
-      free = λ i h. kept (4 * i + w) (omega (arith, free-few)) ∙ v .free-are i w h l;
-      set = let e : 4 * 16 + w ≡ 64 + w = omega arith in kept (4 * 16 + w) (omega arith) ∙ ap (nth filled) e ∙ v .set w l ∙ ap (λ n. cond second n 0) (sym ones-are);
-      one = let e : 4 * 17 + w ≡ 68 + w = omega arith in kept (4 * 17 + w) (omega arith) ∙ ap (nth filled) e ∙ v .one w l ∙ sym ones-are;
+      free = λ i h. kept (4 * i + w) (omega (arith, free-few, l)) ∙ v .free-are i w h l ∙ ap (λ n. placedWord factors (plan .free) i (2 * batch + n)) (place-half second half low);
+      set = let e : 4 * 16 + w ≡ 64 + w = omega arith in kept (4 * 16 + w) (omega (arith, l)) ∙ ap (nth filled) e ∙ v .set w l ∙ ap₂ (λ b n. cond b n 0) (place-set second half low) (sym ones-are);
+      one = let e : 4 * 17 + w ≡ 68 + w = omega arith in kept (4 * 17 + w) (omega (arith, l)) ∙ ap (nth filled) e ∙ v .one w l ∙ sym ones-are;
     }
 
     -- the products have their words
     solves : Solves terms outputs read found (size (circuitIn table)) f
     solves = record {
-      outs = λ k h. reads .below (4 * (18 + k) + w) (omega (arith, few)) ∙ outs .are k w (omega arith) h l
-          ∙ term-same terms k (wordsAt w mid) f (p .expanded .before k (omega arith) h) (λ y i. sym (reads .below (4 * y + w) (omega (arith, few))));
+      outs = λ k h. reads .below (4 * (18 + k) + w) (omega (arith, few, l)) ∙ outs .are k w (omega arith) h l
+          ∙ term-same terms k (wordsAt w mid) f (p .expanded .before k (omega arith) h) (λ y i. sym (reads .below (4 * y + w) (omega (arith, few, l))));
       reads = λ i h u. let e : 50 + i ≡ 18 + (32 + i) = omega arith in ap f e ∙ reads .are (32 + i) w (omega arith) (omega arith) l;
     }
 
@@ -219,8 +240,8 @@ module _ {table secrets read sums terms : List ℕ} {outputs found : ℕ} {plan 
     unfolding varied
     shows i h = s .are i w h l ∙ sym (valued p given solves i h)
 
-  pub batch-shown : HoldsShown table (setOf table second secrets) factors (plan .free) batch read found shown
-  batch-shown = record { are = λ i w h l. shows w l i h; sized = s .sized }
+  pub batch-shown : HoldsShown table secrets factors (plan .free) batch read found shown
+  batch-shown = record { are = λ second i half h low. shows second half low i h; sized = s .sized }
 
 -- the shares and the random bits are sums of the first 18 variables
 abbrev Low : List ℕ → Type 0

@@ -1,4 +1,4 @@
--- The pairs of one set counted, batch by batch.
+-- The pairs of each set counted, batch by batch.
 use mathlib.Core.Path.{_≡_, refl, sym, ap, subst, _∙_}
 use mathlib.Core.Bool.{Bool}
 use mathlib.Core.List.{List, map, map-map}
@@ -12,9 +12,9 @@ use Rattle.circuit.proofs.Sizes.{range-length}
 use Rattle.semantics.specs.Values.{bits, at}
 use Rattle.gadgets.specs.Internal.Accepting.{circuitIn}
 use Rattle.counting.specs.Internal.Pairs.{numberOf, valuesWith, numberWith, shownAmong, placed, countVaried}
-use Rattle.counting.specs.Internal.Lanes.{laneBit, columnOf, shownIn, Adds}
+use Rattle.counting.specs.Internal.Lanes.{laneBit, columnOf, placeOf, shownIn, Adds}
 use Rattle.counting.specs.declared.tally.Enumeration.{Enumeration}
-use Rattle.counting.specs.Internal.Tallying.{HoldsShown, Divides, Enumerates, ReadIn, TalliedSome}
+use Rattle.counting.specs.Internal.Tallying.{HoldsShown, Divides, Enumerates, ReadIn, setOf, TalliedSome}
 use Rattle.counting.specs.Internal.Linear.{variedIn}
 use Rattle.counting.proofs.Numbered.{pow-mono, by-place}
 use Rattle.counting.proofs.WordBits.{packed-lane}
@@ -52,21 +52,21 @@ tallied-start {table} {secrets} {wires} {factors} {free} {old} {lanes} s h =
     record { counted = subst (λ n. Adds number n old old) z (adds-none number old); none = h; wide = s }
 
 -- one batch more
-module _ {table secrets read : List ℕ} {factors free : ℕ} {old tally : List ℕ} {found batch lanes : ℕ} (t : TalliedTo table secrets (take found read) factors free old tally batch lanes) (behind : batch * lanes ≡ 256 * batch) (most : lanes ≤ 256)
+module _ {table secrets read : List ℕ} (second : Bool) {factors free : ℕ} {old tally : List ℕ} {found batch lanes : ℕ} (t : TalliedTo table (setOf table second secrets) (take found read) factors free old tally batch lanes) (behind : batch * lanes ≡ 128 * batch) (most : lanes ≤ 128)
     {shown : List ℕ} (h : HoldsShown table secrets factors free batch read found shown) (r : ReadIn table read found) where
-  pair-shows : (u : ℕ) → u < lanes → shownIn shown found u ≡ numberIn table secrets (take found read) factors free (batch * lanes + u)
+  pair-shows : (u : ℕ) → u < lanes → shownIn shown second found u ≡ numberIn table (setOf table second secrets) (take found read) factors free (batch * lanes + u)
   pair-shows u l =
-      let value : ℕ → ℕ → Bool = λ p x. at (valuesWith (circuitIn table) (bits secrets) (placed (variedIn factors free) p)) x in
-      let e : 64 * (4 * batch + u / 64) + u % 64 ≡ batch * lanes + u = omega arith in
-      number-same (λ i. laneBit (u % 64) (columnOf shown (u / 64) i)) (λ i. value (batch * lanes + u) (nth read i)) found
-      (λ i k. ap (laneBit (u % 64)) (h .are i (u / 64) k (omega arith)) ∙ packed-lane 64 (u % 64) (λ p. value (64 * (4 * batch + u / 64) + p) (nth read i)) (omega arith)
+      let value : ℕ → ℕ → Bool = λ p x. at (valuesWith (circuitIn table) (bits (setOf table second secrets)) (placed (variedIn factors free) p)) x in
+      let e : 64 * (2 * batch + u / 64) + u % 64 ≡ batch * lanes + u = omega arith in
+      number-same (λ i. laneBit (u % 64) (columnOf shown (placeOf second (u / 64)) i)) (λ i. value (batch * lanes + u) (nth read i)) found
+      (λ i k. ap (laneBit (u % 64)) (h .are second i (u / 64) k (omega arith)) ∙ packed-lane 64 (u % 64) (λ p. value (64 * (2 * batch + u / 64) + p) (nth read i)) (omega arith)
       ∙ ap (λ p. value p (nth read i)) e)
       ∙ sym (number-taken (value (batch * lanes + u)) found read (omega (arith, r .few, r .sized)))
 
-  pub tallied-next : {new : List ℕ} → Adds (shownIn shown found) lanes tally new → TalliedTo table secrets (take found read) factors free old new (batch + 1) lanes
+  pub tallied-next : {new : List ℕ} → Adds (shownIn shown second found) lanes tally new → TalliedTo table (setOf table second secrets) (take found read) factors free old new (batch + 1) lanes
   tallied-next {new} a =
       let more : batch * lanes + lanes ≡ (batch + 1) * lanes = omega arith in
-      record { counted = subst (λ n. Adds (numberIn table secrets (take found read) factors free) n old new) more (adds-more (t .counted) a pair-shows); none = t .none; wide = t .wide }
+      record { counted = subst (λ n. Adds (numberIn table (setOf table second secrets) (take found read) factors free) n old new) more (adds-more (t .counted) a pair-shows); none = t .none; wide = t .wide }
 
 -- the counts stay small
 module _ {table secrets wires : List ℕ} {factors free : ℕ} {old tally : List ℕ} {batch lanes : ℕ} (t : TalliedTo table secrets wires factors free old tally batch lanes) where

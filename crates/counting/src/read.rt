@@ -57,8 +57,22 @@ fn block_end(from: usize, wires: usize) -> usize
     }
 }
 
-// The marked wires below a number, the lowest first, as far as the list goes; and how many there are. A block of wires is passed over
-// where none is marked.
+// The list with the marked wires of a block. A whole one is passed over where no wire is marked; in fewer wires it is not asked first,
+// since bytes that were just written one by one are slow to read together.
+fn list_some(marks: &[u8], from: usize, to: usize, read: &mut [u16; 8], before: usize) -> usize
+    requires { ⌜ (from ≤ to) × (to ≤ wireLimit) × (to ≤ length (now marks)) × Listed (now marks) from (now read) before ⌝ }
+    ensures { λ r. ⌜ Listed (now (marks .entry)) to (now (read .exit)) r ⌝ }
+{
+    if to - from < BLOCK {
+        return list_block(marks, from, to, read, before);
+    }
+    if largest(marks, from, to - from) < 1 {
+        return before;
+    }
+    list_block(marks, from, to, read, before)
+}
+
+// The marked wires below a number, the lowest first, as far as the list goes; and how many there are.
 fn list_marked(marks: &[u8], wires: usize, read: &mut [u16; 8]) -> usize
     requires { ⌜ (wires ≤ wireLimit) × (wires ≤ length (now marks)) × (length (now read) ≡ 8) ⌝ }
     ensures { λ r. ⌜ Listed (now (marks .entry)) wires (now (read .exit)) r ⌝ }
@@ -67,9 +81,7 @@ fn list_marked(marks: &[u8], wires: usize, read: &mut [u16; 8]) -> usize
     let mut x = 0;
     while x < wires {
         let to = block_end(x, wires);
-        if 0 < largest(marks, x, to - x) {
-            count = list_block(marks, x, to, read, count);
-        }
+        count = list_some(marks, x, to, read, count);
         x = to;
     }
     count

@@ -1,5 +1,5 @@
 // All pairs of a sharing of given secret bits and a tape: how often the read wires show each combination. Those that are gone through
-// are taken 256 at once.
+// are taken 128 at once, under both sets of secret bits.
 ghost use mathlib.Core.Path.{_≡_};
 ghost use mathlib.Core.Bool.{true, false};
 ghost use mathlib.Core.List.{List};
@@ -43,12 +43,12 @@ pub struct Enumeration {
     pub lanes: usize,
 }
 
-// The pairs of so many free bits in batches: 256 pairs each, or one of fewer.
+// The pairs of so many free bits in batches: 128 pairs each, or one of fewer.
 fn divide(factors: u64, varied: usize) -> Enumeration
     requires { ⌜ varied ≤ 16 ⌝ }
     ensures { λ r. ⌜ (r .factors ≡ factors) × Divides varied (r .batches) (r .lanes) ⌝ }
 {
-    if varied < 8 {
+    if varied < 7 {
         return Enumeration {
             factors,
             batches: 1,
@@ -57,8 +57,8 @@ fn divide(factors: u64, varied: usize) -> Enumeration
     }
     Enumeration {
         factors,
-        batches: numbers::power(varied - 8),
-        lanes: 256,
+        batches: numbers::power(varied - 7),
+        lanes: 128,
     }
 }
 
@@ -76,7 +76,8 @@ fn plan_pairs(table: &[u16], inputs: usize, randoms: usize) -> Plan
     }
 }
 
-// The values of the read wires in the 256 pairs of a batch, four words each, from an expanded table with so many outputs of ANDs.
+// The values of the read wires in the 128 pairs of a batch under both sets, four words each, from an expanded table with so many
+// outputs of ANDs.
 fn show_batch(
     sums: &[u64],
     terms: &[u64; TERMS],
@@ -85,23 +86,22 @@ fn show_batch(
     found: usize,
     plan: Plan,
     enumeration: Enumeration,
-    second: bool,
     batch: usize,
     words: &mut [u64; 256],
     shown: &mut [u64; 32],
 )
     requires { ⌜ Ready (now read) (now sums) (now terms) outputs found plan × Enumerates (plan .free) enumeration × (batch < enumeration .batches) × (length (now words) ≡ 256) × (length (now shown) ≡ 32) ⌝ }
     ensures { λ _. ⌜ ((table secrets : List ℕ) → Prepared table secrets (now (read .entry)) (now (sums .entry)) (now (terms .entry)) outputs found plan
-        → HoldsShown table (setOf table second secrets) (enumeration .factors) (plan .free) batch (now (read .entry)) found (now (shown .exit))) × (length (now (words .exit)) ≡ 256) ⌝ }
+        → HoldsShown table secrets (enumeration .factors) (plan .free) batch (now (read .entry)) found (now (shown .exit))) × (length (now (words .exit)) ≡ 256) ⌝ }
 {
-    fill_variables(words, enumeration.factors, plan.free, second, batch);
+    fill_variables(words, enumeration.factors, plan.free, batch);
     evaluate::run(terms, 0, outputs, words);
     evaluate::run(terms, 32, 32 + found, words);
     evaluate::show(sums, read, found, words, shown);
 }
 
-// Counts, from 0, how many of the pairs that are gone through show each combination on the read wires, under a set of secret bits.
-fn tally_set(
+// Counts, from 0, how many of the pairs that are gone through show each combination on the read wires, under each set of secret bits.
+fn tally_some(
     sums: &[u64],
     terms: &[u64; TERMS],
     outputs: usize,
@@ -109,15 +109,16 @@ fn tally_set(
     found: usize,
     plan: Plan,
     enumeration: Enumeration,
-    second: bool,
-    words: &mut [u64; 256],
-    shown: &mut [u64; 32],
-    tally: &mut [u32; 256],
+    first: &mut [u32; 256],
+    second: &mut [u32; 256],
 )
-    requires { ⌜ Ready (now read) (now sums) (now terms) outputs found plan × Enumerates (plan .free) enumeration × (length (now words) ≡ 256) × (length (now shown) ≡ 32) × (now tally ≡ replicate 256 0) ⌝ }
+    requires { ⌜ Ready (now read) (now sums) (now terms) outputs found plan × Enumerates (plan .free) enumeration × (now first ≡ replicate 256 0) × (now second ≡ replicate 256 0) ⌝ }
     ensures { λ _. ⌜ ((table secrets : List ℕ) → Prepared table secrets (now (read .entry)) (now (sums .entry)) (now (terms .entry)) outputs found plan
-        → TalliedSome table (setOf table second secrets) (take found (now (read .entry))) (enumeration .factors) (plan .free) (now (tally .exit))) × (length (now (words .exit)) ≡ 256) × (length (now (shown .exit)) ≡ 32) ⌝ }
+        → TalliedSome table (setOf table false secrets) (take found (now (read .entry))) (enumeration .factors) (plan .free) (now (first .exit))
+        × TalliedSome table (setOf table true secrets) (take found (now (read .entry))) (enumeration .factors) (plan .free) (now (second .exit))) ⌝ }
 {
+    let mut words = [0u64; 256];
+    let mut shown = [0u64; 32];
     let mut batch = 0;
     while batch < enumeration.batches {
         show_batch(
@@ -128,17 +129,16 @@ fn tally_set(
             found,
             plan,
             enumeration,
-            second,
             batch,
-            words,
-            shown,
+            &mut words,
+            &mut shown,
         );
-        lanes::add_batch(tally, shown, found, enumeration.lanes);
+        lanes::add_batch(first, second, &shown, found, enumeration.lanes);
         batch += 1;
     }
 }
 
-// Counts, from 0, how many of all pairs do, under both sets, given by which numbers the free bits move what is shown.
+// Counts, from 0, how many of all pairs do, given by which numbers the free bits move what is shown.
 fn tally_both(
     sums: &[u64],
     terms: &[u64; TERMS],
@@ -156,9 +156,7 @@ fn tally_both(
     ensures { λ _. ⌜ ((table secrets : List ℕ) → Prepared table secrets (now (read .entry)) (now (sums .entry)) (now (terms .entry)) outputs found plan
         → Tallied table (setOf table false secrets) (take found (now (read .entry))) (now (first .exit)) × Tallied table (setOf table true secrets) (take found (now (read .entry))) (now (second .exit))) ⌝ }
 {
-    let mut words = [0u64; 256];
-    let mut shown = [0u64; 32];
-    tally_set(
+    tally_some(
         sums,
         terms,
         outputs,
@@ -166,22 +164,7 @@ fn tally_both(
         found,
         plan,
         enumeration,
-        false,
-        &mut words,
-        &mut shown,
         first,
-    );
-    tally_set(
-        sums,
-        terms,
-        outputs,
-        read,
-        found,
-        plan,
-        enumeration,
-        true,
-        &mut words,
-        &mut shown,
         second,
     );
     linear::fold(first, enumeration.factors, shifts, plan.free, found);

@@ -1,61 +1,41 @@
 // The variables of an expanded table that are no products: the free bits, which set of secret bits is taken, and 1. They have four
-// words each, in which 256 pairs have a bit each.
+// words each, in which 128 pairs have a bit each: two words for the first set, and two for the second.
 ghost use mathlib.Core.Path.{_≡_};
-ghost use mathlib.Core.Bool.{true, false, cond};
+ghost use mathlib.Core.Bool.{true, false};
 ghost use Prim.Native.Nat.{_+_, _*_, _≤_, _<_};
 ghost use lib.ListN.{length};
 ghost use Rattle.symbolic.specs.Internal.Sums.{fourAt};
 ghost use Rattle.counting.specs.Internal.Lanes.{laneBit};
-ghost use Rattle.counting.specs.Internal.Words.{ones, freeWord};
+ghost use Rattle.counting.specs.Internal.Words.{freeWord};
 ghost use Rattle.counting.specs.Internal.Preparing.{FreeFilled, Variables};
 use super::pairs;
 
-// The same word four times.
-fn write_same(words: &mut [u64; 256], at: usize, word: u64)
+// Four words, from a place on.
+fn write_words(words: &mut [u64; 256], at: usize, one: u64, other: u64, third: u64, fourth: u64)
     requires { ⌜ (at + 4 ≤ 256) × (length (now words) ≡ 256) ⌝ }
-    ensures { λ _. ⌜ now (words .exit) ≡ fourAt (now (words .entry)) at word word word word ⌝ }
+    ensures { λ _. ⌜ now (words .exit) ≡ fourAt (now (words .entry)) at one other third fourth ⌝ }
 {
-    words[at] = word;
-    words[at + 1] = word;
-    words[at + 2] = word;
-    words[at + 3] = word;
+    words[at] = one;
+    words[at + 1] = other;
+    words[at + 2] = third;
+    words[at + 3] = fourth;
 }
 
-// The words of a free bit that varies, the one of so many before it, in the pairs of a batch. The lowest six are the same in all words.
-fn write_free(words: &mut [u64; 256], i: usize, rank: usize, batch: usize)
-    requires { ⌜ (i < 16) × (rank < 16) × (batch ≤ 65536) × (length (now words) ≡ 256) ⌝ }
-    ensures { λ _. ⌜ now (words .exit) ≡ fourAt (now (words .entry)) (4 * i) (freeWord rank (4 * batch)) (freeWord rank (4 * batch + 1)) (freeWord rank (4 * batch + 2)) (freeWord rank (4 * batch + 3)) ⌝ }
-{
-    let at = 4 * i;
-    if rank < 6 {
-        write_same(words, at, pairs::free_word(rank, 0));
-        return;
-    }
-    let first = 4 * batch;
-    words[at] = pairs::free_word(rank, first);
-    words[at + 1] = pairs::free_word(rank, first + 1);
-    words[at + 2] = pairs::free_word(rank, first + 2);
-    words[at + 3] = pairs::free_word(rank, first + 3);
-}
-
-// A bit in all pairs.
-fn everywhere(bit: bool) -> u64
-    ensures { λ r. ⌜ r ≡ cond bit ones 0 ⌝ }
-{
-    if bit { pairs::ONES } else { 0 }
-}
-
-// The words of a free bit in the pairs of a batch: it varies where it is a factor, and is 0 elsewhere. The answer is how many vary then.
+// The words of a free bit in the pairs of a batch, the same under both sets: it varies where it is a factor, as the one of so many
+// before it, and is 0 elsewhere. The answer is how many vary then.
 fn fill_one(words: &mut [u64; 256], factors: u64, i: usize, rank: usize, batch: usize) -> usize
     requires { ⌜ (i < 16) × (rank < 16) × (batch ≤ 65536) × (length (now words) ≡ 256) ⌝ }
     ensures { λ r. ⌜ (laneBit i factors ≡ false → (now (words .exit) ≡ fourAt (now (words .entry)) (4 * i) 0 0 0 0) × (r ≡ rank))
-        × (laneBit i factors ≡ true → (now (words .exit) ≡ fourAt (now (words .entry)) (4 * i) (freeWord rank (4 * batch)) (freeWord rank (4 * batch + 1)) (freeWord rank (4 * batch + 2)) (freeWord rank (4 * batch + 3))) × (r ≡ rank + 1)) ⌝ }
+        × (laneBit i factors ≡ true → (now (words .exit) ≡ fourAt (now (words .entry)) (4 * i) (freeWord rank (2 * batch)) (freeWord rank (2 * batch + 1)) (freeWord rank (2 * batch)) (freeWord rank (2 * batch + 1))) × (r ≡ rank + 1)) ⌝ }
 {
     if (factors >> i) % 2 == 0 {
-        write_same(words, 4 * i, 0);
+        write_words(words, 4 * i, 0, 0, 0, 0);
         return rank;
     }
-    write_free(words, i, rank, batch);
+    let first = 2 * batch;
+    let one = pairs::free_word(rank, first);
+    let other = pairs::free_word(rank, first + 1);
+    write_words(words, 4 * i, one, other, one, other);
     rank + 1
 }
 
@@ -72,18 +52,19 @@ fn fill_free(words: &mut [u64; 256], factors: u64, free: usize, batch: usize)
     }
 }
 
-// The words of these variables in the pairs of a batch, under the first or the second set of secret bits.
-pub(crate) fn fill_variables(
-    words: &mut [u64; 256],
-    factors: u64,
-    free: usize,
-    second: bool,
-    batch: usize,
-)
+// The words of these variables in the pairs of a batch.
+pub(crate) fn fill_variables(words: &mut [u64; 256], factors: u64, free: usize, batch: usize)
     requires { ⌜ (free ≤ 16) × (batch ≤ 65536) × (length (now words) ≡ 256) ⌝ }
-    ensures { λ _. ⌜ Variables factors free second batch (now (words .exit)) ⌝ }
+    ensures { λ _. ⌜ Variables factors free batch (now (words .exit)) ⌝ }
 {
     fill_free(words, factors, free, batch);
-    write_same(words, 64, everywhere(second));
-    write_same(words, 68, pairs::ONES);
+    write_words(words, 64, 0, 0, pairs::ONES, pairs::ONES);
+    write_words(
+        words,
+        68,
+        pairs::ONES,
+        pairs::ONES,
+        pairs::ONES,
+        pairs::ONES,
+    );
 }

@@ -28,25 +28,20 @@ gathered (suc n) f = gathered n (λ l. f (suc l)) * 256 + f 0
 abbrev pub shownBy : (columns : ℕ → ℕ) (found lane : ℕ) → ℕ
 shownBy columns found l = numberOf (map (λ i. laneBit l (columns i)) (range 0 found))
 
--- the wires' words at one of the four places that each has; and what a pair of a batch shows by them
+-- the wires' words at one of the four places that each has; of the two words of a set, where each stands
 abbrev pub columnOf : (shown : List ℕ) (word i : ℕ) → ℕ
 columnOf shown word i = nth shown (4 * i + word)
 
-abbrev pub shownIn : (shown : List ℕ) (found pair : ℕ) → ℕ
-shownIn shown found u = shownBy (columnOf shown (u / 64)) found (u % 64)
+abbrev pub placeOf : (second : Bool) (word : ℕ) → ℕ
+placeOf second w = cond second (w + 2) w
+
+-- what a pair of a batch shows under a set
+abbrev pub shownIn : (shown : List ℕ) (second : Bool) (found pair : ℕ) → ℕ
+shownIn shown second found u = shownBy (columnOf shown (placeOf second (u / 64))) found (u % 64)
 
 -- a number, or the most that there may be
 abbrev pub atMost : (n most : ℕ) → ℕ
 atMost n most = n - (n - most)
-
--- the words at one place, in a list of their own; and each word without its lowest eight bits
-pub record Picks (shown : List ℕ) (word : ℕ) (columns : List ℕ) : Type 0 where
-  pub are : (i : ℕ) → i < 8 → nth columns i ≡ columnOf shown word i
-  pub sized : length columns ≡ 8
-
-pub record Shifts (old new : List ℕ) : Type 0 where
-  pub are : (i : ℕ) → i < 8 → nth new i ≡ nth old i / 256
-  pub sized : length new ≡ length old
 
 -- one more is counted for each of the first so many pairs, at its number
 pub record Adds (number : ℕ → ℕ) (lanes : ℕ) (old new : List ℕ) : Type 0 where

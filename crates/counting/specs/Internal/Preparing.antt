@@ -1,9 +1,10 @@
 -- Shares and random bits as sums of variables: the free bits are the variables below 16; the next is 1 under the second set of secret
 -- bits, and the one behind it is 1.
 use mathlib.Core.Path.{_≡_}
-use mathlib.Core.Bool.{Bool, cond}
+use mathlib.Core.Bool.{cond}
 use mathlib.Core.List.{List, map}
-use Prim.Native.Nat.{ℕ, _+_, _*_, _-_, _^_, _<_}
+use Prim.Native.Nat.{ℕ, _+_, _*_, _-_, _%_, _^_, _<_}
+use lib.Dec.{leb}
 use lib.ListN.{length, take, drop}
 use Rattle.circuit.specs.Lists.{nth, range}
 use Rattle.circuit.specs.Circuit.{isSet}
@@ -43,13 +44,13 @@ preparedTape plan = take (plan .free - plan .start) (drop (plan .start) freeSums
 abbrev pub placedWord : (factors free i number : ℕ) → ℕ
 placedWord factors free i number = packed 64 (λ l. at (placed (variedIn factors free) (64 * number + l)) i)
 
--- four words for each of these variables, in the pairs of a batch
+-- four words for each of these variables, in the pairs of a batch: two for the first set, and two for the second
 pub record FreeFilled (factors free batch : ℕ) (words : List ℕ) : Type 0 where
-  pub are : (i w : ℕ) → i < free → w < 4 → nth words (4 * i + w) ≡ placedWord factors free i (4 * batch + w)
+  pub are : (i w : ℕ) → i < free → w < 4 → nth words (4 * i + w) ≡ placedWord factors free i (2 * batch + w % 2)
   pub sized : length words ≡ 256
 
-pub record Variables (factors free : ℕ) (second : Bool) (batch : ℕ) (words : List ℕ) : Type 0 where
-  pub free-are : (i w : ℕ) → i < free → w < 4 → nth words (4 * i + w) ≡ placedWord factors free i (4 * batch + w)
-  pub set : (w : ℕ) → w < 4 → nth words (64 + w) ≡ cond second ones 0
+pub record Variables (factors free batch : ℕ) (words : List ℕ) : Type 0 where
+  pub free-are : (i w : ℕ) → i < free → w < 4 → nth words (4 * i + w) ≡ placedWord factors free i (2 * batch + w % 2)
+  pub set : (w : ℕ) → w < 4 → nth words (64 + w) ≡ cond (leb 2 w) ones 0
   pub one : (w : ℕ) → w < 4 → nth words (68 + w) ≡ ones
   pub sized : length words ≡ 256

@@ -15,6 +15,7 @@ use Rattle.counting.specs.declared.tally.Enumeration.{Enumeration}
 use Rattle.counting.specs.Counting.{readWires, countList}
 use Rattle.symbolic.specs.Internal.Expanding.{Expanded}
 use Rattle.counting.specs.Internal.Pairs.{valuesWith, shownAmong, shownOf, placed, countVaried}
+use Rattle.counting.specs.Internal.Lanes.{placeOf}
 use Rattle.counting.specs.Internal.Linear.{variedIn}
 use Rattle.counting.specs.Internal.Preparing.{preparedShares, preparedTape}
 
@@ -32,12 +33,12 @@ pub record Countable (table secrets : List ℕ) : Type 0 where
   pub sized : length secrets ≡ circuitIn table .inputs
   pub bit : (x : ℕ) → nth secrets x ≤ 1
 
--- so many batches of so many pairs each make up all pairs; where there is more than one, each has 256
+-- so many batches of so many pairs each make up all pairs; where there is more than one, each has 128
 pub record Divides (free count lanes : ℕ) : Type 0 where
   pub all : count * lanes ≡ 2 ^ free
   pub some : 1 ≤ lanes
-  pub few : lanes ≤ 256
-  pub behind : (batch : ℕ) → batch < count → batch * lanes ≡ 256 * batch
+  pub few : lanes ≤ 128
+  pub behind : (batch : ℕ) → batch < count → batch * lanes ≡ 128 * batch
 
 -- the plan of a table
 pub record Planned (table : List ℕ) (plan : Plan) : Type 0 where
@@ -76,10 +77,10 @@ pub record Ready (read sums terms : List ℕ) (outputs found : ℕ) (plan : Plan
   pub secrets : List ℕ
   pub prepared : Prepared table secrets read sums terms outputs found plan
 
--- words of the values of 256 pairs, the first of which has the number 256 · batch: four for each wire that is read
+-- words of the values of 128 pairs under each set, the first of which has the number 128 · batch: two for each wire that is read
 pub record HoldsShown (table secrets : List ℕ) (factors free batch : ℕ) (read : List ℕ) (found : ℕ) (shown : List ℕ) : Type 0 where
-  pub are : (i w : ℕ) → i < found → w < 4
-      → nth shown (4 * i + w) ≡ packed 64 (λ l. at (valuesWith (circuitIn table) (bits secrets) (placed (variedIn factors free) (64 * (4 * batch + w) + l))) (nth read i))
+  pub are : (second : Bool) (i w : ℕ) → i < found → w < 2
+      → nth shown (4 * i + placeOf second w) ≡ packed 64 (λ l. at (valuesWith (circuitIn table) (bits (setOf table second secrets)) (placed (variedIn factors free) (64 * (2 * batch + w) + l))) (nth read i))
   pub sized : length shown ≡ 32
 
 -- what the list of counts rests on: such a table, two sets of secret bits, wires that are read, and room for the counts

@@ -1,5 +1,6 @@
--- The loop's invariant: the pairs so far are counted, and while some are left they are those of whole words.
+-- The loop's invariant: the pairs so far are counted under both sets, and while some are left they are those of whole words.
 use mathlib.Core.Path.{_∙_}
+use mathlib.Core.Bool.{true, false}
 use Prim.Native.Nat.{_-_}
 use native.Mathlib.Omega.{arith}
 use borrow.Author.Needs.{needs}
@@ -9,10 +10,10 @@ use Rattle.counting.proofs.Adding.{adds-room, adds-all}
 use Rattle.counting.proofs.Columns.{BatchTo, batch-start, batch-next}
 
 abbrev Inv-loop : tie.InvT-loop
-Inv-loop tally₀ shown found lanes done₀ tally done = BatchTo shown found lanes tally₀ tally done
+Inv-loop first₀ second₀ shown found lanes done₀ first second done = BatchTo shown false found lanes first₀ first done × BatchTo shown true found lanes second₀ second done
 
 abbrev μ-loop : tie.MeasureT-loop
-μ-loop tally₀ shown found lanes done₀ tally done = lanes - done
+μ-loop first₀ second₀ shown found lanes done₀ first second done = lanes - done
 
 pub add-batch-spec : {M : Type 1} → statement M
 add-batch-spec =
@@ -20,12 +21,21 @@ add-batch-spec =
     (tie.spec
     Inv-loop
     μ-loop
-    (λ c. batch-start _ _ _ _)
+    (λ c. (batch-start _ false _ _ _, batch-start _ true _ _ _))
     (λ c. omega arith)
     (λ c κs. search needs)
-    (λ c κs. let l = c .before .before .before in let p = l .before .pre in let i = l .loop .inv in
-    (omega arith, p .0, omega (arith, c .before .at-most .ensures), p .2, i .counted .sized ∙ p .3, adds-room (i .counted) (p .3) (p .4) _ (omega (arith, c .before .at-most .ensures))))
-    (λ c. record { fits = omega (arith, c .before .before .at-most .ensures) })
-    (λ c. omega (arith, c .before .before .at-most .ensures))
-    (λ c. let t = c .before .before .before in batch-next (t .before .loop .inv) (t .loop-test .taken) (c .before .before .at-most .ensures) (c .add-word .ensures))
-    (λ c. let i = c .before .loop .inv in adds-all (i .counted) (i .most) (c .loop-test .left)))
+    (λ c κs. let m = c .before .before in let l = m .before .before in let p = l .before .pre in let (i, j) = l .loop .inv in (
+      omega (arith, m .before .loop-test .taken, p .1),
+      p .0,
+      omega (arith, m .at-most .ensures),
+      p .2,
+      i .counted .sized ∙ p .3,
+      j .counted .sized ∙ p .4,
+      adds-room (i .counted) (p .3) (p .5) _ (omega (arith, m .at-most .ensures)),
+      adds-room (j .counted) (p .4) (p .6) _ (omega (arith, m .at-most .ensures)),
+    ))
+    (λ c. record { fits = omega (arith, c .before .before .before .at-most .ensures) })
+    (λ c. omega (arith, c .before .before .before .at-most .ensures))
+    (λ c. let m = c .before .before .before in let t = m .before in let (i, j) = t .before .loop .inv in let (one, other) = c .add-word .ensures in
+    (batch-next false i (t .loop-test .taken) (m .at-most .ensures) one, batch-next true j (t .loop-test .taken) (m .at-most .ensures) other))
+    (λ c. let (i, j) = c .before .loop .inv in (adds-all (i .counted) (i .most) (c .loop-test .left), adds-all (j .counted) (j .most) (c .loop-test .left))))

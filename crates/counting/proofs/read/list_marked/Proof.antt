@@ -1,12 +1,11 @@
--- The loop's invariant: the marked wires so far are listed; a block with no mark adds none.
+-- The loop's invariant: the marked wires so far are listed.
 use mathlib.Core.Path.{_≡_, subst}
 use Prim.Native.Nat.{ℕ, _-_, _≤_}
 use native.Mathlib.Omega.{arith}
-use Rattle.reach.proofs.Highest.{none-over}
 use Rattle.counting.specs.Internal.Reading.{Listed}
 use Rattle.counting.proofs.read.list_marked.Statement.{statement}
 use Rattle.counting.proofs.read.list_marked.Tie as tie
-use Rattle.counting.proofs.Marked.{listed-start, listed-unmarked}
+use Rattle.counting.proofs.Marked.{listed-start}
 
 abbrev Inv-loop : tie.InvT-loop
 Inv-loop marks wires read₀ count₀ x₀ read count x = (x ≤ wires) × Listed marks x read count
@@ -22,12 +21,8 @@ list-marked-spec =
     μ-loop
     (λ c. (omega arith, listed-start _ _ (c .before .pre .2)))
     (λ c κs. c .loop-test .taken)
+    (λ c κs. (omega arith, omega arith, omega arith, c .before .before .before .loop .inv .1))
     (λ c. omega arith)
-    (λ c κs. omega arith)
-    (λ c κs. (omega arith, omega arith, omega arith, c .before .before .before .before .before .loop .inv .1))
-    (λ c. omega arith)
-    (λ c. (omega arith, c .list-block .ensures))
-    (λ c. omega arith)
-    (λ c. let l = c .before .before .before .before in (omega arith, listed-unmarked (l .loop .inv .1) (omega arith) (none-over (c .before .largest .ensures) (c .if1 .left) (omega arith))))
+    (λ c. (omega arith, c .list-some .ensures))
     (λ c. let a = c .before .before .before .args in let e : c .before .loop .x ≡ a .wires = omega arith in
     subst (λ (n : ℕ). Listed (a .marks .now) n (c .before .loop .read) (c .before .loop .count)) e (c .before .loop .inv .1)))

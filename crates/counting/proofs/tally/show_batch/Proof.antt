@@ -1,5 +1,6 @@
 -- The variables' words, the outputs', those of terms that are read, and the read wires'.
 use mathlib.Core.Path.{_∙_}
+use mathlib.Core.Bool.{false}
 use Prim.Native.Nat.{_≤_}
 use native.Mathlib.Nat.{mul-le-mul-left}
 use native.Mathlib.Omega.{arith}
@@ -16,7 +17,7 @@ some : (s : tie.Start) → let a = s .args in Prepared (s .pre .0 .table) (s .pr
 some s = s .pre .0 .prepared
 
 free-few : (s : tie.Start) → s .args .plan .free ≤ 16
-free-few s = let p = some s in sizes (p .countable (s .args .second)) (p .planned) .few
+free-few s = let p = some s in sizes (p .countable false) (p .planned) .few
 
 few : (s : tie.Start) → s .args .enumeration .batches ≤ 65536
 few s =
