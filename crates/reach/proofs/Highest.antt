@@ -19,7 +19,3 @@ highest-turn marks from i most new h k l x p q = cases (ltb x (from + i))
 -- bytes of which none is over 0
 pub none-over : {marks : List ℕ} {from count most : ℕ} → Most marks from count most → most ≤ 0 → {to : ℕ} → from + count ≡ to → Unmarked marks from to
 none-over h z e x l u = omega (arith, h .is x l (omega arith))
-
--- and none behind them
-pub unmarked-more : {marks : List ℕ} {from count most to end : ℕ} → Most marks from count most → most ≤ 0 → from + count ≡ to → Unmarked marks to end → Unmarked marks from end
-unmarked-more {to = to} h z e none x l u = cases (ltb x to) (λ k. none-over h z e x l (ltb-true x to k)) (λ k. none x (ltb-false x to k) u)

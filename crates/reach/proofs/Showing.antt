@@ -19,19 +19,23 @@ use Rattle.semantics.specs.Probes.{stops, sheet}
 use Rattle.semantics.proofs.Reading.{same-test}
 use Rattle.gadgets.proofs.Ranges.{range-turn, range-end, map-on}
 use Rattle.gadgets.proofs.Bits.{set-low, set-high}
-use Rattle.reach.specs.Internal.Marks.{markAll, Marked, shownAt}
+use Rattle.reach.specs.Internal.Marks.{markAll, Marked, Unmarked, shownAt}
 use Rattle.reach.specs.Internal.Reading.{OnStops, Shows}
 use Rattle.semantics.proofs.Values.{values-length}
 use Rattle.reach.proofs.Marked.{mark-new, mark-cases}
 
--- marks on probes alone
-no-marks : (n x : ℕ) → isSet (nth (replicate n 0) x) ≡ false
-no-marks n x = cases (ltb x n) (λ e. ap isSet (getD-replicate n x 0 0 (ltb-true x n e)))
-    (λ e. ap isSet (List·getD-eq-default (replicate n 0) 0 (subst (λ (m : ℕ). m ≤ x) (sym (length-replicate n 0)) (ltb-false x n e))))
+-- clear marks
+no-marks : (n x : ℕ) → nth (replicate n 0) x ≡ 0
+no-marks n x = cases (ltb x n) (λ e. getD-replicate n x 0 0 (ltb-true x n e))
+    (λ e. List·getD-eq-default (replicate n 0) 0 (subst (λ (m : ℕ). m ≤ x) (sym (length-replicate n 0)) (ltb-false x n e)))
 
+pub unmarked-all : {marks : List ℕ} {from to : ℕ} → marks ≡ replicate (length marks) 0 → Unmarked marks from to
+unmarked-all {marks} clear x l u = omega (arith, ap (λ (m : List ℕ). nth m x) clear, no-marks (length marks) x)
+
+-- marks on probes alone
 pub marked-probes : (n : ℕ) (probes : List ℕ) {marks : List ℕ} → marks ≡ markAll (replicate n 0) probes → ((x : ℕ) → In x probes → x < n) → (x : ℕ) → isSet (nth marks x) ≡ mem x probes
 marked-probes n probes e h x = ap (λ m. isSet (nth m x)) e ∙ same-test _ _
-    (λ m. mark-cases (replicate n 0) probes x m (λ i. i) (λ z. absurd (false≢true (sym (no-marks n x) ∙ z))))
+    (λ m. mark-cases (replicate n 0) probes x m (λ i. i) (λ z. absurd (false≢true (sym (ap isSet (no-marks n x)) ∙ z))))
     (λ i. mark-new (replicate n 0) probes x i (subst (λ (m : ℕ). x < m) (sym (length-replicate n 0)) (h x i)))
 
 module _ (marks values : List ℕ) where

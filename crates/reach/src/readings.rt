@@ -31,22 +31,31 @@ const FRAMES: usize = TABLE_WORDS / 2;
 const FEW_WORDS: usize = 512;
 
 const FEW_FRAMES: usize = FEW_WORDS / 2;
-// Frames, and wires behind the last mark, that are passed over together where no wire is marked.
+// Frames that are passed over together where no wire of theirs is marked.
 const FRAME_BLOCK: usize = 16;
 
-const WIRE_BLOCK: usize = 128;
-
-// A mark on each probed wire.
-fn mark(marks: &mut [u8], probes: &[u16])
-    requires { ⌜ ((x : ℕ) → In x (now probes) → x < length (now marks)) ⌝ }
-    ensures { λ _. ⌜ now (marks .exit) ≡ markAll (now (marks .entry)) (now (probes .entry)) ⌝ }
+// The larger of two numbers.
+fn later(one: usize, other: usize) -> usize
+    ensures { λ r. ⌜ (one ≤ r) × (other ≤ r) × ((n : ℕ) → one ≤ n → other ≤ n → r ≤ n) ⌝ }
 {
+    if one < other { other } else { one }
+}
+
+// A mark on each probed wire. The answer is one past the highest of them, 0 without probes: a search for it, which reads many marks at
+// once, would wait for those that were just written one by one.
+fn mark(marks: &mut [u8], probes: &[u16]) -> usize
+    requires { ⌜ ((x : ℕ) → In x (now probes) → x < length (now marks)) ⌝ }
+    ensures { λ r. ⌜ (now (marks .exit) ≡ markAll (now (marks .entry)) (now (probes .entry))) × ((wires : ℕ) → ((x : ℕ) → In x (now (probes .entry)) → x < wires) → r ≤ wires) × ((to : ℕ) → Unmarked (now (marks .entry)) r to → Unmarked (now (marks .exit)) r to) ⌝ }
+{
+    let mut end = 0;
     let mut i = 0;
     while i < probes.len() {
         let wire = probes[i] as usize;
         marks[wire] = 1;
+        end = later(end, wire + 1);
         i += 1;
     }
+    end
 }
 
 // AND's wires, where one of them is marked.
@@ -129,12 +138,17 @@ fn propagate_block(
     }
 }
 
-// The marks moved on, from the last listed frame to the first. A block of frames is passed over where no wire of theirs is marked.
+// The marks moved on, from the last listed frame to the first. The last block of frames is not asked for a mark, as the list ends at the
+// highest one; each other is passed over where no wire of its frames is marked.
 fn propagate_frames(table: &[u16], starts: &[u16], firsts: &[u16], count: usize, marks: &mut [u8])
     requires { ⌜ Lists (now table) (now starts) (now firsts) count × Room (now table) (now starts) (now firsts) × (size (circuitIn (now table)) ≤ length (now marks)) ⌝ }
     ensures { λ _. ⌜ Moves (GatesOf (now (table .entry))) 0 (nth (now (firsts .entry)) count) (now (marks .entry)) (now (marks .exit)) ⌝ }
 {
-    let mut to = count;
+    if count == 0 {
+        return;
+    }
+    let mut to = bytes::block_start(count, FRAME_BLOCK);
+    propagate_block(table, starts, firsts, to, count, marks);
     while 0 < to {
         let from = bytes::block_start(to, FRAME_BLOCK);
         let low = firsts[from] as usize;
@@ -144,22 +158,6 @@ fn propagate_frames(table: &[u16], starts: &[u16], firsts: &[u16], count: usize,
         }
         to = from;
     }
-}
-
-// A number of wires behind which none is marked.
-fn marked_end(marks: &[u8], wires: usize) -> usize
-    requires { ⌜ wires ≤ length (now marks) ⌝ }
-    ensures { λ r. ⌜ (r ≤ wires) × Unmarked (now (marks .entry)) r wires ⌝ }
-{
-    let mut end = wires;
-    while 0 < end {
-        let from = bytes::block_start(end, WIRE_BLOCK);
-        if 0 < bytes::largest(marks, from, end - from) {
-            return end;
-        }
-        end = from;
-    }
-    end
 }
 
 // From clear marks, a mark on exactly the stops that the probes on an accepted table's wires read; the frames that make the marked
@@ -175,8 +173,7 @@ fn reach_listed(
     requires { ⌜ Reachable (now table) wires (now probes) (now marks) × Room (now table) (now starts) (now firsts) ⌝ }
     ensures { λ _. ⌜ OnStops (circuitIn (now (table .entry)) .wires) (now (probes .entry)) (now (marks .exit)) ⌝ }
 {
-    mark(marks, probes);
-    let end = marked_end(marks, wires);
+    let end = mark(marks, probes);
     let count = list_frames(table, end, starts, firsts);
     propagate_frames(table, starts, firsts, count, marks);
 }

@@ -6,18 +6,15 @@ use borrow.Author.Needs.{needs}
 use Rattle.reach.proofs.readings.reach_listed.Statement.{statement}
 use Rattle.reach.proofs.readings.reach_listed.Tie as tie
 use Rattle.reach.specs.Internal.Marks.{markAll}
-use Rattle.reach.proofs.Showing.{marked-probes}
+use Rattle.reach.proofs.Showing.{marked-probes, unmarked-all}
 use Rattle.reach.proofs.Propagating.{reached}
 
 -- the places on the way back
 abbrev listed : tie.After-propagate-frames → tie.After-list-frames
 listed c = c .before .before .before .before .before .before .before .before
 
-abbrev ended : tie.After-list-frames → tie.After-marked-end
-ended c = c .before .before .before
-
-abbrev marked : tie.After-marked-end → tie.After-mark
-marked c = c .before .before .before .before
+abbrev marked : tie.After-list-frames → tie.After-mark
+marked c = c .before .before .before .before .before
 
 abbrev start : tie.After-mark → tie.Start
 start c = c .before .before .before .before .before .before .before
@@ -26,19 +23,19 @@ returns : tie.Need-returns
 returns c =
     let p = c .before .before in
     let l = listed p in
-    let e = ended l in
-    let m = marked e in
+    let m = marked l in
     let s = start m in
     let r = s .pre .0 in
-    let on = m .mark .ensures ∙ ap (λ m. markAll m (s .args .probes .now)) (r .clear) in
+    let on = m .mark .ensures .0 ∙ ap (λ m. markAll m (s .args .probes .now)) (r .clear) in
     reached (l .list-frames .ensures .0) (marked-probes (length (s .args .marks .now)) (s .args .probes .now) on (λ x i. omega (arith, r .made x i, r .room))) (λ x i. omega (arith, r .made x i, r .wires-are))
-    (omega (arith, r .room, r .wires-are, e .before .before .before .marks .given)) (λ x above below. e .marked-end .ensures .1 x (omega (arith, l .list-frames .ensures .1)) (omega (arith, r .wires-are))) (p .propagate-frames .ensures)
+    (omega (arith, r .room, r .wires-are, l .before .before .before .before .marks .given)) (λ x above below. m .mark .ensures .2 _ (unmarked-all (r .clear)) x (omega (arith, l .list-frames .ensures .1)) below) (p .propagate-frames .ensures)
 
 pub reach-listed-spec : {M : Type 1} → statement M
 reach-listed-spec =
     tie.close
     (tie.spec
     (λ c κs. let r = c .before .before .before .before .before .before .pre .0 in λ x i. omega (arith, r .made x i, r .room))
-    (λ c κs. search needs) (λ c κs. search needs) (λ c κs. search needs)
+    (λ c κs. let m = c .before .before .before .before in let (r, room) = start m .pre in (r .accepted, m .mark .ensures .1 _ (λ x i. omega (arith, r .made x i, r .wires-are)), room))
+    (λ c κs. search needs)
     (λ c. search needs) (λ c. search needs) (λ c. search needs)
     returns)
