@@ -2,10 +2,10 @@
 use mathlib.Core.Path.{_≡_, refl, sym, ap, ap₂, _∙_}
 use mathlib.Core.Bool.{cond}
 use mathlib.Core.List.{List, [], _∷_}
-use Prim.Native.Nat.{ℕ, zero, suc, _-_, _/_, _%_, _^_, _≤_, _<_}
+use Prim.Native.Nat.{ℕ, zero, suc, _-_, _/_, _%_, _^_, _<_}
 use native.Mathlib.Nat.{pow-suc}
 use native.Mathlib.Omega.{arith}
-use lib.Bits.{bitXor, differ, xor-shr, xor-zero-r, xor-self}
+use lib.Bits.{bitAnd, bitXor, differ, and-zero-r, and-self, and-shr, and-mod, xor-shr, xor-zero-r, xor-self}
 use lib.Count.{trailingZeros}
 use Rattle.circuit.specs.Circuit.{isSet}
 use Rattle.simulation.specs.Internal.Filling.{Values, wordSum}
@@ -66,31 +66,25 @@ added-one (suc n) (suc s) f l =
     let even : 2 ^ suc s % 2 ≡ 0 = rw p (omega arith) in
     rw (half, even) (added-one n s (λ t. f (suc t)) (omega arith))
 
--- the lowest variable taken out
+-- the lowest variable taken out: a number and the one before it have in common all digits that are set but the lowest
 pub record Lowest (n m : ℕ) (f : Values) (s : ℕ) : Type 0 where
   pub inside : s < n
-  pub within : 2 ^ s ≤ m
-  pub some : 1 ≤ 2 ^ s
-  pub left : addedIn n m f ≡ bitXor (f s) (addedIn n (m - 2 ^ s) f)
+  pub left : addedIn n m f ≡ bitXor (f s) (addedIn n (bitAnd m (m - 1)) f)
 
 lowest-next : (n m : ℕ) (f : Values) → 0 < m → (0 < m / 2 → Lowest n (m / 2) (λ s. f (suc s)) (trailingZeros n (m / 2))) → (d : ℕ) → m % 2 ≡ d → Lowest (suc n) m f (trailingZeros (suc n) m)
 unfolding trailingZeros addedIn
 lowest-next n m f h ih zero e =
     let rest = ih (omega arith) in
-    let t = trailingZeros n (m / 2) in
-    let p = pow-suc 2 t in
-    let half : (m - 2 ^ suc t) / 2 ≡ m / 2 - 2 ^ t = rw p (omega (arith, rest .within)) in
-    let even : (m - 2 ^ suc t) % 2 ≡ 0 = rw p (omega (arith, rest .within)) in
-    rw e (record {
-      inside = omega (arith, rest .inside);
-      within = rw p (omega (arith, rest .within));
-      some = rw p (omega (arith, rest .some));
-      left = rw (e, half, even) (rest .left);
-    })
+    let before : (m - 1) / 2 ≡ m / 2 - 1 = omega arith in
+    let half : bitAnd m (m - 1) / 2 ≡ bitAnd (m / 2) (m / 2 - 1) = and-shr m (m - 1) 1 ∙ ap (bitAnd (m / 2)) before in
+    let even : bitAnd m (m - 1) % 2 ≡ 0 = and-mod m (m - 1) 1 ∙ ap (λ d. bitAnd d ((m - 1) % 2)) e in
+    rw e (record { inside = omega (arith, rest .inside); left = rw (e, half, even) (rest .left) })
 lowest-next n m f h ih (suc d) e =
-    let half : (m - 1) / 2 ≡ m / 2 = omega arith in
-    let even : (m - 1) % 2 ≡ 0 = omega arith in
-    rw e (record { inside = omega arith; within = omega arith; some = omega arith; left = rw (e, half, even) })
+    let same : (m - 1) / 2 ≡ m / 2 = omega arith in
+    let none : (m - 1) % 2 ≡ 0 = omega arith in
+    let half : bitAnd m (m - 1) / 2 ≡ m / 2 = and-shr m (m - 1) 1 ∙ ap (bitAnd (m / 2)) same ∙ and-self (m / 2) in
+    let even : bitAnd m (m - 1) % 2 ≡ 0 = and-mod m (m - 1) 1 ∙ ap (bitAnd (m % 2)) none ∙ and-zero-r (m % 2) in
+    rw e (record { inside = omega arith; left = rw (e, half, even) })
 
 pub lowest : (n m : ℕ) (f : Values) → 0 < m → m < 2 ^ n → Lowest n m f (trailingZeros n m)
 lowest zero m f h l = absurd (omega arith)
@@ -103,8 +97,8 @@ pub record AddedTo (m : ℕ) (f : Values) (sum rest : ℕ) : Type 0 where
 pub added-start : (m : ℕ) (f : Values) → AddedTo m f 0 m
 added-start m f = record { left = refl }
 
-pub added-next : {m : ℕ} {f : Values} {sum rest s : ℕ} → AddedTo m f sum rest → Lowest 64 rest f s → AddedTo m f (bitXor sum (f s)) (rest - 2 ^ s)
-added-next {f = f} {sum} {rest} {s} a l = record { left = a .left ∙ ap (bitXor sum) (l .left) ∙ sym (xor-assoc sum (f s) (addedIn 64 (rest - 2 ^ s) f)) }
+pub added-next : {m : ℕ} {f : Values} {sum rest s : ℕ} → AddedTo m f sum rest → Lowest 64 rest f s → AddedTo m f (bitXor sum (f s)) (bitAnd rest (rest - 1))
+added-next {f = f} {sum} {rest} {s} a l = record { left = a .left ∙ ap (bitXor sum) (l .left) ∙ sym (xor-assoc sum (f s) (addedIn 64 (bitAnd rest (rest - 1)) f)) }
 
 pub added-end : {m : ℕ} {f : Values} {sum rest : ℕ} → AddedTo m f sum rest → rest ≡ 0 → sum ≡ addedIn 64 m f
 added-end {f = f} {sum} a e = sym (a .left ∙ ap (λ n. bitXor sum (addedIn 64 n f)) e ∙ ap (bitXor sum) (added-none 64 f) ∙ xor-zero-r sum)

@@ -31,7 +31,8 @@ fn sum(words: &[u64], variables: u64) -> Four
         b = b ^ words[at + 1];
         c = c ^ words[at + 2];
         d = d ^ words[at + 3];
-        rest = rest - (1 << next);
+        // The lowest set bit goes, and not by way of `next`, for which the following turn would wait.
+        rest = rest & (rest - 1);
     }
     Four { a, b, c, d }
 }

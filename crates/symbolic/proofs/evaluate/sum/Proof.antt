@@ -1,8 +1,8 @@
 -- The loop's invariant: what is added so far, and the variables that are left, make up each of the four sums.
 use mathlib.Core.Path.{_≡_, subst}
-use Prim.Native.Nat.{ℕ, _+_, _*_, _-_, _%_, _^_, _≤_, _<_}
+use Prim.Native.Nat.{ℕ, _+_, _*_, _-_, _≤_, _<_}
 use native.Mathlib.Omega.{arith}
-use lib.Bits.{bitXor}
+use lib.Bits.{bitAnd, bitXor, and-le-r}
 use lib.Count.{trailingZeros}
 use Rattle.circuit.specs.Lists.{nth}
 use Rattle.symbolic.proofs.evaluate.sum.Statement.{statement}
@@ -28,9 +28,9 @@ inside c = next c (λ s. 0) .inside
 abbrev turn : tie.After-shared-slice-known4 Inv-loop μ-loop → tie.In-loop Inv-loop μ-loop
 turn c = c .before .before .before .before
 
--- its number, as the code has it
-alone : (c : tie.In-loop Inv-loop μ-loop) → let t = trailingZeros 64 (c .before .loop .rest) in 1 * 2 ^ t % 18446744073709551616 ≡ 2 ^ t
-alone c = omega (arith, next c (λ s. 0) .within, c .before .loop .inv .0, c .before .before .good .1 .0)
+-- fewer are left without it
+less : (c : tie.In-loop Inv-loop μ-loop) → let rest = c .before .loop .rest in bitAnd rest (rest - 1) < rest
+less c = let rest = c .before .loop .rest in omega (arith, c .loop-test .taken, and-le-r rest (rest - 1))
 
 loop-again : tie.Need-loop-again Inv-loop μ-loop
 loop-again c =
@@ -39,7 +39,7 @@ loop-again c =
     let rest = t .before .loop .rest in
     let (most, p, q, r, s) = t .before .loop .inv in
     let first : 4 * trailingZeros 64 rest + 0 ≡ 4 * trailingZeros 64 rest = omega arith in
-    rw (alone t) (omega arith, subst (λ (n : ℕ). AddedTo (a .variables) (wordsAt 0 (a .words .now)) (bitXor (t .before .loop .a) (nth (a .words .now) n)) (rest - 2 ^ trailingZeros 64 rest)) first (added-next p (next t _)), added-next q (next t _), added-next r (next t _), added-next s (next t _))
+    (omega (arith, less t), subst (λ (n : ℕ). AddedTo (a .variables) (wordsAt 0 (a .words .now)) (bitXor (t .before .loop .a) (nth (a .words .now) n)) (bitAnd rest (rest - 1))) first (added-next p (next t _)), added-next q (next t _), added-next r (next t _), added-next s (next t _))
 
 pub sum-spec : {M : Type 1} → statement M
 sum-spec =
@@ -61,8 +61,7 @@ sum-spec =
     (λ c. record { fits = omega (arith, inside (c .before .before .before)) })
     (λ c. record { fits = omega (arith, inside (c .before .before .before)) })
     (λ c. omega (arith, inside (turn c), c .before .before .before .before .before .before .pre))
-    (λ c. inside (turn c))
-    (λ c. rw (alone (turn c)) (next (turn c) (λ s. 0) .within))
-    (λ c. rw (alone (turn c)) (omega (arith, next (turn c) (λ s. 0) .within, next (turn c) (λ s. 0) .some)))
+    (λ c. omega (arith, turn c .loop-test .taken))
+    (λ c. less (turn c))
     loop-again
     (λ c. let (most, p, q, r, s) = c .before .loop .inv in (added-end p (c .loop-test .left), added-end q (c .loop-test .left), added-end r (c .loop-test .left), added-end s (c .loop-test .left))))
