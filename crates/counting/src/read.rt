@@ -94,10 +94,10 @@ pub(crate) fn list_read(table: &[u16], wires: usize, probes: &[u16], read: &mut 
 {
     if FEW < wires {
         let mut marks = [0u8; WIRES];
-        reach_stops(table, wires, probes, &mut marks);
+        reach_stops(table, probes, &mut marks);
         return list_marked(&marks, wires, read);
     }
     let mut marks = [0u8; FEW];
-    reach_stops(table, wires, probes, &mut marks);
+    reach_stops(table, probes, &mut marks);
     list_marked(&marks, wires, read)
 }

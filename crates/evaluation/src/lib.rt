@@ -76,7 +76,7 @@ pub fn read_probes(
     };
     values::fill(table, shares, tape, values);
     let mut marks = [0u8; WIRES];
-    readings::reach_stops(table, wires, probes, &mut marks);
+    readings::reach_stops(table, probes, &mut marks);
     readings::show(&marks, values, wires, reading);
     verdict
 }

@@ -35,7 +35,7 @@ const FEW_FRAMES: usize = FEW_WORDS / 2;
 const FRAME_BLOCK: usize = 16;
 
 // The larger of two numbers.
-fn later(one: usize, other: usize) -> usize
+fn larger(one: usize, other: usize) -> usize
     ensures { λ r. ⌜ (one ≤ r) × (other ≤ r) × ((n : ℕ) → one ≤ n → other ≤ n → r ≤ n) ⌝ }
 {
     if one < other { other } else { one }
@@ -52,7 +52,7 @@ fn mark(marks: &mut [u8], probes: &[u16]) -> usize
     while i < probes.len() {
         let wire = probes[i] as usize;
         marks[wire] = 1;
-        end = later(end, wire + 1);
+        end = larger(end, wire + 1);
         i += 1;
     }
     end
@@ -166,11 +166,10 @@ fn reach_listed(
     table: &[u16],
     starts: &mut [u16],
     firsts: &mut [u16],
-    wires: usize,
     probes: &[u16],
     marks: &mut [u8],
 )
-    requires { ⌜ Reachable (now table) wires (now probes) (now marks) × Room (now table) (now starts) (now firsts) ⌝ }
+    requires { ⌜ Reachable (now table) (now probes) (now marks) × Room (now table) (now starts) (now firsts) ⌝ }
     ensures { λ _. ⌜ OnStops (circuitIn (now (table .entry)) .wires) (now (probes .entry)) (now (marks .exit)) ⌝ }
 {
     let end = mark(marks, probes);
@@ -179,19 +178,19 @@ fn reach_listed(
 }
 
 // The same, with lists of its own.
-pub fn reach_stops(table: &[u16], wires: usize, probes: &[u16], marks: &mut [u8])
-    requires { ⌜ Reachable (now table) wires (now probes) (now marks) ⌝ }
+pub fn reach_stops(table: &[u16], probes: &[u16], marks: &mut [u8])
+    requires { ⌜ Reachable (now table) (now probes) (now marks) ⌝ }
     ensures { λ _. ⌜ OnStops (circuitIn (now (table .entry)) .wires) (now (probes .entry)) (now (marks .exit)) ⌝ }
 {
     if FEW_WORDS < table.len() {
         let mut starts = [0u16; FRAMES];
         let mut firsts = [0u16; FRAMES];
-        reach_listed(table, &mut starts, &mut firsts, wires, probes, marks);
+        reach_listed(table, &mut starts, &mut firsts, probes, marks);
         return;
     }
     let mut starts = [0u16; FEW_FRAMES];
     let mut firsts = [0u16; FEW_FRAMES];
-    reach_listed(table, &mut starts, &mut firsts, wires, probes, marks);
+    reach_listed(table, &mut starts, &mut firsts, probes, marks);
 }
 
 // A wire's byte of the reading: its value where it is marked, 2 elsewhere.

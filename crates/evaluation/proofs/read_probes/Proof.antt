@@ -69,7 +69,7 @@ read-probes-spec =
     returns
     (λ c κs. evaluable _ _ _ _ _ _ (passes (c .before .before)) (omega arith))
     (λ c. search needs)
-    (λ c κs. let p = passes (c .before .before .before .before .before .before) in record { accepted = p .of .accepted; wires-are = p .wires-are; made = p .probed; clear = refl; room = omega (arith, p .few) })
+    (λ c κs. let p = passes (c .before .before .before .before .before .before) in record { accepted = p .of .accepted; made = λ x i. omega (arith, p .probed x i, p .wires-are); clear = refl; room = omega (arith, p .few, p .wires-are) })
     show-requires
     (λ c. search needs) (λ c. search needs) (λ c. search needs)
     returns-2)

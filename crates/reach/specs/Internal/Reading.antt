@@ -14,12 +14,11 @@ use Rattle.gadgets.specs.Internal.Accepting.{AcceptedTable, circuitIn}
 use Rattle.reach.specs.Internal.Marks.{Marked}
 
 -- what stops are reached from: an accepted table, probes on its wires, and clear marks for all of these
-pub record Reachable (table : List ℕ) (wires : ℕ) (probes marks : List ℕ) : Type 0 where
+pub record Reachable (table probes marks : List ℕ) : Type 0 where
   pub accepted : AcceptedTable table
-  pub wires-are : wires ≡ size (circuitIn table)
-  pub made : (x : ℕ) → In x probes → x < wires
+  pub made : (x : ℕ) → In x probes → x < size (circuitIn table)
   pub clear : marks ≡ replicate (length marks) 0
-  pub room : wires ≤ length marks
+  pub room : size (circuitIn table) ≤ length marks
 
 -- marks on exactly the stops that probes on these wires read
 pub record OnStops (ws : List Wire) (probes marks : List ℕ) : Type 0 where

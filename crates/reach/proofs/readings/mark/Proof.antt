@@ -33,8 +33,8 @@ loop-again c =
     let t = c .before .before in
     let l = t .before in
     let (most, left, sized, least, same) = l .loop .inv in
-    let (old, new, larger) = c .later .ensures in
-    (omega arith, left ∙ mark-turn _ _ _ (t .loop-test .taken), simp length-set sized, λ n h. larger n (least n h) (omega (arith, h _ (probe t))), λ x above. getD-set-other (l .loop .marks) _ x 1 0 (λ e. omega arith) ∙ same x (omega arith))
+    let (old, new, least-of) = c .larger .ensures in
+    (omega arith, left ∙ mark-turn _ _ _ (t .loop-test .taken), simp length-set sized, λ n h. least-of n (least n h) (omega (arith, h _ (probe t))), λ x above. getD-set-other (l .loop .marks) _ x 1 0 (λ e. omega arith) ∙ same x (omega arith))
 
 pub mark-spec : {M : Type 1} → statement M
 mark-spec =

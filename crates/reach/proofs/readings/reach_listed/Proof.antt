@@ -27,15 +27,15 @@ returns c =
     let s = start m in
     let r = s .pre .0 in
     let on = m .mark .ensures .0 ∙ ap (λ m. markAll m (s .args .probes .now)) (r .clear) in
-    reached (l .list-frames .ensures .0) (marked-probes (length (s .args .marks .now)) (s .args .probes .now) on (λ x i. omega (arith, r .made x i, r .room))) (λ x i. omega (arith, r .made x i, r .wires-are))
-    (omega (arith, r .room, r .wires-are, l .before .before .before .before .marks .given)) (λ x above below. m .mark .ensures .2 _ (unmarked-all (r .clear)) x (omega (arith, l .list-frames .ensures .1)) below) (p .propagate-frames .ensures)
+    reached (l .list-frames .ensures .0) (marked-probes (length (s .args .marks .now)) (s .args .probes .now) on (λ x i. omega (arith, r .made x i, r .room))) (r .made)
+    (omega (arith, r .room, l .before .before .before .before .marks .given)) (λ x above below. m .mark .ensures .2 _ (unmarked-all (r .clear)) x (omega (arith, l .list-frames .ensures .1)) below) (p .propagate-frames .ensures)
 
 pub reach-listed-spec : {M : Type 1} → statement M
 reach-listed-spec =
     tie.close
     (tie.spec
     (λ c κs. let r = c .before .before .before .before .before .before .pre .0 in λ x i. omega (arith, r .made x i, r .room))
-    (λ c κs. let m = c .before .before .before .before in let (r, room) = start m .pre in (r .accepted, m .mark .ensures .1 _ (λ x i. omega (arith, r .made x i, r .wires-are)), room))
+    (λ c κs. let m = c .before .before .before .before in let (r, room) = start m .pre in (r .accepted, m .mark .ensures .1 _ (r .made), room))
     (λ c κs. search needs)
     (λ c. search needs) (λ c. search needs) (λ c. search needs)
     returns)
