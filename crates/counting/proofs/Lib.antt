@@ -19,7 +19,7 @@ pub mod FreeBits
 pub mod Completing
 pub mod Sharing
 pub mod Batches
--- All pairs of one set
+-- The pairs that are gone through, under each set
 pub mod Tallying
 -- The list that is written
 pub mod Counts
@@ -30,6 +30,8 @@ pub mod Calling
 pub mod Filling
 -- What a batch shows, from the variables' words
 pub mod Preparing
+-- The shares and random bits that a table is expanded with
+pub mod Lent
 -- Free bits that are only added
 pub mod Solved
 pub mod Flipped

@@ -21,6 +21,7 @@ mod tally;
 mod variables;
 
 use checker::Verdict;
+use tally::Extent;
 
 // Accepted: how many wires are read, how many combinations of values they have, and how many pairs of a sharing and a tape there
 // are for a set of secret bits.
@@ -91,7 +92,13 @@ pub fn count(
             word: 0,
         };
     }
-    let pairs = tally::list_counts(table, secrets, inputs, randoms, wires, &read, found, counts);
+    let extent = Extent {
+        inputs,
+        randoms,
+        wires,
+        found,
+    };
+    let pairs = tally::list_counts(table, secrets, extent, &read, counts);
     Counted::Accepted {
         read: found,
         combinations: numbers::power(found),

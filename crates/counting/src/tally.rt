@@ -35,6 +35,14 @@ pub struct Plan {
     pub free: usize,
 }
 
+// How far a count goes: the INs, random bits and wires of its table, and the wires that are read.
+pub struct Extent {
+    pub inputs: usize,
+    pub randoms: usize,
+    pub wires: usize,
+    pub found: usize,
+}
+
 // The pairs that are gone through: only free bits that are factors vary, or others beside them.
 pub struct Enumeration {
     pub factors: u64,
@@ -175,18 +183,17 @@ fn tally_both(
 fn list_on(
     table: &[u16],
     secrets: &[u8],
-    inputs: usize,
-    randoms: usize,
-    wires: usize,
+    extent: Extent,
     read: &[u16; 8],
-    found: usize,
     sums: &mut [u64],
     counts: &mut [u32],
 ) -> usize
-    requires { ⌜ Listable (now table) (now secrets) inputs randoms wires (now read) found (now counts) × (wires ≤ length (now sums)) × (length (now sums) ≤ wireLimit) ⌝ }
-    ensures { λ r. ⌜ (r ≡ pairCount (circuitIn (now (table .entry)))) × ListsCounts (now (table .entry)) (now (secrets .entry)) inputs (take found (now (read .entry))) (now (counts .entry)) (now (counts .exit)) ⌝ }
+    requires { ⌜ Listable (now table) (now secrets) (extent .inputs) (extent .randoms) (extent .wires) (now read) (extent .found) (now counts) × (extent .wires ≤ length (now sums)) × (length (now sums) ≤ wireLimit) ⌝ }
+    ensures { λ r. ⌜ (r ≡ pairCount (circuitIn (now (table .entry)))) × ListsCounts (now (table .entry)) (now (secrets .entry)) (extent .inputs) (take (extent .found) (now (read .entry))) (now (counts .entry)) (now (counts .exit)) ⌝ }
 {
-    let plan = plan_pairs(table, inputs, randoms);
+    let inputs = extent.inputs;
+    let found = extent.found;
+    let plan = plan_pairs(table, inputs, extent.randoms);
     let free = plan.free;
     let mut terms = [0u64; TERMS];
     let outputs = prepare(table, secrets, inputs, plan, read, found, sums, &mut terms);
@@ -217,68 +224,26 @@ fn list_on(
 pub(crate) fn list_counts(
     table: &[u16],
     secrets: &[u8],
-    inputs: usize,
-    randoms: usize,
-    wires: usize,
+    extent: Extent,
     read: &[u16; 8],
-    found: usize,
     counts: &mut [u32],
 ) -> usize
-    requires { ⌜ Listable (now table) (now secrets) inputs randoms wires (now read) found (now counts) ⌝ }
-    ensures { λ r. ⌜ (r ≡ pairCount (circuitIn (now (table .entry)))) × ListsCounts (now (table .entry)) (now (secrets .entry)) inputs (take found (now (read .entry))) (now (counts .entry)) (now (counts .exit)) ⌝ }
+    requires { ⌜ Listable (now table) (now secrets) (extent .inputs) (extent .randoms) (extent .wires) (now read) (extent .found) (now counts) ⌝ }
+    ensures { λ r. ⌜ (r ≡ pairCount (circuitIn (now (table .entry)))) × ListsCounts (now (table .entry)) (now (secrets .entry)) (extent .inputs) (take (extent .found) (now (read .entry))) (now (counts .entry)) (now (counts .exit)) ⌝ }
 {
+    let wires = extent.wires;
     if wires <= SMALL_SHEET {
         let mut sums = [0u64; SMALL_SHEET];
-        return list_on(
-            table,
-            secrets,
-            inputs,
-            randoms,
-            wires,
-            read,
-            found,
-            &mut sums,
-            counts,
-        );
+        return list_on(table, secrets, extent, read, &mut sums, counts);
     }
     if wires <= MIDDLE_SHEET {
         let mut sums = [0u64; MIDDLE_SHEET];
-        return list_on(
-            table,
-            secrets,
-            inputs,
-            randoms,
-            wires,
-            read,
-            found,
-            &mut sums,
-            counts,
-        );
+        return list_on(table, secrets, extent, read, &mut sums, counts);
     }
     if wires <= LARGE_SHEET {
         let mut sums = [0u64; LARGE_SHEET];
-        return list_on(
-            table,
-            secrets,
-            inputs,
-            randoms,
-            wires,
-            read,
-            found,
-            &mut sums,
-            counts,
-        );
+        return list_on(table, secrets, extent, read, &mut sums, counts);
     }
     let mut sums = [0u64; WIRES];
-    list_on(
-        table,
-        secrets,
-        inputs,
-        randoms,
-        wires,
-        read,
-        found,
-        &mut sums,
-        counts,
-    )
+    list_on(table, secrets, extent, read, &mut sums, counts)
 }

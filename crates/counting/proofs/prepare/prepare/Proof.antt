@@ -8,7 +8,7 @@ use borrow.Author.Needs.{needs}
 use Rattle.counting.proofs.prepare.prepare.Statement.{statement}
 use Rattle.counting.proofs.prepare.prepare.Tie as tie
 use Rattle.counting.proofs.Batches.{sizes}
-use Rattle.counting.proofs.Preparing.{prepared-low, lasts-many, buffer, sharing-is, tape-is, lent-evaluable}
+use Rattle.counting.proofs.Lent.{prepared-low, lasts-many, buffer, sharing-is, tape-is, lent-evaluable}
 
 -- the numbers of the plan
 record Numbers (s : tie.Start) : Type 0 where

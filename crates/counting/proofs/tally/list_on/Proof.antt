@@ -42,7 +42,7 @@ prepare-requires c κs =
 
 -- what the batches rest on
 prepared : (c : tie.After-prepare) → let a = start (planned c) .args in
-    Prepared (a .table .now) (a .secrets .now) (a .read .now) (c .prepare .last .1 .1 .1 .1 .1 .1 .0) (c .prepare .last .1 .1 .1 .1 .1 .1 .1 .0) (c .prepare .result) (a .found) (planned c .plan-pairs .result)
+    Prepared (a .table .now) (a .secrets .now) (a .read .now) (c .prepare .last .1 .1 .1 .1 .1 .1 .0) (c .prepare .last .1 .1 .1 .1 .1 .1 .1 .0) (c .prepare .result) (a .extent .found) (planned c .plan-pairs .result)
 prepared c =
     let p = planned c in
     let a = start p .args in
@@ -61,7 +61,7 @@ prepared c =
     }
 
 ready : (c : tie.After-prepare) → let a = start (planned c) .args in
-    Ready (a .read .now) (c .prepare .last .1 .1 .1 .1 .1 .1 .0) (c .prepare .last .1 .1 .1 .1 .1 .1 .1 .0) (c .prepare .result) (a .found) (planned c .plan-pairs .result)
+    Ready (a .read .now) (c .prepare .last .1 .1 .1 .1 .1 .1 .0) (c .prepare .last .1 .1 .1 .1 .1 .1 .1 .0) (c .prepare .result) (a .extent .found) (planned c .plan-pairs .result)
 ready c = let a = start (planned c) .args in record { table = a .table .now; secrets = a .secrets .now; prepared = prepared c }
 
 -- the number of pairs
@@ -82,7 +82,7 @@ enumerated c =
     enumerates _ same (v .before .count-free .ensures) d
 
 surveyed : (c : tie.After-list-shifts) → let q = expanded (found c) in let a = start (planned q) .args in
-    Surveyed (q .prepare .last .1 .1 .1 .1 .1 .1 .0) (q .prepare .last .1 .1 .1 .1 .1 .1 .1 .0) (a .read .now) (q .prepare .result) (a .found) (c .before .before .before .divide .result .factors)
+    Surveyed (q .prepare .last .1 .1 .1 .1 .1 .1 .0) (q .prepare .last .1 .1 .1 .1 .1 .1 .1 .0) (a .read .now) (q .prepare .result) (a .extent .found) (c .before .before .before .divide .result .factors)
 surveyed c = surveyed-by (c .before .before .before .divide .ensures .0) (found c .find-varied .ensures)
 
 write-list-requires : tie.Need-write-list-requires
@@ -93,7 +93,7 @@ write-list-requires c κs =
     let q = expanded (found (listed t)) in
     let p = planned q in
     let a = start p .args in
-    let most = pow-mono 8 (a .found) (start p .pre .0 .read-in .few) in
+    let most = pow-mono 8 (a .extent .found) (start p .pre .0 .read-in .few) in
     let n = v .power .ensures .0 in
     let (one, other) = t .tally-both .ensures (a .table .now) (a .secrets .now) (prepared q) in
     (omega (arith, w .power2 .ensures .0, most), omega (arith, w .power2 .ensures .0, most, start p .pre .0 .room), n, free-few p, one .few, other .few)
