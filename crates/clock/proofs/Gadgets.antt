@@ -4,15 +4,18 @@ use mathlib.Core.List.{List}
 use Prim.Native.Nat.{ℕ, _+_, _-_, _*_, _≤_, _<_}
 use native.Mathlib.Omega.{arith}
 use lib.Bits.{bitXor}
+use lib.Dec.{ltb}
+use borrow.Author.Tests.{ltb-true, ltb-false}
 use Rattle.circuit.specs.Lists.{nth}
 use Rattle.circuit.specs.Wires.{random}
 use Rattle.circuit.specs.Gadgets.{others}
 use Rattle.circuit.specs.Kinds.{pairs}
+use Rattle.circuit.proofs.Base.{cases}
 use Rattle.circuit.proofs.Sizes.{pairs-twice}
 use Rattle.semantics.specs.Clock.{isRegister}
 use Rattle.frames.specs.declared.walk.Frame.the-variants as frame
 use Rattle.gadgets.specs.Internal.Places.{wordA, wordB, productAt, crossStart, outAt, maskAt, sumAt, heldAt}
-use Rattle.simulation.specs.Internal.Filling.{Fills, Copied, Masked}
+use Rattle.simulation.specs.Internal.Filling.{Fills, DrawnMasked}
 use Rattle.simulation.proofs.Adding.{wordSum-map}
 use Rattle.simulation.proofs.Ranks.{pairs-rank, masks-rank}
 use Rattle.clock.specs.Internal.Running.{Clock, Runs}
@@ -45,26 +48,29 @@ and-runs d first used randoms ops tape same draws products rows from shares =
     }
 
 -- REF: its random bits and its sums are filled in, then its outputs
-pub ref-runs : (d first used randoms : ℕ) (ops tape : List ℕ) → randoms ≡ pairs d → {values bank one two newBank : List ℕ}
-    → Fills (Copied tape used first randoms) first (first + randoms) values one
-    → Fills (Masked d first (wordA ops)) (first + pairs d) (first + pairs d + d) one two
+pub ref-runs : (d first used : ℕ) (ops tape : List ℕ) {values bank two newBank : List ℕ} → Fills (DrawnMasked d first (wordA ops) tape used) first (first + pairs d + d) values two
     → Runs (Holds d first) (heldAt d first 0) (heldAt d first d) two bank two newBank
     → (from : ℕ) (shares : List ℕ) → Runs (Framed frame.Ref d first from used ops shares tape) first (first + (pairs d + 2 * d)) values bank two newBank
-ref-runs d first used randoms ops tape same copied masked holds from shares = record {
+ref-runs d first used ops tape masks holds from shares = record {
   on = λ k g u.
       let gates = g .gates in
       let room : heldAt d first d ≤ k .size = omega (arith, g .within) in
-      let drawn = fill u copied (omega arith) (omega arith) (λ q l. random-shows k (first + q) (used + q) (omega arith) (gates .draws q (omega arith)) (masks-rank (k .size) (k .gate) (k .rank) (k .ranks) first used (pairs d) (g .drawn) (gates .draws) (omega arith) q (omega arith)) ∙ ap (λ t. nth t (used + q)) (g .tape-is)) (λ x l m.
-      let q = x - first in
-      let at : x ≡ first + q = omega arith in
-      ap (λ y. isRegister (k .gate y)) at ∙ ap isRegister (gates .draws q (omega arith))) in
+      let drawn : (q : ℕ) → q < pairs d → k .shows (first + q) ≡ nth tape (used + q) = λ q l.
+      random-shows k (first + q) (used + q) (omega arith) (gates .draws q l) (masks-rank (k .size) (k .gate) (k .rank) (k .ranks) first used (pairs d) (g .drawn) (gates .draws) (omega arith) q (omega arith)) ∙ ap (λ t. nth t (used + q)) (g .tape-is) in
       let sums : (i : ℕ) → i < d → k .shows (sumAt d first i) ≡ bitXor (k .shows (wordA ops i)) _ = λ i l.
       met k (sumAt d first i) (omega arith) (gates .sums i l) refl ∙ ap (bitXor (k .shows (wordA ops i))) (wordSum-map (k .shows) (λ j. maskAt d first i j) (others d i)) in
-      let added = fill (upto-at (omega arith) drawn) masked (omega arith) (omega arith) sums (λ x l m.
+      let added = fill u masks (omega arith) (omega arith) (record { drawn = drawn; masked = sums }) (λ x l m. cases (ltb x (first + pairs d))
+      (λ e.
+      let q = x - first in
+      let low = ltb-true x (first + pairs d) e in
+      let at : x ≡ first + q = omega arith in
+      ap (λ y. isRegister (k .gate y)) at ∙ ap isRegister (gates .draws q (omega arith)))
+      (λ e.
       let i = x - (first + pairs d) in
+      let high = ltb-false x (first + pairs d) e in
       let at : x ≡ sumAt d first i = omega arith in
-      ap (λ y. isRegister (k .gate y)) at ∙ ap isRegister (gates .sums i (omega arith))) in
+      ap (λ y. isRegister (k .gate y)) at ∙ ap isRegister (gates .sums i (omega arith)))) in
       upto-at (omega arith) (holds .on k (room, gates .holds) (upto-at (omega arith) added));
-  sized = masked .size ∙ copied .size;
+  sized = masks .size;
   held-sized = holds .held-sized;
 }

@@ -12,8 +12,7 @@ ghost use Rattle.clock.specs.Internal.Running.{Runs};
 ghost use Rattle.clock.specs.Internal.Parts.{Draws, Products, Crosses, CrossesRow, Rows, Holds, Framed};
 use gadgets::gate_values;
 use gadgets::places;
-use simulation::gadget::copy;
-use simulation::gadget::sums;
+use simulation::gadget::mask;
 
 // AND's wires r, and what R shows next, of every pair.
 fn draws(values: &mut [u8], bank: &mut [u8], at: usize, tape: &[u8], used: usize, count: usize)
@@ -166,7 +165,8 @@ pub(crate) fn refresh(
     requires { ⌜ Small first d × (1 + d ≤ length (now ops)) × RowBefore first d (wordA (now ops)) × (heldAt d first d ≤ length (now values)) × (heldAt d first d ≤ length (now bank)) × (used + pairs d ≤ length (now tape)) × (randoms ≡ pairs d) ⌝ }
     ensures { λ _. ⌜ ((from : ℕ) (shares : List ℕ) → Runs (Framed frame.Ref d first from used (now (ops .entry)) shares (now (tape .entry))) first (first + (pairs d + 2 * d)) (now (values .entry)) (now (bank .entry)) (now (values .exit)) (now (bank .exit))) ⌝ }
 {
-    copy(values, first, tape, used, randoms);
-    sums(values, first, d, randoms, ops);
+    // a slice of its own: the loop over frames then needs no copy of `ops` for the other frames
+    let words = &ops[0..ops.len()];
+    mask(values, first, d, randoms, words, tape, used);
     holds(values, bank, first, d, randoms);
 }

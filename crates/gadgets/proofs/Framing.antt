@@ -46,6 +46,11 @@ pub wires-same : (d : ℕ) (ops : List ℕ) (kind : Kind) → frameWires (frameC
 unfolding shape
 wires-same d ops = elim [ HEAD ↦ refl | IN ↦ refl | CON ↦ refl | XOR ↦ refl | NOT ↦ refl | REG ↦ refl | AND ↦ refl | REF ↦ refl | OUT ↦ refl ]
 
+-- one of at most one wire takes neither shares nor random bits
+pub few-takes : (d : ℕ) → 2 ≤ d → (kind : Kind) → shape d kind .wires ≤ 1 → (shape d kind .inputs ≡ 0) × (shape d kind .randoms ≡ 0)
+unfolding shape
+few-takes d h = elim [ HEAD ↦ (λ l. (refl, refl)) | IN ↦ (λ l. absurd (omega arith)) | CON ↦ (λ l. (refl, refl)) | XOR ↦ (λ l. (refl, refl)) | NOT ↦ (λ l. (refl, refl)) | REG ↦ (λ l. (refl, refl)) | AND ↦ (λ l. absurd (omega arith)) | REF ↦ (λ l. absurd (omega arith)) | OUT ↦ (λ l. (refl, refl)) ]
+
 -- its wires are earlier ones, and it has a share for each wire of an IN and a random bit for each pair of a gadget
 pub frame-early : (k : Circuit) (kind : Kind) (ops : List ℕ) → Fits k kind ops → FrameEarly (frameCode (kindCode kind) ops) (k .d) (size k) ops
 frame-early k _ _ (fit-IN t o) = tt

@@ -32,7 +32,7 @@ use Rattle.semantics.proofs.Solving.{nothing, gateAt, OrderedFrom}
 use Rattle.gadgets.specs.Internal.Gates.{FrameGates}
 use Rattle.gadgets.specs.Internal.Frames.{frameWires, Small, FrameEarly, FrameSupplied, FrameNames, FrameHides}
 use Rattle.gadgets.specs.Internal.Accepting.{AcceptedTable, circuitIn, Between}
-use Rattle.gadgets.proofs.Framing.{inputs-more, randoms-more, wires-same, frame-early, frame-names, frame-supplied, frame-gates, frame-hides}
+use Rattle.gadgets.proofs.Framing.{inputs-more, randoms-more, wires-same, few-takes, frame-early, frame-names, frame-supplied, frame-gates, frame-hides}
 
 -- a table accepted with any notes is accepted with the shortest, and has the same circuit
 pub least-notes : {table : List ℕ} {room : ℕ} → Accepted table room → AcceptedTable table
@@ -88,6 +88,7 @@ pub record Met {table : List ℕ} (a : AcceptedTable table) {at : ℕ} (b : Betw
   pub as-many : frameWires fr d ≡ sh .wires
   pub early : FrameEarly fr d w (operandsAt table d at)
   pub supplied : (used shares tape : ℕ) → from + d * sh .inputs ≤ shares → used + sh .randoms ≤ tape → FrameSupplied fr d from used shares tape
+  pub few-takes : sh .wires ≤ 1 → (sh .inputs ≡ 0) × (sh .randoms ≡ 0)
   pub gates : FrameGates fr d w from (operandsAt table d at) (gateAt (whole a .wires))
   pub names : FrameNames fr d (operandsAt table d at) (λ x. isNamed (lookUp (whole a) x) ≡ true)
   pub hides : FrameHides fr d w (λ x. isNamed (lookUp (whole a) x) ≡ false)
@@ -204,6 +205,7 @@ module _ {table : List ℕ} (a : AcceptedTable table) {at : ℕ} (b : Between ta
           as-many = wires-same (a .d) (f .ops) kind;
           early = rw ops-are (at-d (λ n. FrameEarly (frameCode (kindCode kind) (f .ops)) n (size k) (f .ops)) (frame-early k kind (f .ops) fits));
           supplied = λ used shares tape. frame-supplied (a .d) (k .inputs * a .d) used shares tape (f .ops) kind;
+          few-takes = few-takes (a .d) (a .least) kind;
           gates = rw (ops-are, wires-are) (at-d (λ n. FrameGates (frameCode (kindCode kind) (f .ops)) n (size k) (k .inputs * n) (f .ops) (gateAt ((k .wires ++ made k (f .ops) kind) ++ more))) (frame-gates k (f .ops) more kind));
           names = rw ops-are (at-d (λ n. FrameNames (frameCode (kindCode kind) (f .ops)) n (f .ops) (λ x. isNamed (lookUp (whole a) x) ≡ true)) (frame-names k (λ x. isNamed (lookUp (whole a) x) ≡ true) named-whole kind (f .ops) fits));
           hides = rw wires-are (at-d (λ n. FrameHides (frameCode (kindCode kind) (f .ops)) n (size k) (λ x. isNamed (shownBy (getD ((k .wires ++ made k (f .ops) kind) ++ more) x nothing)) ≡ false)) (frame-hides k (f .ops) more kind));

@@ -30,18 +30,15 @@ fn row_start(d: usize, i: usize) -> usize
     pairs(d) - pairs(d - i)
 }
 
-// The place of AND's r of two different shares among its wires r and R, of which each pair has one.
+// The place of AND's r of two different shares among its wires r and R, of which each pair has one. It is written once for both
+// orders, so that AND's loops stay short enough to be unrolled.
 fn pair_offset(d: usize, i: usize, j: usize) -> usize
-    requires { ⌜ (i < d) × (j < d) × (d ≤ 8) ⌝ }
+    requires { ⌜ (i < d) × (j < d) × (d ≤ 8) × (j ≡ i → ⊥) ⌝ }
     ensures { λ r. ⌜ (r ≡ 2 * pairSite d i j) × (r ≤ 144) ⌝ }
 {
-    if i < j {
-        return twice_row_start(d, i) + 2 * (j - i - 1);
-    }
-    if j < i {
-        return twice_row_start(d, j) + 2 * (i - j - 1);
-    }
-    0
+    let low = if i < j { i } else { j };
+    let high = if i < j { j } else { i };
+    twice_row_start(d, low) + 2 * (high - low) - 2
 }
 
 // The place of the share j among those other than i.
@@ -61,7 +58,7 @@ pub fn cross_start(d: usize, i: usize) -> usize
 
 // AND's wire r of the shares i and j; R stands behind it.
 pub fn pair_at(d: usize, first: usize, i: usize, j: usize) -> usize
-    requires { ⌜ Small first d × (i < d) × (j < d) ⌝ }
+    requires { ⌜ Small first d × (i < d) × (j < d) × (j ≡ i → ⊥) ⌝ }
     ensures { λ r. ⌜ (r ≡ pairAt d first i j) × (r ≤ first + 144) ⌝ }
 {
     first + pair_offset(d, i, j)

@@ -1,7 +1,7 @@
 -- The values of an accepted table's wires, frame by frame: those of the frames before the walk's place are filled in.
-use mathlib.Core.Path.{_≡_, refl, ap, subst, _∙_}
+use mathlib.Core.Path.{_≡_, refl, ap, subst, subst₂, _∙_}
 use mathlib.Core.List.{List, []}
-use Prim.Native.Nat.{ℕ, _+_, _*_}
+use Prim.Native.Nat.{ℕ, _+_, _*_, _≤_}
 use native.Mathlib.Omega.{arith}
 use lib.ListN.{length}
 use Rattle.circuit.specs.Wires.{Wire}
@@ -46,6 +46,14 @@ module _ {table shares tape old values : List ℕ} {place w from used : ℕ} (f 
           above = λ x l. g .above x (omega (arith, made)) ∙ f .above x (omega arith);
           sized = g .size ∙ f .sized;
         }
+
+    -- one of at most one wire takes neither shares nor random bits
+    pub few-kept : sh .wires ≤ 1 → {new : List ℕ} {at n : ℕ} → FilledTo table shares tape old new at n (from + d * sh .inputs) (used + sh .randoms) → FilledTo table shares tape old new at n from used
+    few-kept h {new} {at} {n} g =
+        let (i, r) = m .few-takes h in
+        let none : from + d * sh .inputs ≡ from = ap (λ n. from + d * n) i ∙ omega arith in
+        let bare : used + sh .randoms ≡ used = omega (arith, r) in
+        subst₂ (λ (k l : ℕ). FilledTo table shares tape old new at n k l) none bare g
 
   -- all frames are filled in
   pub all-filled : f .walked .between .after ≡ [] → Evaluates table shares tape old values

@@ -1,5 +1,5 @@
 -- Sheets on which values are filled in: one wire more, one part behind another.
-use mathlib.Core.Path.{_≡_, refl, sym, ap, subst₂, _∙_}
+use mathlib.Core.Path.{_≡_, refl, sym, ap, subst, subst₂, _∙_}
 use mathlib.Core.List.{List}
 use Prim.Native.Nat.{ℕ, _+_, _≤_, _<_}
 use native.Mathlib.Omega.{arith}
@@ -41,6 +41,9 @@ fills-for h f = record { filled = λ v e k. f .filled v (h v e) k; below = f .be
 
 pub fills-at : {E : Values → Type 0} {from from′ to to′ : ℕ} {old new : List ℕ} → from ≡ from′ → to ≡ to′ → Fills E from to old new → Fills E from′ to′ old new
 fills-at {E} {from} {from′} {to} {to′} {old} {new} p q f = subst₂ (λ a b. Fills E a b old new) p q f
+
+pub fills-from : {E : Values → Type 0} {from to : ℕ} {old old′ new : List ℕ} → old ≡ old′ → Fills E from to old new → Fills E from to old′ new
+fills-from {E} {from} {to} {new = new} e f = subst (λ (l : List ℕ). Fills E from to l new) e f
 
 -- one wire more
 pub fills-set : {E : Values → Type 0} {from p to : ℕ} {old mid : List ℕ} (e : ℕ) → (from ≤ p) × (p < length old) × (p + 1 ≡ to) → ((v : Values) → E v → Known v 0 from old → e ≡ v p)

@@ -11,7 +11,7 @@ use Rattle.circuit.specs.Kinds.{pairs}
 use Rattle.circuit.proofs.Sizes.{pairs-twice}
 use Rattle.gadgets.specs.Internal.Places.{crossStart, productAt, outAt, maskAt, sumAt}
 use Rattle.gadgets.proofs.Slots.{mask-lt}
-use Rattle.simulation.specs.Internal.Filling.{Values, wordSum, Known, Fills, Copied, Drawn, ShareProducts, Multiplied, AndValues, Masked, Held, RefValues}
+use Rattle.simulation.specs.Internal.Filling.{Values, wordSum, Known, Fills, Copied, Drawn, ShareProducts, Multiplied, AndValues, Masked, DrawnMasked, Held, RefValues}
 use Rattle.simulation.specs.Internal.Gadgets.{Sums}
 use Rattle.simulation.proofs.Adding.{adds-turn, adds-end, add-others}
 use Rattle.simulation.proofs.Filled.{known-all, fills-next, fills-for, fills-at, fills-set}
@@ -68,12 +68,16 @@ held-turn d first i f l room p p-is =
     let here : first + pairs d + d + i ≡ sumAt d first i + d = omega arith in
     rw p-is (fills-set _ (omega arith) (λ v e k. rw (← here, e i l) (known-all f v e k (sumAt d first i) (omega arith) (omega arith))) (fills-at refl here f))
 
-pub ref-filled : (d first : ℕ) (a : ℕ → ℕ) (tape : List ℕ) (used : ℕ) {old one two three : List ℕ} (count : ℕ) → count ≡ pairs d
+-- REF's random bits and sums
+pub mask-filled : (d first : ℕ) (a : ℕ → ℕ) (tape : List ℕ) (used : ℕ) {old one two : List ℕ} (count : ℕ) → count ≡ pairs d
     → Fills (Copied tape used first count) first (first + count) old one → Fills (Masked d first a) (first + pairs d) (first + pairs d + d) one two
-    → Fills (Held d first) (first + pairs d + d) (first + pairs d + d + d) two three
-    → Fills (RefValues d first a tape used) first (first + (pairs d + 2 * d)) old three
-ref-filled d first a tape used count e draws sums holds =
+    → Fills (DrawnMasked d first a tape used) first (first + pairs d + d) old two
+mask-filled d first a tape used count e draws sums =
+    fills-next (omega arith) (omega arith) (λ v q k. q .masked)
+    (fills-for (λ v q. subst (λ (n : ℕ). Copied tape used first n v) (sym e) (q .drawn)) (fills-at refl (omega (arith, e)) draws)) sums
+
+pub ref-filled : (d first : ℕ) (a : ℕ → ℕ) (tape : List ℕ) (used : ℕ) {old one two : List ℕ} → Fills (DrawnMasked d first a tape used) first (first + pairs d + d) old one
+    → Fills (Held d first) (first + pairs d + d) (first + pairs d + d + d) one two → Fills (RefValues d first a tape used) first (first + (pairs d + 2 * d)) old two
+ref-filled d first a tape used masks holds =
     fills-next (omega arith) (omega arith) (λ v q k. q .held)
-    (fills-next (omega arith) (omega arith) (λ v q k. q .masked)
-    (fills-for (λ v q. subst (λ (n : ℕ). Copied tape used first n v) (sym e) (q .drawn)) (fills-at refl (omega (arith, e)) draws)) sums)
-    (fills-at refl (omega arith) holds)
+    (fills-for (λ v q. record { drawn = q .drawn; masked = q .masked }) masks) (fills-at refl (omega arith) holds)

@@ -1,14 +1,18 @@
 -- The wires u to W of a share and each other, share by share.
-use mathlib.Core.Path.{_≡_, refl, subst}
+use mathlib.Core.Path.{_≡_, refl, ap, subst, _∙_}
 use mathlib.Core.List.{List}
 use Prim.Native.Nat.{ℕ, _+_, _-_, _≤_, _<_}
 use native.Mathlib.Omega.{arith}
 use lib.Bits.{bitXor}
+use lib.Dec.{ltb}
+use lib.ListN.{length}
+use borrow.Author.Tests.{ltb-true, ltb-false}
 use Rattle.circuit.specs.Lists.{nth, range}
+use Rattle.circuit.proofs.Base.{cases}
 use Rattle.gadgets.specs.Internal.Places.{pairAt, productAt, crossAt}
 use Rattle.gadgets.proofs.Slots.{slot-next, slots-up, pair-early, product-early}
 use Rattle.simulation.specs.Internal.Filling.{Values, wordSum, Known, Fills, Crossed, RowCrossed, crossingAt}
-use Rattle.simulation.specs.Internal.Gadgets.{Crosses, CrossesRow}
+use Rattle.simulation.specs.Internal.Gadgets.{Crosses, CrossesRow, CrossesOther, CrossesAll}
 use Rattle.simulation.proofs.Adding.{adds-turn, adds-end}
 use Rattle.simulation.proofs.Filled.{known-all, fills-none, fills-next, fills-at}
 
@@ -59,3 +63,71 @@ module _ {d first i a word from to : ℕ} {old values : List ℕ} {sum j : ℕ} 
               let (b-is, r-is) = known-at v (known-all (on .fills) v e k) in
               rw (c .adds, b-is, r-is) (adds-turn sum (crossingAt 1 d first i a v) to j (on .adds v e k) h);
         }
+
+-- the same of every share but i: up to i the row of the lower ones, behind it that of the higher ones
+pub record PastOn (d first i a word : ℕ) (old values : List ℕ) (sum j : ℕ) : Type 0 where
+  pub mid : List ℕ
+  pub s : ℕ
+  pub lower : CrossesRow d first i a word 0 i old mid s
+  pub on : RowOn d first i a s (i + 1) d mid values sum j
+
+pub record AllOn (d first i a word : ℕ) (old values : List ℕ) (sum j : ℕ) : Type 0 where
+  pub most : j ≤ d
+  pub size : length values ≡ length old
+  pub low : j ≤ i → RowOn d first i a word 0 i old values sum j
+  pub past : i < j → PastOn d first i a word old values sum j
+
+pub all-start : {d first i a word : ℕ} {old : List ℕ} → AllOn d first i a word old old word 0
+all-start = record { most = omega arith; size = refl; low = λ h. row-start h; past = λ h. absurd (omega arith) }
+
+module _ {d first i a word : ℕ} {old values : List ℕ} {sum j : ℕ} (on : AllOn d first i a word old values sum j) (l : i < d) where
+  pub all-end : d ≤ j → CrossesAll d first i a word old values sum
+  all-end h = let p = on .past (omega arith) in record { mid = p .mid; s = p .s; lower = p .lower; higher = row-end (p .on) h }
+
+  module _ (h : j < d) {new : List ℕ} {s : ℕ} (c : CrossesOther d first i j a sum values new s) where
+    -- the share i itself: the row of the lower ones ends, that of the higher ones begins
+    turn-itself : j ≡ i → AllOn d first i a word old new s (j + 1)
+    turn-itself e =
+        let p = c .itself e in
+        let next : i + 1 ≡ j + 1 = omega arith in
+        record {
+          most = omega arith;
+          size = ap length (p .1) ∙ on .size;
+          low = λ u. absurd (omega arith);
+          past = λ u. record {
+            mid = values;
+            s = sum;
+            lower = row-end (on .low (omega arith)) (omega arith);
+            on = rw (p .0, p .1, ← next) (row-start (omega arith));
+          };
+        }
+
+    turn-lower : j < i → AllOn d first i a word old new s (j + 1)
+    turn-lower u =
+        let (t, crossed, s-is) = c .other (λ e. omega arith) in
+        record {
+          most = omega arith;
+          size = crossed .fills .size ∙ on .size;
+          low = λ v. rw s-is (row-turn (on .low (omega arith)) l (omega arith) (λ k p q e. omega arith) u _ _ _ refl refl refl crossed);
+          past = λ v. absurd (omega arith);
+        }
+
+    turn-higher : i < j → AllOn d first i a word old new s (j + 1)
+    turn-higher u =
+        let (t, crossed, s-is) = c .other (λ e. omega arith) in
+        let p = on .past u in
+        record {
+          most = omega arith;
+          size = crossed .fills .size ∙ on .size;
+          low = λ v. absurd (omega arith);
+          past = λ v. record {
+            mid = p .mid;
+            s = p .s;
+            lower = p .lower;
+            on = rw s-is (row-turn (p .on) l (omega arith) (λ k p q e. omega arith) h _ _ _ refl refl refl crossed);
+          };
+        }
+
+    pub all-turn : AllOn d first i a word old new s (j + 1)
+    all-turn = cases (ltb j i) (λ e. turn-lower (ltb-true j i e))
+        (λ e. cases (ltb i j) (λ f. turn-higher (ltb-true i j f)) (λ f. turn-itself (omega (arith, ltb-false j i e, ltb-false i j f))))

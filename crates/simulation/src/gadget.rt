@@ -5,8 +5,8 @@ ghost use lib.ListN.{length};
 ghost use Rattle.circuit.specs.Kinds.{pairs};
 ghost use Rattle.gadgets.specs.Internal.Places.{wordA, wordB, productAt, crossStart, outAt};
 ghost use Rattle.gadgets.specs.Internal.Frames.{Small, RowBefore, Roomy};
-ghost use Rattle.simulation.specs.Internal.Filling.{Fills, Copied, Drawn, ShareProducts, Multiplied, AndValues, Masked, Held, RefValues};
-ghost use Rattle.simulation.specs.Internal.Gadgets.{Crosses, CrossesRow, Sums};
+ghost use Rattle.simulation.specs.Internal.Filling.{Fills, Copied, Drawn, ShareProducts, Multiplied, AndValues, Masked, DrawnMasked, Held, RefValues};
+ghost use Rattle.simulation.specs.Internal.Gadgets.{Crosses, CrossesOther, CrossesAll, Sums};
 use gadgets::gate_values;
 use gadgets::places;
 
@@ -73,26 +73,28 @@ fn cross(values: &mut [u8], at: usize, a: u8, b: u8, r: u8) -> u8
     u ^ w
 }
 
-// The same of the share i and each from one to another, added to a word.
-fn cross_row(
-    values: &mut [u8],
-    first: usize,
-    d: usize,
-    i: usize,
-    a: u8,
-    word: u8,
-    from: usize,
-    to: usize,
-) -> u8
-    requires { ⌜ Small first d × (i < d) × (to ≤ d) × Roomy d first (now values) × ((j : ℕ) → from ≤ j → j < to → j ≡ i → ⊥) × (from ≤ to) ⌝ }
-    ensures { λ s. ⌜ CrossesRow d first i a word from to (now (values .entry)) (now (values .exit)) s ⌝ }
+// The same of the share i and another, added to a word. Of the share i itself, the word as it is.
+fn cross_other(values: &mut [u8], first: usize, d: usize, i: usize, j: usize, a: u8, word: u8) -> u8
+    requires { ⌜ Small first d × (i < d) × (j < d) × Roomy d first (now values) ⌝ }
+    ensures { λ s. ⌜ CrossesOther d first i j a word (now (values .entry)) (now (values .exit)) s ⌝ }
+{
+    if i == j {
+        return word;
+    }
+    let r = values[places::pair_at(d, first, i, j)];
+    let b = values[places::product_at(d, first, j)];
+    word ^ cross(values, places::cross_at(d, first, i, j), a, b, r)
+}
+
+// The same of the share i and every other, first the lower ones.
+fn cross_row(values: &mut [u8], first: usize, d: usize, i: usize, a: u8, word: u8) -> u8
+    requires { ⌜ Small first d × (i < d) × Roomy d first (now values) ⌝ }
+    ensures { λ t. ⌜ CrossesAll d first i a word (now (values .entry)) (now (values .exit)) t ⌝ }
 {
     let mut sum = word;
-    let mut j = from;
-    while j < to {
-        let r = values[places::pair_at(d, first, i, j)];
-        let b = values[places::product_at(d, first, j)];
-        sum = sum ^ cross(values, places::cross_at(d, first, i, j), a, b, r);
+    let mut j = 0;
+    while j < d {
+        sum = cross_other(values, first, d, i, j, a, sum);
         j += 1;
     }
     sum
@@ -107,15 +109,14 @@ fn cross_all(values: &mut [u8], first: usize, d: usize, ops: &[u16])
     while i < d {
         let a = values[places::word_a(ops, i)];
         let m = values[places::product_at(d, first, i) + 2];
-        let lower = cross_row(values, first, d, i, a, m, 0, i);
-        let sum = cross_row(values, first, d, i, a, lower, i + 1, d);
+        let sum = cross_row(values, first, d, i, a, m);
         values[places::out_at(d, first, i)] = sum;
         i += 1;
     }
 }
 
-// AND, given the number of its random bits.
-pub(crate) fn and(
+// AND of so many shares, given the number of its random bits.
+fn and_shares(
     values: &mut [u8],
     first: usize,
     d: usize,
@@ -130,6 +131,31 @@ pub(crate) fn and(
     draws(values, first, tape, used, randoms);
     share_products(values, first, d, ops);
     cross_all(values, first, d, ops);
+}
+
+// AND, given the number of its random bits. Numbers that are written out let the compiler unroll the loops for each.
+pub(crate) fn and(
+    values: &mut [u8],
+    first: usize,
+    d: usize,
+    randoms: usize,
+    ops: &[u16],
+    tape: &[u8],
+    used: usize,
+)
+    requires { ⌜ Small first d × (length (now ops) ≡ 1 + d + d) × RowBefore first d (wordA (now ops)) × RowBefore first d (wordB d (now ops)) × Roomy d first (now values) × (used + pairs d ≤ length (now tape)) × (randoms ≡ pairs d) ⌝ }
+    ensures { λ _. ⌜ Fills (AndValues 1 d first (wordA (now (ops .entry))) (wordB d (now (ops .entry))) (now (tape .entry)) used) first (first + (7 * (d * (d - 1)) + 4 * d)) (now (values .entry)) (now (values .exit)) ⌝ }
+{
+    match d {
+        2 => and_shares(values, first, 2, 1, ops, tape, used),
+        3 => and_shares(values, first, 3, 3, ops, tape, used),
+        4 => and_shares(values, first, 4, 6, ops, tape, used),
+        5 => and_shares(values, first, 5, 10, ops, tape, used),
+        6 => and_shares(values, first, 6, 15, ops, tape, used),
+        7 => and_shares(values, first, 7, 21, ops, tape, used),
+        8 => and_shares(values, first, 8, 28, ops, tape, used),
+        _ => and_shares(values, first, d, randoms, ops, tape, used),
+    }
 }
 
 // The sum of a word and REF's random bits of the share i and each other. That of a lower share stands in the lower share's row,
@@ -156,7 +182,7 @@ fn add_masks(values: &[u8], first: usize, d: usize, i: usize, word: u8) -> u8
 }
 
 // REF's sums.
-pub fn sums(values: &mut [u8], first: usize, d: usize, randoms: usize, ops: &[u16])
+fn sums(values: &mut [u8], first: usize, d: usize, randoms: usize, ops: &[u16])
     requires { ⌜ Small first d × (1 + d ≤ length (now ops)) × RowBefore first d (wordA (now ops)) × (first + pairs d + d ≤ length (now values)) × (randoms ≡ pairs d) ⌝ }
     ensures { λ _. ⌜ Fills (Masked d first (wordA (now (ops .entry)))) (first + pairs d) (first + pairs d + d) (now (values .entry)) (now (values .exit)) ⌝ }
 {
@@ -165,6 +191,48 @@ pub fn sums(values: &mut [u8], first: usize, d: usize, randoms: usize, ops: &[u1
         let a = values[places::word_a(ops, i)];
         values[first + randoms + i] = add_masks(values, first, d, i, a);
         i += 1;
+    }
+}
+
+// REF's random bits and sums, of so many shares.
+fn mask_shares(
+    values: &mut [u8],
+    first: usize,
+    d: usize,
+    randoms: usize,
+    ops: &[u16],
+    tape: &[u8],
+    used: usize,
+)
+    requires { ⌜ Small first d × (1 + d ≤ length (now ops)) × RowBefore first d (wordA (now ops)) × (first + pairs d + d ≤ length (now values)) × (used + pairs d ≤ length (now tape)) × (randoms ≡ pairs d) ⌝ }
+    ensures { λ _. ⌜ Fills (DrawnMasked d first (wordA (now (ops .entry))) (now (tape .entry)) used) first (first + pairs d + d) (now (values .entry)) (now (values .exit)) ⌝ }
+{
+    copy(values, first, tape, used, randoms);
+    sums(values, first, d, randoms, ops);
+}
+
+// REF's random bits and sums, by the number of shares as in AND. A clock calls it too, so that it stays out of either loop over frames.
+pub fn mask(
+    values: &mut [u8],
+    first: usize,
+    d: usize,
+    randoms: usize,
+    ops: &[u16],
+    tape: &[u8],
+    used: usize,
+)
+    requires { ⌜ Small first d × (1 + d ≤ length (now ops)) × RowBefore first d (wordA (now ops)) × (first + pairs d + d ≤ length (now values)) × (used + pairs d ≤ length (now tape)) × (randoms ≡ pairs d) ⌝ }
+    ensures { λ _. ⌜ Fills (DrawnMasked d first (wordA (now (ops .entry))) (now (tape .entry)) used) first (first + pairs d + d) (now (values .entry)) (now (values .exit)) ⌝ }
+{
+    match d {
+        2 => mask_shares(values, first, 2, 1, ops, tape, used),
+        3 => mask_shares(values, first, 3, 3, ops, tape, used),
+        4 => mask_shares(values, first, 4, 6, ops, tape, used),
+        5 => mask_shares(values, first, 5, 10, ops, tape, used),
+        6 => mask_shares(values, first, 6, 15, ops, tape, used),
+        7 => mask_shares(values, first, 7, 21, ops, tape, used),
+        8 => mask_shares(values, first, 8, 28, ops, tape, used),
+        _ => mask_shares(values, first, d, randoms, ops, tape, used),
     }
 }
 
@@ -194,7 +262,8 @@ pub(crate) fn refresh(
     requires { ⌜ Small first d × (1 + d ≤ length (now ops)) × RowBefore first d (wordA (now ops)) × (first + pairs d + d + d ≤ length (now values)) × (used + pairs d ≤ length (now tape)) × (randoms ≡ pairs d) ⌝ }
     ensures { λ _. ⌜ Fills (RefValues d first (wordA (now (ops .entry))) (now (tape .entry)) used) first (first + (pairs d + 2 * d)) (now (values .entry)) (now (values .exit)) ⌝ }
 {
-    copy(values, first, tape, used, randoms);
-    sums(values, first, d, randoms, ops);
+    // a slice of its own: the loop over frames then needs no copy of `ops` for the other frames
+    let words = &ops[0..ops.len()];
+    mask(values, first, d, randoms, words, tape, used);
     holds(values, first, d, randoms);
 }

@@ -1,14 +1,17 @@
 // The value of each wire, frame by frame: a bit, in a byte of its own.
 ghost use mathlib.Core.Path.{_≡_};
 ghost use mathlib.Core.Bool.{cond};
-ghost use Prim.Native.Nat.{_+_, _≤_, _<_};
+ghost use mathlib.Core.List.{List};
+ghost use Prim.Native.Nat.{ℕ, _+_, _≤_, _<_};
 ghost use lib.Bits.{bitXor};
 ghost use lib.ListN.{length};
+ghost use Rattle.circuit.specs.Lists.{nth};
 ghost use Rattle.circuit.specs.Kinds.{pairs};
 ghost use Rattle.circuit.specs.Circuit.{isSet};
 ghost use Rattle.gadgets.specs.Internal.Frames.{frameWires, Small, FrameEarly, FrameSupplied};
 ghost use Rattle.simulation.specs.Internal.Filling.{Fills, FrameValues};
 ghost use Rattle.simulation.specs.Internal.Evaluating.{Evaluable, Evaluates};
+ghost use Rattle.simulation.specs.Internal.Walked.{FilledTo, GateWritten, GatesFilled};
 use super::gadget;
 use frames::randoms::random_bits;
 use frames::walk::Frame;
@@ -59,6 +62,41 @@ fn register(values: &mut [u8], first: usize, wire: u16)
     values[first] = values[x];
 }
 
+// The wire of an XOR, a NOT or a REG, behind so many wires. The answer is whether the frame is one of these.
+fn write_gate(values: &mut [u8], frame: Frame, first: usize) -> bool
+    requires { ⌜ ((d : ℕ) × (ops : List ℕ) × FrameEarly frame d first ops × (first + frameWires frame d ≤ length (now values))) ⌝ }
+    ensures { λ r. ⌜ GateWritten frame first (now (values .entry)) (now (values .exit)) r ⌝ }
+{
+    match frame {
+        Frame::Gate(gate) => match gate {
+            Gate::Xor {
+                first: one,
+                second: other,
+            } => {
+                sum(values, first, one, other);
+                true
+            }
+            Gate::Not { wire } => {
+                inverse(values, first, wire);
+                true
+            }
+            Gate::Reg { wire } => {
+                register(values, first, wire);
+                true
+            }
+            Gate::In { stage: _ } => false,
+            Gate::Con {
+                label: _,
+                value: _,
+                stage: _,
+            } => false,
+            Gate::Out => false,
+        },
+        Frame::And => false,
+        Frame::Ref => false,
+    }
+}
+
 // A frame's wires, behind so many wires, shares and random bits. A gadget takes so many random bits.
 fn write_frame(
     values: &mut [u8],
@@ -96,7 +134,45 @@ fn write_frame(
     }
 }
 
-// The values of an accepted table's wires.
+// A walk's place, and how many wires come before it.
+struct Passed {
+    walk: Walk,
+    first: usize,
+}
+
+// The wires of each XOR, NOT and REG from a walk's place up to the first frame of another kind. These take neither shares nor random
+// bits, and a loop of their own carries two numbers only.
+fn fill_gates(table: &[u16], values: &mut [u8], start: Walk, wires: usize, randoms: u16) -> Passed
+    requires { ⌜ (start .d ≡ nth (now table) 1) × (randoms ≡ pairs (nth (now table) 1)) × ((shares tape old : List ℕ) × (from used : ℕ) × FilledTo (now table) shares tape old (now values) (start .at) wires from used) ⌝ }
+    ensures { λ r. ⌜ (r .walk .d ≡ nth (now (table .entry)) 1) × (start .at ≤ r .walk .at) × GatesFilled (now (table .entry)) (now (values .entry)) (start .at) wires (now (values .exit)) (r .walk .at) (r .first) ⌝ }
+{
+    let mut walk = start;
+    let mut first = wires;
+    loop {
+        let step = walk.step(table, randoms);
+        match step {
+            Step::Next {
+                frame,
+                shape,
+                walk: next,
+            } => {
+                if !write_gate(values, frame, first) {
+                    return Passed { walk, first };
+                }
+                first += shape.wires;
+                walk = next;
+            }
+            Step::End => {
+                return Passed { walk, first };
+            }
+            Step::Refused { rule: _ } => {
+                return Passed { walk, first };
+            }
+        }
+    }
+}
+
+// The values of an accepted table's wires. The gates behind a gate are filled in by a loop of their own.
 pub fn fill(table: &[u16], shares: &[u8], tape: &[u8], values: &mut [u8])
     requires { ⌜ Evaluable (now table) (now shares) (now tape) (length (now values)) ⌝ }
     ensures { λ _. ⌜ Evaluates (now (table .entry)) (now (shares .entry)) (now (tape .entry)) (now (values .entry)) (now (values .exit)) ⌝ }
@@ -116,23 +192,32 @@ pub fn fill(table: &[u16], shares: &[u8], tape: &[u8], values: &mut [u8])
                 shape,
                 walk: next,
             } => {
-                let ops = walk.operands(table);
-                write_frame(
-                    values,
-                    frame,
-                    n,
-                    randoms,
-                    first,
-                    from,
-                    used,
-                    ops,
-                    shares,
-                    tape,
-                );
-                first += shape.wires;
-                from += n * shape.inputs;
-                used += shape.randoms;
-                walk = next;
+                if write_gate(values, frame, first) {
+                    let passed = fill_gates(table, values, next, first + shape.wires, randoms);
+                    walk = passed.walk;
+                    first = passed.first;
+                } else {
+                    let ops = walk.operands(table);
+                    write_frame(
+                        values,
+                        frame,
+                        n,
+                        randoms,
+                        first,
+                        from,
+                        used,
+                        ops,
+                        shares,
+                        tape,
+                    );
+                    first += shape.wires;
+                    walk = next;
+                    // frames of one wire or none take neither shares nor random bits
+                    if 1 < shape.wires {
+                        from += n * shape.inputs;
+                        used += shape.randoms;
+                    }
+                }
             }
             Step::End => {
                 return;

@@ -83,6 +83,11 @@ pub record AndValues (ones d first : ℕ) (a b : ℕ → ℕ) (tape : List ℕ) 
 abbrev pub Masked : (d first : ℕ) (a : ℕ → ℕ) → Values → Type 0
 Masked d first a v = (i : ℕ) → i < d → v (sumAt d first i) ≡ bitXor (v (a i)) (wordSum (others d i) (λ j. v (maskAt d first i j)))
 
+-- its random bits and the sums
+pub record DrawnMasked (d first : ℕ) (a : ℕ → ℕ) (tape : List ℕ) (used : ℕ) (v : Values) : Type 0 where
+  pub drawn : Copied tape used first (pairs d) v
+  pub masked : Masked d first a v
+
 abbrev pub Held : (d first : ℕ) → Values → Type 0
 Held d first v = (i : ℕ) → i < d → v (heldAt d first i) ≡ v (sumAt d first i)
 

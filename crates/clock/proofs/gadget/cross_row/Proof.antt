@@ -1,4 +1,5 @@
 -- The loop's invariant: the clock has come past the wires of the share i and the others below j, and what their U and W show is added.
+use mathlib.Core.Path.{_≡_}
 use Prim.Native.Nat.{_-_, _≤_, _<_}
 use native.Mathlib.Omega.{arith}
 use lib.ListN.{length}
@@ -22,8 +23,11 @@ start c = c .before .before .before .before .before
 below : (c : tie.In-loop Inv-loop μ-loop) → c .before .loop .j < start c .args .d
 below c = omega (arith, start c .pre .2)
 
+apart : (c : tie.In-loop Inv-loop μ-loop) → c .before .loop .j ≡ start c .args .i → ⊥
+apart c = start c .pre .7 (c .before .loop .j) (c .before .loop .inv .low) (c .loop-test .taken)
+
 site : (c : tie.In-loop Inv-loop μ-loop) → Sites (start c .args .d) (start c .args .first) (start c .args .i) (c .before .loop .j)
-site c = let p = start c .pre in sites _ _ _ _ (p .0 .2) (p .1) (below c) (p .7 (c .before .loop .j) (c .before .loop .inv .low) (c .loop-test .taken))
+site c = let p = start c .pre in sites _ _ _ _ (p .0 .2) (p .1) (below c) (apart c)
 
 record Rooms (c : tie.In-loop Inv-loop μ-loop) : Type 0 where
   room : outAt (start c .args .d) (start c .args .first) (start c .args .d) ≤ length (c .before .loop .values)
@@ -53,7 +57,7 @@ cross-row-spec =
     Inv-loop
     μ-loop
     (λ c. row-start (c .before .before .before .pre .8))
-    (λ c κs. (start c .pre .0, start c .pre .1, below c))
+    (λ c κs. (start c .pre .0, start c .pre .1, below c, apart c))
     (λ c. let t = c .before .before in omega (arith, site t, c .before .pair-at .ensures .0, rooms t))
     (λ c. search needs)
     (λ c. let t = c .before .before .before in omega (arith, site t, c .before .before .pair-at .ensures .0, rooms t))

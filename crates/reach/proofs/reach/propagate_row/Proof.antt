@@ -60,7 +60,7 @@ propagate-row-spec =
     (λ c. (c .before .before .before .pre .5, omega arith, moves-none _ _))
     (λ c. omega arith)
     (λ c κs. omega (arith, below c))
-    (λ c κs. (start (c .before) .pre .0, start (c .before) .pre .1, below (c .before)))
+    (λ c κs. let t = c .before in (start t .pre .0, start t .pre .1, below t, apart t))
     (λ c κs. let t = c .before .before .before in (start t .pre .0, start t .pre .1, below t))
     propagate-cross-requires
     (λ c. omega arith)

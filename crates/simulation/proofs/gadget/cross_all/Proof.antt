@@ -28,11 +28,11 @@ early c = start c .pre .2 (c .before .loop .i) (c .loop-test .taken)
 loop-again : tie.Need-loop-again Inv-loop μ-loop
 loop-again c =
     let q = c .before .before .before in
-    let r = q .before .before .before .before in
-    let p = r .before .before .before in
+    let p = q .before .before .before in
     let w = p .before .before in
     let t = w .before in
-    outputs-turn (t .before .loop .inv) (t .loop-test .taken) (early t) (start t .pre .3) _ _ _ (w .word-a .ensures) (ap (λ n. n + 2) (p .product-at .ensures .0)) (c .out-at .ensures .0) (r .cross-row .ensures) (q .cross-row2 .ensures)
+    let r = q .cross-row .ensures in
+    outputs-turn (t .before .loop .inv) (t .loop-test .taken) (early t) (start t .pre .3) _ _ _ (w .word-a .ensures) (ap (λ n. n + 2) (p .product-at .ensures .0)) (c .out-at .ensures .0) (r .lower) (r .higher)
 
 pub cross-all-spec : {M : Type 1} → statement M
 cross-all-spec =
@@ -46,11 +46,9 @@ cross-all-spec =
     (λ c κs. (start (c .before .before) .pre .0, omega arith))
     (λ c. search needs)
     (λ c. omega (arith, share (c .before .before .before .before), c .before .product-at .ensures .0, c .before .before .before .before .before .loop .inv .size))
-    (λ c κs. let t = c .before .before .before .before .before in (start t .pre .0, t .loop-test .taken, omega arith, omega (arith, t .before .loop .inv .size, start t .pre .3), (λ j l u e. omega arith), omega arith))
-    (λ c. search needs)
-    (λ c κs. let t = c .before .before .before .before .before .before .before .before .before in (start t .pre .0, t .loop-test .taken, omega arith, omega (arith, t .before .loop .inv .size, start t .pre .3), (λ j l u e. omega arith), omega arith))
-    (λ c κs. let t = c .before .before .before .before .before .before .before .before .before .before .before .before in (start t .pre .0, t .loop-test .taken))
-    (λ c. let t = c .before .before .before .before .before .before .before .before .before .before .before .before .before in omega (arith, c .out-at .ensures .0, t .before .loop .inv .size, start t .pre .3))
+    (λ c κs. let t = c .before .before .before .before .before in (start t .pre .0, t .loop-test .taken, omega (arith, t .before .loop .inv .size, start t .pre .3)))
+    (λ c κs. let t = c .before .before .before .before .before .before .before .before in (start t .pre .0, t .loop-test .taken))
+    (λ c. let t = c .before .before .before .before .before .before .before .before .before in omega (arith, c .out-at .ensures .0, t .before .loop .inv .size, start t .pre .3))
     (λ c. search needs) (λ c. omega arith)
     loop-again
     (λ c. c .before .loop .inv .size)

@@ -9,12 +9,14 @@ use Rattle.circuit.specs.Kinds.{pairs}
 use Rattle.circuit.specs.Lists.{nth}
 use Rattle.frames.proofs.KindTable.{right-step}
 use Rattle.frames.specs.Walk.{operandsAt, stepAt}
+use Rattle.gadgets.specs.Internal.Frames.{frameWires}
 use Rattle.gadgets.proofs.Walking.{headed, second-word, given-bits, Met}
 use Rattle.simulation.specs.Internal.Walked.{FilledTo}
 use Rattle.simulation.proofs.Walked.{walked-answers, room-in, inputs-in, draws-in}
+use Rattle.simulation.proofs.Filled.{fills-from}
 use Rattle.simulation.proofs.values.fill.Statement.{statement}
 use Rattle.simulation.proofs.values.fill.Tie as tie
-use Rattle.simulation.proofs.Evaluating.{filled-start, frame-filled, all-filled}
+use Rattle.simulation.proofs.Evaluating.{filled-start, frame-filled, few-kept, all-filled}
 
 abbrev Inv-loop : tie.InvT-loop
 Inv-loop table shares tape values₀ d n randoms walk₀ first₀ from₀ used₀ values walk first from used =
@@ -45,9 +47,14 @@ met : (c : tie.After-step2 Inv-loop μ-loop) → let h = head c in let f = h .lo
     Met (f .evaluable .accepted) (f .between) (nth (start h .args .table .now) 1) (h .loop .first) (h .loop .from) (g .0) (g .1 .0) (g .1 .1 .0)
 met c = walked-answers (head c .loop .inv .1 .walked) (sym (answer (c .before .before)) ∙ c .step2 .given .1)
 
-words : (c : tie.After-operands Inv-loop μ-loop) → let h = head (c .before .before) in let table = start h .args .table .now in
-    c .operands .result .now ≡ operandsAt table (nth table 1) (h .loop .walk .at)
-words c = let h = head (c .before .before) in c .operands .ensures ∙ ap (λ n. operandsAt (start h .args .table .now) n (h .loop .walk .at)) (h .loop .inv .0)
+same : (c : tie.After-step2 Inv-loop μ-loop) → nth (start (head c) .args .table .now) 1 ≡ head c .loop .inv .1 .walked .evaluable .accepted .d
+same c = second-word (head c .loop .inv .1 .walked .evaluable .accepted)
+
+room : (c : tie.After-step2 Inv-loop μ-loop) → head c .loop .first + frameWires (c .step2 .given .0 .0) (nth (start (head c) .args .table .now) 1) ≤ length (head c .loop .values)
+room c = let f = head c .loop .inv .1 in omega (arith, room-in (f .walked) (same c) (met c), f .sized)
+
+bits : (c : tie.After-step2 Inv-loop μ-loop) → head c .before .random-bits .result ≡ pairs (nth (start (head c) .args .table .now) 1)
+bits c = given (head c) ∙ ap pairs (head c .loop .inv .0)
 
 -- the counts behind it
 record Counts (c : tie.After-step2 Inv-loop μ-loop) : Type 0 where
@@ -58,26 +65,45 @@ record Counts (c : tie.After-step2 Inv-loop μ-loop) : Type 0 where
 counts : (c : tie.After-step2 Inv-loop μ-loop) → Counts c
 counts c =
     let f = head c .loop .inv .1 .walked in
-    let same = second-word (f .evaluable .accepted) in
-    record { wires = met c .few; shares = inputs-in f same (met c); randoms = draws-in f same (met c) }
+    record { wires = met c .few; shares = inputs-in f (same c) (met c); randoms = draws-in f (same c) (met c) }
+
+-- a gate is written: the values as far as the next frame
+abbrev gate : tie.Then1 Inv-loop μ-loop → tie.After-step2 Inv-loop μ-loop
+gate c = c .before .before .before .before .before .before
+
+gated : (c : tie.Then1 Inv-loop μ-loop) → let h = head (gate c) in let a = start h .args in let g = gate c .step2 .given .0 in
+    FilledTo (a .table .now) (a .shares .now) (a .tape .now) (a .values .now) (c .before .before .before .write-gate .last .0) (g .1 .1 .0 .at) (h .loop .first + g .1 .0 .wires) (h .loop .from) (h .loop .used)
+gated c =
+    let t = gate c in
+    let e = c .before .before .before .write-gate .ensures in
+    let f = head t .loop .inv .1 in
+    few-kept f (same t) (met t) (omega (arith, met t .as-many, e .gate (c .if1 .taken) (nth (start (head t) .args .table .now) 1))) (frame-filled f (same t) (met t) _ (e .fills (c .if1 .taken) _ _ _ _ _ _))
+
+-- another frame: the values are as they were
+abbrev other : tie.Else1 Inv-loop μ-loop → tie.After-step2 Inv-loop μ-loop
+other c = c .before .before .before .before .before .before
+
+words : (c : tie.After-operands Inv-loop μ-loop) → let h = head (other (c .before)) in let table = start h .args .table .now in
+    c .operands .result .now ≡ operandsAt table (nth table 1) (h .loop .walk .at)
+words c = let h = head (other (c .before)) in c .operands .ensures ∙ ap (λ n. operandsAt (start h .args .table .now) n (h .loop .walk .at)) (h .loop .inv .0)
 
 write-frame-requires : tie.Need-write-frame-requires Inv-loop μ-loop
 write-frame-requires c κs =
-    let t = c .before .before .before in
-    let f = head t .loop .inv .1 in
-    let same = second-word (f .walked .evaluable .accepted) in
+    let t = other (c .before .before) in
     let m = met t in
-    (m .small, omega (arith, room-in (f .walked) same m, f .sized), rw (words (c .before)) (m .early), m .supplied _ _ _ (counts t .shares) (counts t .randoms), given (head t) ∙ ap pairs (head t .loop .inv .0))
+    (m .small, omega (arith, room t, c .before .before .before .before .before .write-gate .kept .0), rw (words (c .before)) (m .early), m .supplied _ _ _ (counts t .shares) (counts t .randoms), bits t)
 
-abbrev turn : tie.After-struct-known3 Inv-loop μ-loop → tie.After-step2 Inv-loop μ-loop
-turn c = c .before .before .before .before .before .before .before .before .before
+-- behind it
+abbrev turn : tie.After-write-frame Inv-loop μ-loop → tie.After-step2 Inv-loop μ-loop
+turn c = other (c .before .before .before)
 
-loop-again : tie.Need-loop-again Inv-loop μ-loop
-loop-again c =
-    let t = turn c in
-    let f = head t .loop .inv .1 in
-    let w = c .before .before .before .before .before in
-    (met t .same, frame-filled f (second-word (f .walked .evaluable .accepted)) (met t) _ (rw (words (w .before .before)) at (w .write-frame .ensures)))
+frame-behind : (c : tie.After-write-frame Inv-loop μ-loop) → let t = turn c in let h = head t in let a = start h .args in let g = t .step2 .given .0 in
+    FilledTo (a .table .now) (a .shares .now) (a .tape .now) (a .values .now) (c .write-frame .last .0) (g .1 .1 .0 .at) (h .loop .first + g .1 .0 .wires) (h .loop .from + nth (a .table .now) 1 * g .1 .0 .inputs) (h .loop .used + g .1 .0 .randoms)
+frame-behind c =
+    let o = c .before .before .before in
+    let t = other o in
+    let e = o .before .before .before .write-gate .ensures .left (o .if1 .left) in
+    frame-filled (head t .loop .inv .1) (same t) (met t) _ (fills-from e (rw (words (c .before .before)) at (c .write-frame .ensures)))
 
 pub fill-spec : {M : Type 1} → statement M
 fill-spec =
@@ -89,14 +115,22 @@ fill-spec =
     (λ c. record { fits = omega (arith, second-word (c .before .before .before .before .before .pre .accepted)) })
     (λ c κs. search needs)
     (λ c. (refl, filled-start (c .before .before .before .before .before .before .pre)))
-    (λ c κs. search needs) (λ c. search needs) (λ c κs. search needs)
+    (λ c κs. search needs) (λ c. search needs)
+    (λ c κs. let t = c .before .before in (_, _, met t .early, room t))
+    (λ c. record { fits = omega (arith, counts (gate (c .before .before)) .wires) })
+    (λ c κs. let t = gate (c .before .before) in (met t .same, bits t, (_, _, _, _, _, gated (c .before .before))))
+    (λ c. let g = c .before .before .before in let t = gate (g .before .before .before) in omega (arith, g .fill-gates .ensures .1, met t .later, met t .onward .most))
+    (λ c. let g = c .before .before .before in let e = g .fill-gates .ensures in (e .0, e .2 _ _ _ _ _ (gated (g .before .before .before))))
+    (λ c κs. search needs)
     write-frame-requires
-    (λ c. record { fits = omega (arith, counts (c .before .before .before .before .before .before .before) .wires) })
-    (λ c. let t = c .before .before .before .before .before .before .before .before in record { fits = omega (arith, counts t .shares, start (head t) .good .1 .0 .0) })
-    (λ c. let t = c .before .before .before .before .before .before .before .before in record { fits = omega (arith, counts t .shares, start (head t) .good .1 .0 .0) })
-    (λ c. record { fits = omega (arith, counts (turn c) .randoms, start (head (turn c)) .good .1 .1 .0 .0) })
-    (λ c. let t = turn c in omega (arith, met t .later, met t .onward .most))
-    loop-again
+    (λ c. record { fits = omega (arith, counts (turn (c .before .before .before)) .wires) })
+    (λ c. let t = turn (c .before .before .before .before .before .before) in record { fits = omega (arith, counts t .shares, start (head t) .good .1 .0 .0) })
+    (λ c. let t = turn (c .before .before .before .before .before .before) in record { fits = omega (arith, counts t .shares, start (head t) .good .1 .0 .0) })
+    (λ c. let t = turn (c .before .before .before .before .before .before .before) in record { fits = omega (arith, counts t .randoms, start (head t) .good .1 .1 .0 .0) })
+    (λ c. let t = turn (c .before .before .before .before .before .before .before) in omega (arith, met t .later, met t .onward .most))
+    (λ c. let w = c .before .before .before .before .before .before .before in (met (turn w) .same, frame-behind w))
+    (λ c. let t = turn (c .before .before .before .before .before) in omega (arith, met t .later, met t .onward .most))
+    (λ c. let w = c .before .before .before .before .before in let t = turn w in (met t .same, few-kept (head t .loop .inv .1) (same t) (met t) (c .if2 .left) (frame-behind w)))
     (λ c. search needs)
     (λ c. c .before .before .before .loop .inv .1 .sized)
     (λ c. let f = c .before .before .before .loop .inv .1 in all-filled f (walked-answers (f .walked) (sym (answer (c .before .before)) ∙ c .enum-told .given .1)))
