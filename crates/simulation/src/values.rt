@@ -11,7 +11,7 @@ ghost use Rattle.circuit.specs.Circuit.{isSet};
 ghost use Rattle.gadgets.specs.Internal.Frames.{frameWires, Small, FrameEarly, FrameSupplied};
 ghost use Rattle.simulation.specs.Internal.Filling.{Fills, FrameValues};
 ghost use Rattle.simulation.specs.Internal.Evaluating.{Evaluable, Evaluates};
-ghost use Rattle.simulation.specs.Internal.Walked.{FilledTo, GateWritten, GatesFilled};
+ghost use Rattle.simulation.specs.Internal.Walked.{FilledTo, Other, GateWritten, GatesFilled};
 use super::gadget;
 use frames::randoms::random_bits;
 use frames::walk::Frame;
@@ -97,7 +97,7 @@ fn write_gate(values: &mut [u8], frame: Frame, first: usize) -> bool
     }
 }
 
-// A frame's wires, behind so many wires, shares and random bits. A gadget takes so many random bits.
+// The wires of another frame, behind so many wires, shares and random bits. A gadget takes so many random bits.
 fn write_frame(
     values: &mut [u8],
     frame: Frame,
@@ -110,7 +110,7 @@ fn write_frame(
     shares: &[u8],
     tape: &[u8],
 )
-    requires { ⌜ Small first d × (first + frameWires frame d ≤ length (now values)) × FrameEarly frame d first (now ops) × FrameSupplied frame d from used (length (now shares)) (length (now tape)) × (randoms ≡ pairs d) ⌝ }
+    requires { ⌜ Small first d × (first + frameWires frame d ≤ length (now values)) × FrameEarly frame d first (now ops) × FrameSupplied frame d from used (length (now shares)) (length (now tape)) × (randoms ≡ pairs d) × Other frame ⌝ }
     ensures { λ _. ⌜ Fills (FrameValues frame 1 d first from used (now (ops .entry)) (now (shares .entry)) (now (tape .entry))) first (first + frameWires frame d) (now (values .entry)) (now (values .exit)) ⌝ }
 {
     match frame {
@@ -122,11 +122,11 @@ fn write_frame(
                 stage: _,
             } => constant(values, first, value),
             Gate::Xor {
-                first: one,
-                second: other,
-            } => sum(values, first, one, other),
-            Gate::Not { wire } => inverse(values, first, wire),
-            Gate::Reg { wire } => register(values, first, wire),
+                first: _,
+                second: _,
+            } => {}
+            Gate::Not { wire: _ } => {}
+            Gate::Reg { wire: _ } => {}
             Gate::Out => {}
         },
         Frame::And => gadget::and(values, first, d, randoms as usize, ops, tape, used),

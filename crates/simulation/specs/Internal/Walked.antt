@@ -8,7 +8,10 @@ use Rattle.circuit.specs.Lists.{nth}
 use Rattle.circuit.specs.Wires.{Wire}
 use Rattle.circuit.specs.Circuit.{size}
 use Rattle.semantics.specs.Values.{bits, at, valuesOf}
+use Rattle.frames.specs.declared.walk.Gate.{Gate as GateCode}
+use Rattle.frames.specs.declared.walk.Gate.the-variants as gate
 use Rattle.frames.specs.declared.walk.Frame.{Frame as FrameCode}
+use Rattle.frames.specs.declared.walk.Frame.the-variants as frame
 use Rattle.gadgets.specs.Internal.Frames.{frameWires}
 use Rattle.gadgets.specs.Internal.Accepting.{Between}
 use Rattle.gadgets.proofs.Walking.{whole, so-far}
@@ -34,11 +37,26 @@ pub record FilledTo (table shares tape old values : List ℕ) (place w from used
   pub above : (x : ℕ) → w ≤ x → nth values x ≡ nth old x
   pub sized : length values ≡ length old
 
+-- frames other than XOR, NOT and REG
+abbrev pub OtherGate : GateCode → Type 0
+OtherGate (gate.In t) = Unit {0}
+OtherGate (gate.Con l v t) = Unit {0}
+OtherGate (gate.Xor x y) = ⊥
+OtherGate (gate.Not x) = ⊥
+OtherGate (gate.Reg x) = ⊥
+OtherGate gate.Out = Unit {0}
+
+abbrev pub Other : FrameCode → Type 0
+Other (frame.Gate g) = OtherGate g
+Other frame.And = Unit {0}
+Other frame.Ref = Unit {0}
+
 -- a gate of one wire that is written, with the answer that it is one, or another frame and the values as they were
 pub record GateWritten (fr : FrameCode) (first : ℕ) (old new : List ℕ) (r : Bool) : Type 0 where
   pub gate : r ≡ true → (d : ℕ) → frameWires fr d ≡ 1
   pub fills : r ≡ true → (d from used : ℕ) (ops shares tape : List ℕ) → Fills (FrameValues fr 1 d first from used ops shares tape) first (first + frameWires fr d) old new
   pub left : r ≡ false → new ≡ old
+  pub other : r ≡ false → Other fr
 
 -- from a place on such gates are filled in up to another place, whatever the shares and random bits are
 abbrev pub GatesFilled : (table values : List ℕ) (place w : ℕ) (new : List ℕ) (place′ w′ : ℕ) → Type 0

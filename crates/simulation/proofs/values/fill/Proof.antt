@@ -91,7 +91,8 @@ write-frame-requires : tie.Need-write-frame-requires Inv-loop μ-loop
 write-frame-requires c κs =
     let t = other (c .before .before) in
     let m = met t in
-    (m .small, omega (arith, room t, c .before .before .before .before .before .write-gate .kept .0), rw (words (c .before)) (m .early), m .supplied _ _ _ (counts t .shares) (counts t .randoms), bits t)
+    let g = c .before .before .before .before .before in
+    (m .small, omega (arith, room t, g .write-gate .kept .0), rw (words (c .before)) (m .early), m .supplied _ _ _ (counts t .shares) (counts t .randoms), bits t, g .write-gate .ensures .other (c .before .before .if1 .left))
 
 -- behind it
 abbrev turn : tie.After-write-frame Inv-loop μ-loop → tie.After-step2 Inv-loop μ-loop

@@ -8,6 +8,7 @@ use Rattle.frames.specs.declared.walk.Gate.{Gate as GateCode}
 use Rattle.frames.specs.declared.walk.Frame.{Frame as FrameCode}
 use Rattle.frames.specs.declared.walk.Frame.the-variants as frame
 use Rattle.gadgets.specs.Internal.Frames.{frameWires, FrameEarly, FrameSupplied}
+use Rattle.simulation.specs.Internal.Walked.{OtherGate, Other}
 use Rattle.simulation.proofs.values.write_frame.Statement.{statement}
 use Rattle.simulation.proofs.values.write_frame.Tie as tie
 use Rattle.simulation.proofs.Filled.{fills-none, fills-at}
@@ -29,6 +30,10 @@ entry c = c .before .before .before .before .before .before .before
 asked-gate : (c : tie.After-known-told) {g : GateCode} → c .before .frame .given .0 .0 ≡ g → Asked (entry c) (frame.Gate g)
 asked-gate c e = asked (entry c) (c .before .frame .given .1 ∙ ap frame.Gate e)
 
+-- XOR, NOT and REG do not come here
+other : (c : tie.After-known-told) {g : GateCode} → c .before .frame .given .0 .0 ≡ g → OtherGate g
+other c e = subst Other (c .before .frame .given .1 ∙ ap frame.Gate e) (entry c .pre .5)
+
 pub write-frame-spec : {M : Type 1} → statement M
 write-frame-spec =
     tie.close
@@ -37,30 +42,21 @@ write-frame-spec =
     (λ c κs. let g = c .before .before .before in let q = asked-gate g (c .before .enum-told .given .1) in (q .0, q .2))
     (λ c. search needs)
     (λ c κs. asked-gate (c .before .before .before .before) (c .before .before .gate .given .1) .0)
-    (λ c. search needs)
-    (λ c κs. let q = asked-gate (c .before .before .before .before) (c .before .before .gate2 .given .1) in (q .0, q .1 .0, q .1 .1))
-    (λ c. search needs)
-    (λ c κs. let q = asked-gate (c .before .before .before .before) (c .before .before .gate3 .given .1) in (q .0, q .1))
-    (λ c. search needs)
-    (λ c κs. let q = asked-gate (c .before .before .before .before) (c .before .before .gate4 .given .1) in (q .0, q .1))
-    (λ c. search needs) (λ c. search needs)
-    (λ c κs. let s = c .before .before .before .before .before .before .before in let q = asked s (c .before .enum-told3 .given .1) in
+    (λ c. search needs) (λ c. search needs) (λ c. search needs) (λ c. search needs) (λ c. search needs)
+    (λ c κs. let s = c .before .before .before .before .before .before .before in let q = asked s (c .before .enum-told6 .given .1) in
     (s .pre .0, q .1 .0, q .1 .1, q .1 .2, omega (arith, q .0), q .2, s .pre .4))
     (λ c. search needs)
-    (λ c κs. let s = c .before .before .before .before .before .before .before in let q = asked s (c .before .enum-told4 .given .1) in
+    (λ c κs. let s = c .before .before .before .before .before .before .before in let q = asked s (c .before .enum-told7 .given .1) in
     (s .pre .0, q .1 .0, q .1 .1, omega (arith, q .0), q .2, s .pre .4))
     (λ c. c .before .before .copy .ensures .size)
     (λ c. rw (c .before .before .before .before .before .before .before .frame .given .1, c .before .before .before .before .enum-told .given .1) (c .before .before .copy .ensures))
     (λ c. c .before .before .constant .ensures .size)
     (λ c. rw (c .before .before .before .before .before .before .before .before .frame .given .1, c .before .before .before .before .before .gate .given .1) (c .before .before .constant .ensures))
-    (λ c. c .before .before .sum .ensures .size)
-    (λ c. rw (c .before .before .before .before .before .before .before .before .frame .given .1, c .before .before .before .before .before .gate2 .given .1) (c .before .before .sum .ensures))
-    (λ c. c .before .before .inverse .ensures .size)
-    (λ c. rw (c .before .before .before .before .before .before .before .before .frame .given .1, c .before .before .before .before .before .gate3 .given .1) (c .before .before .inverse .ensures))
-    (λ c. c .before .before .register .ensures .size)
-    (λ c. rw (c .before .before .before .before .before .before .before .before .frame .given .1, c .before .before .before .before .before .gate4 .given .1) (c .before .before .register .ensures))
-    (λ c. rw (c .before .before .before .frame .given .1, c .enum-told2 .given .1) (fills-at refl (omega arith) (fills-none _ _)))
+    (λ c. absurd (other (c .before .before) (c .enum-told2 .given .1)))
+    (λ c. absurd (other (c .before .before) (c .enum-told3 .given .1)))
+    (λ c. absurd (other (c .before .before) (c .enum-told4 .given .1)))
+    (λ c. rw (c .before .before .before .frame .given .1, c .enum-told5 .given .1) (fills-at refl (omega arith) (fills-none _ _)))
     (λ c. c .before .before .and .ensures .size)
-    (λ c. rw (c .before .before .before .before .enum-told3 .given .1) (c .before .before .and .ensures))
+    (λ c. rw (c .before .before .before .before .enum-told6 .given .1) (c .before .before .and .ensures))
     (λ c. c .before .before .refresh .ensures .size)
-    (λ c. rw (c .before .before .before .before .enum-told4 .given .1) (c .before .before .refresh .ensures)))
+    (λ c. rw (c .before .before .before .before .enum-told7 .given .1) (c .before .before .refresh .ensures)))

@@ -10,7 +10,7 @@ use Rattle.frames.specs.declared.walk.Frame.{Frame as FrameCode}
 use Rattle.frames.specs.declared.walk.Frame.the-variants as frame
 use Rattle.gadgets.specs.Internal.Frames.{gateWires, frameWires, GateEarly, FrameEarly}
 use Rattle.simulation.specs.Internal.Filling.{Fills, FrameValues}
-use Rattle.simulation.specs.Internal.Walked.{GateWritten}
+use Rattle.simulation.specs.Internal.Walked.{Other, GateWritten}
 use Rattle.simulation.proofs.values.write_gate.Statement.{statement}
 use Rattle.simulation.proofs.values.write_gate.Tie as tie
 
@@ -27,10 +27,10 @@ asked c e =
 
 written : {fr : FrameCode} {first : ℕ} {old new : List ℕ} → ((d : ℕ) → frameWires fr d ≡ 1)
     → ((d from used : ℕ) (ops shares tape : List ℕ) → Fills (FrameValues fr 1 d first from used ops shares tape) first (first + frameWires fr d) old new) → GateWritten fr first old new true
-written one fills = record { gate = λ e. one; fills = λ e. fills; left = λ e. absurd (true≢false e) }
+written one fills = record { gate = λ e. one; fills = λ e. fills; left = λ e. absurd (true≢false e); other = λ e. absurd (true≢false e) }
 
-passed : {fr : FrameCode} {first : ℕ} {old : List ℕ} → GateWritten fr first old old false
-passed = record { gate = λ e. absurd (false≢true e); fills = λ e. absurd (false≢true e); left = λ e. refl }
+passed : {fr : FrameCode} {first : ℕ} {old : List ℕ} → Other fr → GateWritten fr first old old false
+passed o = record { gate = λ e. absurd (false≢true e); fills = λ e. absurd (false≢true e); left = λ e. refl; other = λ e. o }
 
 pub write-gate-spec : {M : Type 1} → statement M
 write-gate-spec =
@@ -49,4 +49,8 @@ write-gate-spec =
     (λ c. rw (c .before .before .before .before .before .before .before .before .frame .given .1, c .before .before .before .before .before .gate2 .given .1) (written (λ d. refl) (λ d from used ops shares tape. c .before .before .inverse .ensures)))
     (λ c. search needs)
     (λ c. rw (c .before .before .before .before .before .before .before .before .frame .given .1, c .before .before .before .before .before .gate3 .given .1) (written (λ d. refl) (λ d from used ops shares tape. c .before .before .register .ensures)))
-    (λ c. passed) (λ c. passed) (λ c. passed) (λ c. passed) (λ c. passed))
+    (λ c. rw (c .before .before .before .frame .given .1, c .enum-told .given .1) (passed tt))
+    (λ c. rw (c .before .before .before .frame .given .1, c .enum-told2 .given .1) (passed tt))
+    (λ c. rw (c .before .before .before .frame .given .1, c .enum-told3 .given .1) (passed tt))
+    (λ c. rw (c .enum-told4 .given .1) (passed tt))
+    (λ c. rw (c .enum-told5 .given .1) (passed tt)))
