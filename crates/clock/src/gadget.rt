@@ -166,7 +166,7 @@ pub(crate) fn refresh(
     ensures { λ _. ⌜ ((from : ℕ) (shares : List ℕ) → Runs (Framed frame.Ref d first from used (now (ops .entry)) shares (now (tape .entry))) first (first + (pairs d + 2 * d)) (now (values .entry)) (now (bank .entry)) (now (values .exit)) (now (bank .exit))) ⌝ }
 {
     // a slice of its own: the loop over frames then needs no copy of `ops` for the other frames
-    let words = &ops[0..ops.len()];
-    mask(values, first, d, randoms, words, tape, used);
+    let row = &ops[0..1 + d];
+    mask(values, first, d, randoms, row, tape, used);
     holds(values, bank, first, d, randoms);
 }

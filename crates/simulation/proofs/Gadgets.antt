@@ -4,12 +4,13 @@ use mathlib.Core.List.{List}
 use Prim.Native.Nat.{ℕ, _+_, _-_, _*_, _≤_, _<_}
 use lib.Bits.{bitXor}
 use native.Mathlib.Omega.{arith}
-use lib.ListN.{length, set}
+use lib.ListN.{length, take, set}
+use lib.Seq.{getD-take, length-take-le}
 use Rattle.circuit.specs.Lists.{nth, range}
 use Rattle.circuit.specs.Gadgets.{others}
 use Rattle.circuit.specs.Kinds.{pairs}
 use Rattle.circuit.proofs.Sizes.{pairs-twice}
-use Rattle.gadgets.specs.Internal.Places.{crossStart, productAt, outAt, maskAt, sumAt}
+use Rattle.gadgets.specs.Internal.Places.{wordA, crossStart, productAt, outAt, maskAt, sumAt}
 use Rattle.gadgets.proofs.Slots.{mask-lt}
 use Rattle.simulation.specs.Internal.Filling.{Values, wordSum, Known, Fills, Copied, Drawn, ShareProducts, Multiplied, AndValues, Masked, DrawnMasked, Held, RefValues}
 use Rattle.simulation.specs.Internal.Gadgets.{Sums}
@@ -75,6 +76,16 @@ pub mask-filled : (d first : ℕ) (a : ℕ → ℕ) (tape : List ℕ) (used : �
 mask-filled d first a tape used count e draws sums =
     fills-next (omega arith) (omega arith) (λ v q k. q .masked)
     (fills-for (λ v q. subst (λ (n : ℕ). Copied tape used first n v) (sym e) (q .drawn)) (fills-at refl (omega (arith, e)) draws)) sums
+
+-- the words that they take are the first d behind the kind's first
+pub row-word : (d : ℕ) (ops : List ℕ) (i : ℕ) → i < d → wordA (take (1 + d - 0) ops) i ≡ wordA ops i
+row-word d ops i l = getD-take (1 + d - 0) ops (1 + i) 0 (omega arith)
+
+pub row-long : (d : ℕ) (ops : List ℕ) → 1 + d ≤ length ops → 1 + d ≤ length (take (1 + d - 0) ops)
+row-long d ops h = omega (arith, length-take-le (1 + d - 0) ops (omega arith))
+
+pub row-masks : (d first : ℕ) (ops tape : List ℕ) (used : ℕ) {old new : List ℕ} {from to : ℕ} → Fills (DrawnMasked d first (wordA (take (1 + d - 0) ops)) tape used) from to old new → Fills (DrawnMasked d first (wordA ops) tape used) from to old new
+row-masks d first ops tape used = fills-for (λ v q. record { drawn = q .drawn; masked = λ i l. rw (row-word d ops i l) (q .masked i l) })
 
 pub ref-filled : (d first : ℕ) (a : ℕ → ℕ) (tape : List ℕ) (used : ℕ) {old one two : List ℕ} → Fills (DrawnMasked d first a tape used) first (first + pairs d + d) old one
     → Fills (Held d first) (first + pairs d + d) (first + pairs d + d + d) one two → Fills (RefValues d first a tape used) first (first + (pairs d + 2 * d)) old two

@@ -263,7 +263,7 @@ pub(crate) fn refresh(
     ensures { λ _. ⌜ Fills (RefValues d first (wordA (now (ops .entry))) (now (tape .entry)) used) first (first + (pairs d + 2 * d)) (now (values .entry)) (now (values .exit)) ⌝ }
 {
     // a slice of its own: the loop over frames then needs no copy of `ops` for the other frames
-    let words = &ops[0..ops.len()];
-    mask(values, first, d, randoms, words, tape, used);
+    let row = &ops[0..1 + d];
+    mask(values, first, d, randoms, row, tape, used);
     holds(values, first, d, randoms);
 }
