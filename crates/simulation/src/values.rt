@@ -150,25 +150,19 @@ fn fill_gates(table: &[u16], values: &mut [u8], start: Walk, wires: usize, rando
     let mut first = wires;
     loop {
         let step = walk.step(table, randoms);
-        match step {
-            Step::Next {
-                frame,
-                shape,
-                walk: next,
-            } => {
-                if !write_gate(values, frame, first) {
-                    return Passed { walk, first };
-                }
-                first += shape.wires;
-                walk = next;
-            }
-            Step::End => {
-                return Passed { walk, first };
-            }
-            Step::Refused { rule: _ } => {
-                return Passed { walk, first };
-            }
+        let Step::Next {
+            frame,
+            shape,
+            walk: next,
+        } = step
+        else {
+            return Passed { walk, first };
+        };
+        if !write_gate(values, frame, first) {
+            return Passed { walk, first };
         }
+        first += shape.wires;
+        walk = next;
     }
 }
 

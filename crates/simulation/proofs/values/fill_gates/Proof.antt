@@ -57,7 +57,7 @@ write-gate-requires c κs =
     let f = filled (head t) in
     (_, _, told t .early, omega (arith, room-in (f .walked) (second-word (f .walked .evaluable .accepted)) (told t), f .sized))
 
-returns : tie.Need-returns Inv-loop μ-loop
+returns : tie.Need-returns-2 Inv-loop μ-loop
 returns c =
     let w = c .before .before .before in
     let inv = head (w .before .before .before) .loop .inv in
@@ -88,11 +88,10 @@ fill-gates-spec =
     μ-loop
     (λ c. (c .before .before .pre .0, omega arith, refl, (λ shares tape old from used f. f)))
     (λ c κs. search needs) (λ c. search needs)
+    (λ c. c .before .before .loop .inv .2) (λ c. let i = c .before .before .loop .inv in (i .0, i .1, i .3))
     write-gate-requires
     (λ c. let w = c .before .before .before in w .write-gate .kept .0 ∙ head (w .before .before .before) .loop .inv .2)
     returns
     (λ c. record { fits = omega (arith, told (c .before .before .before .before .before .before .before) .few) })
     (λ c. let t = c .before .before .before .before .before .before .before in omega (arith, told t .later, told t .onward .most))
-    loop-again
-    (λ c. search needs) (λ c. c .before .before .before .loop .inv .2) (λ c. let i = c .before .before .before .loop .inv in (i .0, i .1, i .3))
-    (λ c. search needs) (λ c. c .before .before .before .loop .inv .2) (λ c. let i = c .before .before .before .loop .inv in (i .0, i .1, i .3)))
+    loop-again)
