@@ -97,25 +97,32 @@ fn write_gate(values: &mut [u8], frame: Frame, first: usize) -> bool
     }
 }
 
-// The wires of another frame, behind so many wires, shares and random bits. A gadget takes so many random bits.
+// What comes before a frame: so many wires, shares and random bits.
+struct Before {
+    first: usize,
+    from: usize,
+    used: usize,
+}
+
+// The wires of another frame. A gadget takes so many random bits.
 fn write_frame(
     values: &mut [u8],
     frame: Frame,
     d: usize,
     randoms: u16,
-    first: usize,
-    from: usize,
-    used: usize,
+    before: Before,
     ops: &[u16],
     shares: &[u8],
     tape: &[u8],
 )
-    requires { ⌜ Small first d × (first + frameWires frame d ≤ length (now values)) × FrameEarly frame d first (now ops) × FrameSupplied frame d from used (length (now shares)) (length (now tape)) × (randoms ≡ pairs d) × Other frame ⌝ }
-    ensures { λ _. ⌜ Fills (FrameValues frame 1 d first from used (now (ops .entry)) (now (shares .entry)) (now (tape .entry))) first (first + frameWires frame d) (now (values .entry)) (now (values .exit)) ⌝ }
+    requires { ⌜ Small (before .first) d × (before .first + frameWires frame d ≤ length (now values)) × FrameEarly frame d (before .first) (now ops) × FrameSupplied frame d (before .from) (before .used) (length (now shares)) (length (now tape)) × (randoms ≡ pairs d) × Other frame ⌝ }
+    ensures { λ _. ⌜ Fills (FrameValues frame 1 d (before .first) (before .from) (before .used) (now (ops .entry)) (now (shares .entry)) (now (tape .entry))) (before .first) (before .first + frameWires frame d) (now (values .entry)) (now (values .exit)) ⌝ }
 {
+    let first = before.first;
+    let used = before.used;
     match frame {
         Frame::Gate(gate) => match gate {
-            Gate::In { stage: _ } => gadget::copy(values, first, shares, from, d),
+            Gate::In { stage: _ } => gadget::copy(values, first, shares, before.from, d),
             Gate::Con {
                 label: _,
                 value,
@@ -192,18 +199,8 @@ pub fn fill(table: &[u16], shares: &[u8], tape: &[u8], values: &mut [u8])
                     first = passed.first;
                 } else {
                     let ops = walk.operands(table);
-                    write_frame(
-                        values,
-                        frame,
-                        n,
-                        randoms,
-                        first,
-                        from,
-                        used,
-                        ops,
-                        shares,
-                        tape,
-                    );
+                    let before = Before { first, from, used };
+                    write_frame(values, frame, n, randoms, before, ops, shares, tape);
                     first += shape.wires;
                     walk = next;
                     // frames of one wire or none take neither shares nor random bits
