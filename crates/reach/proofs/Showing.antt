@@ -2,7 +2,7 @@
 use mathlib.Core.Path.{_≡_, refl, sym, ap, ap₂, subst, _∙_}
 use mathlib.Core.Bool.{Bool, false, cond, false≢true}
 use mathlib.Core.List.{List, [], _++_, map}
-use Prim.Native.Nat.{ℕ, suc, _+_, _-_, _≤_, _<_}
+use Prim.Native.Nat.{ℕ, suc, _+_, _-_, _≤_, _<_, zero}
 use native.Mathlib.Omega.{arith}
 use lib.Dec.{ltb}
 use lib.ListN.{length, set, drop, length-set, replicate, length-map, length-replicate, getD-replicate, List·getD-append, List·getD-eq-default, List·getD-map}
@@ -29,14 +29,21 @@ no-marks : (n x : ℕ) → nth (replicate n 0) x ≡ 0
 no-marks n x = cases (ltb x n) (λ e. getD-replicate n x 0 0 (ltb-true x n e))
     (λ e. List·getD-eq-default (replicate n 0) 0 (subst (λ (m : ℕ). m ≤ x) (sym (length-replicate n 0)) (ltb-false x n e)))
 
-pub unmarked-all : {marks : List ℕ} {from to : ℕ} → marks ≡ replicate (length marks) 0 → Unmarked marks from to
-unmarked-all {marks} clear x l u = omega (arith, ap (λ (m : List ℕ). nth m x) clear, no-marks (length marks) x)
-
 -- marks on probes alone
 pub marked-probes : (n : ℕ) (probes : List ℕ) {marks : List ℕ} → marks ≡ markAll (replicate n 0) probes → ((x : ℕ) → In x probes → x < n) → (x : ℕ) → isSet (nth marks x) ≡ mem x probes
 marked-probes n probes e h x = ap (λ m. isSet (nth m x)) e ∙ same-test _ _
     (λ m. mark-cases (replicate n 0) probes x m (λ i. i) (λ z. absurd (false≢true (sym (ap isSet (no-marks n x)) ∙ z))))
     (λ i. mark-new (replicate n 0) probes x i (subst (λ (m : ℕ). x < m) (sym (length-replicate n 0)) (h x i)))
+
+-- and none behind them
+pub unmarked-from : (n : ℕ) (probes : List ℕ) {marks : List ℕ} → marks ≡ markAll (replicate n 0) probes → {end to : ℕ} → ((x : ℕ) → In x probes → x < end) → Unmarked marks end to
+unmarked-from n probes {marks} e low x l u = cases (isSet (nth marks x))
+    (λ m. absurd (mark-cases {A = ⊥} (replicate n 0) probes x (ap (λ ms. isSet (nth ms x)) (sym e) ∙ m) (λ i. omega (arith, low x i)) (λ z. false≢true (sym (ap isSet (no-marks n x)) ∙ z))))
+    (λ m. unset (nth marks x) m)
+  where
+    unset : (b : ℕ) → isSet b ≡ false → b < 1
+    unset zero h = omega arith
+    unset (suc b) h = absurd (false≢true (sym h))
 
 module _ (marks values : List ℕ) where
   abbrev shown : ℕ → ℕ

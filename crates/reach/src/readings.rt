@@ -35,27 +35,40 @@ const FEW_FRAMES: usize = FEW_WORDS / 2;
 const FRAME_BLOCK: usize = 16;
 
 // The larger of two numbers.
-fn larger(one: usize, other: usize) -> usize
-    ensures { λ r. ⌜ (one ≤ r) × (other ≤ r) × ((n : ℕ) → one ≤ n → other ≤ n → r ≤ n) ⌝ }
+fn larger(one: u16, other: u16) -> u16
+    ensures { λ r. ⌜ (one ≤ r) × (other ≤ r) × ((n : ℕ) → one < n → other < n → r < n) ⌝ }
 {
     if one < other { other } else { one }
 }
 
-// A mark on each probed wire. The answer is one past the highest of them, 0 without probes: a search for it, which reads many marks at
-// once, would wait for those that were just written one by one.
-fn mark(marks: &mut [u8], probes: &[u16]) -> usize
-    requires { ⌜ ((x : ℕ) → In x (now probes) → x < length (now marks)) ⌝ }
-    ensures { λ r. ⌜ (now (marks .exit) ≡ markAll (now (marks .entry)) (now (probes .entry))) × ((wires : ℕ) → ((x : ℕ) → In x (now (probes .entry)) → x < wires) → r ≤ wires) × ((to : ℕ) → Unmarked (now (marks .entry)) r to → Unmarked (now (marks .exit)) r to) ⌝ }
+// One past the highest probed wire, 0 without probes. A search of the marks, which reads many at once, would wait for those that were
+// just written one by one; and a loop that also marks would go slowly.
+fn marks_end(probes: &[u16]) -> usize
+    ensures { λ r. ⌜ ((x : ℕ) → In x (now (probes .entry)) → x < r) × ((wires : ℕ) → ((x : ℕ) → In x (now (probes .entry)) → x < wires) → r ≤ wires) ⌝ }
 {
-    let mut end = 0;
+    if probes.len() == 0 {
+        return 0;
+    }
+    let mut most: u16 = 0;
+    let mut i = 0;
+    while i < probes.len() {
+        most = larger(most, probes[i]);
+        i += 1;
+    }
+    most as usize + 1
+}
+
+// A mark on each probed wire.
+fn mark(marks: &mut [u8], probes: &[u16])
+    requires { ⌜ ((x : ℕ) → In x (now probes) → x < length (now marks)) ⌝ }
+    ensures { λ _. ⌜ now (marks .exit) ≡ markAll (now (marks .entry)) (now (probes .entry)) ⌝ }
+{
     let mut i = 0;
     while i < probes.len() {
         let wire = probes[i] as usize;
         marks[wire] = 1;
-        end = larger(end, wire + 1);
         i += 1;
     }
-    end
 }
 
 // AND's wires, where one of them is marked.
@@ -172,7 +185,8 @@ fn reach_listed(
     requires { ⌜ Reachable (now table) (now probes) (now marks) × Room (now table) (now starts) (now firsts) ⌝ }
     ensures { λ _. ⌜ OnStops (circuitIn (now (table .entry)) .wires) (now (probes .entry)) (now (marks .exit)) ⌝ }
 {
-    let end = mark(marks, probes);
+    mark(marks, probes);
+    let end = marks_end(probes);
     let count = list_frames(table, end, starts, firsts);
     propagate_frames(table, starts, firsts, count, marks);
 }
