@@ -4,13 +4,13 @@ ghost use Rattle.std.specs.Prelude.{◌≡◌, ◌+◌, ◌*◌, ◌≤◌, ◌<
 ghost use Rattle.circuit.specs.Limits.{most_shares, notes_room, wire_limit};
 ghost use Rattle.circuit.specs.Lists.{nth};
 ghost use Rattle.checker.specs.Internal.Notes.{noted, label_found, stage_found};
-ghost use Rattle.checker.specs.Internal.Adding.{spot, none, ◌andThen◌, stage_number, label_number, value_number, like_number, row_broken, product_broken, refresh_broken, gadget_after, wires_at, Judges};
+ghost use Rattle.checker.specs.Internal.Adding.{spot, none, ◌and_then◌, stage_number, label_number, value_number, like_number, row_broken, product_broken, refresh_broken, gadget_after, wires_at, Judges};
 
 use super::notes;
 use super::notes::{Found, Made};
 
 // A rule's number, 0 for none, and the word of the frame where it is broken.
-#[derive(Drop)]
+#[derive(Clone, Copy)]
 pub struct Spot {
     pub rule: usize,
     pub word: usize,

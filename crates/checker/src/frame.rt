@@ -9,7 +9,7 @@ use super::{forms, span};
 use frames::kinds::{Form, Shape};
 
 // The circuit so far: the number of frames with HEAD, of wires, of random bits, the stages of INs and OUTs, and the number of INs.
-#[derive(Drop)]
+#[derive(Clone, Copy)]
 pub struct Tally {
     pub frames: usize,
     pub wires: usize,
@@ -19,7 +19,7 @@ pub struct Tally {
 }
 
 // The circuit with one frame more, or the rule that the frame breaks and the word.
-#[derive(Drop)]
+#[derive(Clone, Copy)]
 pub enum Added {
     Next(Tally),
     Refused(Spot),

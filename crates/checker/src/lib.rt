@@ -1,5 +1,7 @@
 // Decides whether a table of words is a circuit that keeps rules 1 to 14 and 22, and writes into the notes what looking each
 // wire up tells: its label, its stage and whether it is registered.
+#![tactic(auto)]
+
 ghost use Rattle.std.specs.Prelude.{◌≡◌, length};
 ghost use Rattle.circuit.specs.Rules.{checked};
 ghost use Rattle.checker.specs.Answers.{answer_of, InputsAre};
@@ -19,7 +21,7 @@ use frames::walk::{Step, Walk};
 
 // The answer: accepted with the numbers of wires and random bits, the latency and the number of INs, or refused with the
 // number of the first rule broken, the frame and the word.
-#[derive(Drop)]
+#[derive(Clone, Copy)]
 pub enum Verdict {
     Accepted {
         wires: usize,

@@ -13,7 +13,7 @@ const INNER: u16 = 0xFFFF;
 const REGISTERED: u16 = 8;
 
 // What looking a wire up tells.
-#[derive(Drop)]
+#[derive(Clone, Copy)]
 pub enum Found {
     Missing,
     Inner,
@@ -26,7 +26,7 @@ pub enum Found {
 
 // The wires that a frame makes, as the notes show them: inner ones, then named ones with labels in a row at one stage, all
 // registered or none.
-#[derive(Drop)]
+#[derive(Clone, Copy)]
 pub struct Made {
     pub inner: usize,
     pub named: usize,

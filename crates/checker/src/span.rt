@@ -5,7 +5,7 @@ ghost use Rattle.checker.specs.Internal.Spans.{no_span, with_input, with_output,
 use super::numbers::less;
 
 // The lowest stage of an IN, one past the last stage where there is none; the highest stage of an OUT, 0 where there is none.
-#[derive(Drop)]
+#[derive(Clone, Copy)]
 pub struct Span {
     pub lowest: usize,
     pub highest: usize,

@@ -1,4 +1,5 @@
 // Document 01's limits, for the code. specs/Limits.antt has them for the definitions.
+#![tactic(auto)]
 
 // The most words of a table.
 pub const TABLE_WORDS: usize = 8192;

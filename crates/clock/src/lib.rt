@@ -1,4 +1,6 @@
 // Runs an accepted circuit clock by clock: a register shows what its operand showed one clock before, which a bank keeps.
+#![tactic(auto)]
+
 ghost use Rattle.std.specs.Prelude.{◌≡◌};
 ghost use Rattle.checker.specs.Answers.{answer_of};
 ghost use Rattle.semantics.specs.Calls.{Accepts, circuit_of, call_notes};

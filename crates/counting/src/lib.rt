@@ -1,5 +1,7 @@
 // Counts, over all sharings of two sets of secret bits and all tapes, how often the wires that probes read have each combination of
 // values in an accepted circuit.
+#![tactic(auto)]
+
 ghost use Rattle.std.specs.Prelude.{◌≡◌, length};
 ghost use Rattle.circuit.specs.Rules.{checked};
 ghost use Rattle.circuit.specs.Answer.{notes_after};
@@ -24,7 +26,7 @@ use listing::Extent;
 
 // Accepted: how many wires are read, how many combinations of values they have, and how many pairs of a sharing and a tape there
 // are for a set of secret bits.
-#[derive(Drop)]
+#[derive(Clone, Copy)]
 pub enum Counted {
     Accepted {
         read: usize,

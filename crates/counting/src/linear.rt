@@ -12,7 +12,7 @@ use super::numbers;
 use super::prepare::TERMS;
 
 // Variables that the read wires need, and those that are factors of products among them.
-#[derive(Drop)]
+#[derive(Clone, Copy)]
 pub struct Survey {
     pub needed: u64,
     pub factors: u64,

@@ -27,7 +27,7 @@ const SMALL_TALLY: usize = 64;
 const TALLY: usize = 256;
 
 // How far a count goes: the INs, random bits and wires of its table, and the wires that are read.
-#[derive(Drop)]
+#[derive(Clone, Copy)]
 pub struct Extent {
     pub inputs: usize,
     pub randoms: usize,

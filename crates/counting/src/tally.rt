@@ -10,7 +10,7 @@ use super::{lanes, linear, numbers};
 use symbolic::evaluate;
 
 // How sharings and tapes are made of free bits.
-#[derive(Drop)]
+#[derive(Clone, Copy)]
 pub struct Plan {
     // the shares of a secret bit that are free; the free bits before those of the tape, and all
     pub others: usize,
@@ -19,7 +19,7 @@ pub struct Plan {
 }
 
 // The pairs that are gone through: only free bits that are factors vary, or others beside them.
-#[derive(Drop)]
+#[derive(Clone, Copy)]
 pub struct Enumeration {
     pub factors: u64,
     // batches of pairs, and the pairs of each

@@ -1,4 +1,6 @@
 // Evaluates accepted circuits, and reads what probes on their wires show.
+#![tactic(auto)]
+
 ghost use Rattle.std.specs.Prelude.{◌≡◌, [], ◌∷◌};
 ghost use Rattle.checker.specs.Answers.{answer_of};
 ghost use Rattle.semantics.specs.Calls.{Accepts, circuit_of, written, call_rule, call_answer, call_notes, value_bytes, reading_bytes};

@@ -2,6 +2,8 @@
 // accepted, and the numbers are wires, random bits and latency (of a text: words read or bytes written, and 0; of counts: wires
 // read, combinations and pairs); else it is the number of the first rule broken, and the numbers are frame, word and 0 (of a text
 // that is read: line and word).
+#![tactic(auto)]
+
 ghost use Rattle.std.specs.Prelude.{◌≡◌, [], ◌∷◌, length};
 ghost use Rattle.circuit.specs.Rules.{checked};
 ghost use Rattle.circuit.specs.Answer.{refused, verdict_of, notes_after};

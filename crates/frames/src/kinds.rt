@@ -3,7 +3,7 @@ ghost use Rattle.std.specs.Prelude.{◌≡◌};
 ghost use Rattle.circuit.specs.Kinds.{kind_of};
 ghost use Rattle.frames.specs.Walk.{kind_line, shape_taking, Means};
 
-#[derive(Drop)]
+#[derive(Clone, Copy)]
 pub enum Kind {
     Head,
     In,
@@ -17,7 +17,7 @@ pub enum Kind {
 }
 
 // What the words after the kind have to be, and at which stage the new wires stand.
-#[derive(Drop)]
+#[derive(Clone, Copy)]
 pub enum Form {
     // the number of shares
     ShareCount,
@@ -37,7 +37,7 @@ pub enum Form {
     Row,
 }
 
-#[derive(Drop)]
+#[derive(Clone, Copy)]
 pub struct Shape {
     pub kind: Kind,
     pub form: Form,

@@ -8,7 +8,7 @@ use super::kinds;
 use kinds::{Form, Shape};
 
 // A gate, with its words. OUT's stay in the table.
-#[derive(Drop)]
+#[derive(Clone, Copy)]
 pub enum Gate {
     In { stage: u16 },
     Con { label: u16, value: u16, stage: u16 },
@@ -19,7 +19,7 @@ pub enum Gate {
 }
 
 // A frame is a gate or a gadget; a gadget's words stay in the table.
-#[derive(Drop)]
+#[derive(Clone, Copy)]
 pub enum Frame {
     Gate(Gate),
     And,
@@ -27,7 +27,7 @@ pub enum Frame {
 }
 
 // The state of a walk: the number of shares, and where in the table the next frame begins.
-#[derive(Drop)]
+#[derive(Clone, Copy)]
 pub struct Walk {
     pub d: u16,
     pub at: usize,
@@ -35,7 +35,7 @@ pub struct Walk {
 
 // What stands at a walk's place: a whole frame, with what its kind decides and the walk behind it; the rule that the words
 // there break, 5 or 6; or the table's end.
-#[derive(Drop)]
+#[derive(Clone, Copy)]
 pub enum Step {
     Next {
         frame: Frame,
@@ -56,7 +56,7 @@ fn word_at(words: &[u16], i: usize) -> u16
 }
 
 // A frame whose words the table has, or one in which the table ends.
-#[derive(Drop)]
+#[derive(Clone, Copy)]
 pub enum Framed {
     Whole(Frame),
     Short,

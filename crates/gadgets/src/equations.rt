@@ -5,13 +5,13 @@ ghost use Rattle.std.specs.Int.Bits.{bit_xor};
 ghost use Rattle.gadgets.specs.Internal.Equations.{factors};
 
 // What is multiplied.
-#[derive(Drop)]
+#[derive(Clone, Copy)]
 pub struct Factors {
     pub one: u64,
     pub other: u64,
 }
 
-// m = typeof.a.B
+// m = a·B
 pub fn m(a: u64, b: u64) -> Factors
     ensures { result ≡ factors a b }
 {
@@ -35,7 +35,7 @@ pub fn v(b: u64, r: u64) -> u64
     b ^ r
 }
 
-// w = typeof.a.V
+// w = a·V
 pub fn w(a: u64, v: u64) -> Factors
     ensures { result ≡ factors a v }
 {

@@ -1,4 +1,6 @@
 // Judges the circuit whose text stands on standard input, and prints one line.
+#![tactic(auto)]
+
 ghost use Rattle.std.specs.Prelude.{◌≡◌, length};
 ghost use Rattle.checker.specs.Answers.{answer_of};
 ghost use Rattle.judge.specs.Judged.{judged_text};

@@ -1,4 +1,6 @@
 // Says whether the frames of an accepted table make whole sharings. Then the table has a plain circuit, whose bits are the added shares.
+#![tactic(auto)]
+
 ghost use Rattle.std.specs.Prelude.{◌≡◌, length};
 ghost use Rattle.circuit.specs.Rules.{pass, checked};
 ghost use Rattle.circuit.specs.Answer.{notes_after};

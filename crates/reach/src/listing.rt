@@ -9,7 +9,7 @@ use frames::kinds::decide;
 use frames::randoms::random_bits;
 
 // How far a list goes: where the next frame begins, and how many wires and frames come before it.
-#[derive(Drop)]
+#[derive(Clone, Copy)]
 pub(crate) struct ListEnd {
     at: usize,
     first: usize,

@@ -1,1 +1,2 @@
 // This crate holds theorems (specs/, proofs/), and no code.
+#![tactic(auto)]

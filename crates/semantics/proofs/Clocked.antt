@@ -97,5 +97,5 @@ pub clock_solved : (ws : List Wire) (bank sh t : List Bool) → OrderedFrom 0 ws
 clock_solved ws bank sh t h x l =
     let f : ℕ → Bool = at (clock_values ws bank sh t) in
     solved sh (on_clock ws bank) t (clock_ordered 0 ws bank h) x (rw with_bank-length l)
-    ∙ ap₂ (λ g n. value g f sh (drop n t)) (ap (λ w. w.gate) (with_bank-at false _ ws bank x nothing l)) (clock_randoms x ws bank)
+    ∙ ap₂ (λ g n. value g f sh (drop n t)) (ap (λ w. w.gate) (with_bank-at false (λ w b. cond (is_register w.gate) (constant b) w.gate placed w.place) ws bank x nothing l)) (clock_randoms x ws bank)
     ∙ shown-value (gate_at ws x) (at bank x) f sh (drop (randoms_in (take x ws)) t)

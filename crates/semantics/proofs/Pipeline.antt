@@ -2,7 +2,7 @@
 -- stands at the stage of the wires that it takes; and a share or a random bit of a set is the one that is fed on the clock of its stage.
 use mathlib.Core.Path.{◌≡◌, refl, sym, ap, subst, ◌∙◌}
 use mathlib.Core.Bool.{Bool, true, false, cond}
-use mathlib.Core.List.{List, ◌∷◌, ◌++◌, map}
+use mathlib.Core.List.{List, [], ◌∷◌, ◌++◌, map}
 use Prim.Native.Nat.{ℕ, zero, suc, ◌+◌, ◌≤◌, ◌<◌}
 use native.Mathlib.Nat.{zero-add}
 use native.Mathlib.Omega.{arith}
@@ -54,7 +54,7 @@ module _ (ws : List Wire) (shares tapes : ℕ → List ℕ) (start : List ℕ) w
       let values = values_on ws shares tapes start clock in
       let new = held_bytes ws values bank in
       get_or-map is_set (overwrite new bank) x 0
-      ∙ ap is_set (get_or-append new (drop (length new) bank) 0 x (rw with_bank-length l) ∙ with_bank-at 0 _ ws bank x 0 l)
+      ∙ ap is_set (get_or-append new (drop (length new) bank) 0 x (rw with_bank-length l) ∙ with_bank-at 0 (λ w b. cond (is_register w.gate) (byte (value w.gate (at values) [] [])) b) ws bank x 0 l)
       ∙ rw e (set-byte (at values y))
     where
       set-byte : (b : Bool) → is_set (byte b) ≡ b

@@ -1,1 +1,2 @@
 // This crate holds definitions (specs/) and their laws (proofs/), and no code.
+#![tactic(auto)]

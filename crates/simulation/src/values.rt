@@ -92,7 +92,7 @@ fn write_gate(values: &mut [u8], frame: Frame, first: usize) -> bool
 }
 
 // What comes before a frame: so many wires, shares and random bits.
-#[derive(Drop)]
+#[derive(Clone, Copy)]
 pub struct Before {
     pub first: usize,
     pub from: usize,
@@ -137,7 +137,7 @@ fn write_frame(
 }
 
 // A walk's place, and how many wires come before it.
-#[derive(Drop)]
+#[derive(Clone, Copy)]
 pub struct Passed {
     pub walk: Walk,
     pub first: usize,

@@ -5,7 +5,7 @@ ghost use Rattle.circuit.specs.Lists.{nth};
 ghost use Rattle.symbolic.specs.Internal.Sums.{added, words_at, four_at, Before, BoundedTerms, Runs, Shows};
 
 // Four words.
-#[derive(Drop)]
+#[derive(Clone, Copy)]
 pub struct Four {
     pub a: u64,
     pub b: u64,

@@ -36,7 +36,7 @@ fn write_and(
 }
 
 // What comes before a frame: so many wires, shares, random bits and outputs of ANDs.
-#[derive(Drop)]
+#[derive(Clone, Copy)]
 struct Before {
     first: usize,
     from: usize,
@@ -119,7 +119,7 @@ fn write_frame(
 }
 
 // A walk's place, and how many wires come before it.
-#[derive(Drop)]
+#[derive(Clone, Copy)]
 struct Passed {
     walk: Walk,
     first: usize,

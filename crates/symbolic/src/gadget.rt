@@ -18,7 +18,7 @@ use gadgets::{equations, places};
 pub(crate) const ONE: u64 = 0x2_0000;
 
 // A product of two sums, with a third sum added.
-#[derive(Drop)]
+#[derive(Clone, Copy)]
 pub struct Term {
     pub one: u64,
     pub other: u64,

@@ -58,7 +58,7 @@ fn pair(codes: &[u16; 512], a: u8, b: u8) -> usize
 }
 
 // What stands at a place of the text, by codes: two digits, two more, and the byte behind them.
-#[derive(Drop)]
+#[derive(Clone, Copy)]
 pub(crate) struct Word {
     pub high: usize,
     pub low: usize,

@@ -1,4 +1,6 @@
 // Reads lines of hexadecimal words into a lent table, one frame a line.
+#![tactic(auto)]
+
 ghost use Rattle.std.specs.Prelude.{◌≡◌, List, ℕ, length, drop};
 ghost use Rattle.text.specs.Reader.{read_text};
 ghost use Rattle.text.specs.Answer.{text_answer, text_answer_of, table_after};
@@ -13,7 +15,7 @@ use line::BLOCK;
 
 // The answer of a call on text: accepted with a number, of words read or of bytes written, or refused with the number of the
 // first rule broken, the line (of a table: the frame) and the word.
-#[derive(Drop)]
+#[derive(Clone, Copy)]
 pub enum TextVerdict {
     Accepted {
         count: usize,

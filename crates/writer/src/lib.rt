@@ -1,4 +1,6 @@
 // Writes an accepted table as lines of hexadecimal words, one frame a line: the text that the reader reads as this table.
+#![tactic(auto)]
+
 ghost use Rattle.std.specs.Prelude.{◌≡◌, ◌*◌, ◌≤◌, length, drop};
 ghost use Rattle.std.proofs.lemmas.List.Edits.{sets};
 ghost use Rattle.circuit.specs.Lists.{nth, overwrite};

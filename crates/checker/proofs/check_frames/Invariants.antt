@@ -1,0 +1,14 @@
+-- The loop's invariant: the frames so far are a circuit whose notes are written, and the rest is still to be judged. Each turn passes
+-- a frame or answers.
+use Prim.Native.Nat.{◌-◌}
+use lib.ListN.{length}
+use Rattle.frames.specs.declared.walk.Step.TheVariants as step
+use Rattle.checker.proofs.Checking.{Walking}
+use Rattle.checker.proofs.Ways.{turn}
+use Rattle.checker.proofs.check_frames.Given as goal
+
+abbrev pub invariant-loop-rule : goal.invariant-loop-rule
+invariant-loop-rule l = Walking l.table l.initial.notes l.notes l.d l.walk l.tally
+
+abbrev pub decreases-loop-rule : goal.decreases-loop-rule
+decreases-loop-rule l = length l.table - l.walk.at

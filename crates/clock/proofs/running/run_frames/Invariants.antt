@@ -1,0 +1,14 @@
+-- The loop's invariant: the clock has come to the first wire behind the walk's place.
+use mathlib.Core.Path.{◌≡◌}
+use Prim.Native.Nat.{◌-◌}
+use lib.ListN.{length}
+use Rattle.circuit.specs.Lists.{nth}
+use Rattle.clock.specs.Internal.Clocking.{ClockingTo}
+use Rattle.clock.proofs.running.run_frames.Given as goal
+
+abbrev pub invariant-loop-frame : goal.invariant-loop-frame
+invariant-loop-frame l =
+    (l.walk.d ≡ nth l.table 1) × ClockingTo l.table l.shares l.tape l.initial.values l.initial.bank l.values l.bank l.walk.at l.first l.from l.used
+
+abbrev pub decreases-loop-frame : goal.decreases-loop-frame
+decreases-loop-frame l = length l.table - l.walk.at

@@ -1,0 +1,64 @@
+-- The tests are those of `step_at` in its order; what the kind decides and the frame found are told once, behind `frame_of`.
+use mathlib.Core.Path.{◌≡◌, sym, ap, ap₂, ◌∙◌}
+use mathlib.Core.List.{List}
+use Prim.Native.Nat.{ℕ, ◌+◌, ◌-◌, ◌≤◌}
+use native.Mathlib.Omega.{arith}
+use lib.ListN.{length, take, drop, length-drop}
+use lib.Seq.{take_all}
+use borrow.Author.Tests.{le-ltb, lt-ltb, le-leb, lt-leb}
+use Rattle.circuit.specs.Kinds.{Kind, kind_of, words}
+use Rattle.circuit.specs.Lists.{nth}
+use Rattle.frames.specs.Walk.{kind_code, shape_taking, frame_code, behind}
+use Rattle.frames.specs.Internal.Framed.{frame_in, framed_by}
+use Rattle.frames.specs.declared.walk.Framed.TheVariants.{Whole}
+use Rattle.frames.specs.declared.walk.Frame.{Frame}
+use Rattle.frames.specs.declared.walk.Step.TheVariants.{Next}
+use Rattle.frames.proofs.Framing.{framed_short, framed_whole, frame_part, frame_form}
+use Rattle.frames.proofs.walk.Walk.step.Goals as goal
+use Rattle.frames.proofs.walk.Walk.step.Goals.{After-frame_of-framed}
+
+abbrev shares : After-frame_of-framed → ℕ
+shares c = c.args.self.d
+
+abbrev kind : After-frame_of-framed → Kind
+kind c = kind_of (nth c.args.table.now c.args.self.at)
+
+abbrev rest : After-frame_of-framed → List ℕ
+rest c = drop (c.args.self.at + 1) c.args.table.now
+
+decided : (c : After-frame_of-framed) → c.decide-shape.result ≡ shape_taking c.args.randoms (shares c) (kind c)
+decided c = c.decide-shape.ensures.shaped
+
+found : (c : After-frame_of-framed) → c.frame_of-framed.result ≡ framed_by (frame_code (kind_code (kind c)) (rest c)) (words (shares c) (kind c)) (rest c)
+found c =
+    let table = c.args.table.now in
+    let at = c.args.self.at in
+    let all : take (length table - (at + 1)) (rest c) ≡ rest c = take_all (length table - (at + 1)) (rest c) (omega (arith, length-drop (at + 1) table)) in
+    c.frame_of-framed.ensures ∙ ap₂ (λ s r. framed_by (frame_in s.form r) s.words r) (decided c) all
+    ∙ ap (λ f. framed_by f (words (shares c) (kind c)) (rest c)) (frame_form (kind c) (rest c))
+
+whole : (c : After-frame_of-framed) {f : Frame} → c.frame_of-framed.result ≡ Whole f → (words (shares c) (kind c) ≤ length (rest c)) × (f ≡ frame_code (kind_code (kind c)) (rest c))
+whole c {f} e = framed_whole f (frame_code (kind_code (kind c)) (rest c)) (words (shares c) (kind c)) (rest c) (sym e ∙ found c)
+
+pub returns-then-table-at : goal.returns-then-table-at
+returns-then-table-at c = rw (le-ltb _ _ c.if-table-at.true)
+
+pub returns-then-word-lt1 : goal.returns-then-word-lt1
+returns-then-word-lt1 c = rw (lt-ltb _ _ c.if-table-at.false, lt-leb _ _ c.if-word-lt1.true)
+
+pub returns-then-word-gt8 : goal.returns-then-word-gt8
+returns-then-word-gt8 c = rw (lt-ltb _ _ c.if-table-at.false, le-leb _ _ c.if-word-lt1.false, lt-leb _ _ c.if-word-gt8.true)
+
+pub overflow_add-end : goal.overflow_add-end
+overflow_add-end c = 
+    omega (arith, (whole (goal.at.overflow_add-end c).After-frame_of-framed c.in-Whole.is).0, ap (λ s. s.words) (decided (goal.at.overflow_add-end c).After-frame_of-framed), length-drop (c.args.self.at + 1) c.args.table.now)
+
+pub returns-in-Short : goal.returns-in-Short
+returns-in-Short c =
+    rw (lt-ltb _ _ c.if-table-at.false, le-leb _ _ c.if-word-lt1.false, le-leb _ _ c.if-word-gt8.false, framed_short _ _ (rest (goal.at.returns-in-Short c).After-frame_of-framed) (sym c.in-Short.is ∙ found (goal.at.returns-in-Short c).After-frame_of-framed))
+
+pub returns-in-Whole : goal.returns-in-Whole
+returns-in-Whole c =
+    let (all, same) = whole (goal.at.returns-in-Whole c).After-frame_of-framed c.in-Whole.is in
+    rw (lt-ltb _ _ c.if-table-at.false, le-leb _ _ c.if-word-lt1.false, le-leb _ _ c.if-word-gt8.false, le-leb _ _ all)
+    (ap₂ (λ f s. Next f s (behind (shares (goal.at.returns-in-Whole c).After-frame_of-framed) c.args.self.at s.words)) (same ∙ frame_part (shares (goal.at.returns-in-Whole c).After-frame_of-framed) (kind (goal.at.returns-in-Whole c).After-frame_of-framed) (rest (goal.at.returns-in-Whole c).After-frame_of-framed)) (decided (goal.at.returns-in-Whole c).After-frame_of-framed))

@@ -1,0 +1,11 @@
+-- A word fits.
+use mathlib.Core.Path.{refl}
+use Prim.Native.Nat.{◌+◌}
+use native.Mathlib.Omega.{arith}
+use Rattle.gadgets.proofs.places.word_a.Goals as goal
+
+pub overflow_cast-result : goal.overflow_cast-result
+overflow_cast-result c = omega (arith, c.shared_slice_known-1.given (1 + c.args.i))
+
+pub returns : goal.returns
+returns c = refl

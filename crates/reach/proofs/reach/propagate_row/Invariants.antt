@@ -1,0 +1,12 @@
+-- The loop's invariant: the marks of the share i and each from j on are moved on.
+use Prim.Native.Nat.{◌-◌, ◌≤◌}
+use Rattle.gadgets.specs.Internal.Places.{word_a, word_b, cross_at}
+use Rattle.gadgets.specs.Internal.Gates.{CrossRowGates}
+use Rattle.reach.specs.Internal.Marks.{Moves}
+use Rattle.reach.proofs.reach.propagate_row.Given as goal
+
+abbrev pub invariant-loop-j : goal.invariant-loop-j
+invariant-loop-j l = (l.from ≤ l.j) × (l.j ≤ l.to) × Moves (CrossRowGates l.d l.first (word_a l.ops) (word_b l.d l.ops) l.i) (cross_at l.d l.first l.i l.j) (cross_at l.d l.first l.i l.to) l.initial.marks l.marks
+
+abbrev pub decreases-loop-j : goal.decreases-loop-j
+decreases-loop-j l = l.j

@@ -1,0 +1,13 @@
+-- The places are inside.
+use native.Mathlib.Omega.{arith}
+use lib.ListN.{length-set}
+use Rattle.symbolic.proofs.evaluate.write_four.Goals as goal
+
+pub bounds-words-at-2 : goal.bounds-words-at-2
+bounds-words-at-2 c = simp length-set (omega arith)
+
+pub bounds-words-at-3 : goal.bounds-words-at-3
+bounds-words-at-3 c = simp length-set (omega arith)
+
+pub bounds-words-at-4 : goal.bounds-words-at-4
+bounds-words-at-4 c = simp length-set (omega arith)
