@@ -52,8 +52,8 @@ module _ {table shares tape : List ℕ} {room place w from used : ℕ} (f : Walk
   walked-answers = step_answers a f.between (second_word a) f.wires_are f.from_are
 
   -- a step without a frame: none is left
-  pub walked_end : (s : Step) → step_at table (nth table 1) place ≡ s → OneOf (1 ∷ 2 ∷ []) (tag_of the_type s) → f.between.after ≡ []
-  walked_end (step.Next fr sh wk) e k = ⊎_elim (λ (h : ◌≡◌ {A = ℕ} 0 1). absurd (omega arith)) (λ (h : ◌≡◌ {A = ℕ} 0 2). absurd (omega arith)) k
+  pub walked_end : (s : Step) → step_at table (nth table 1) place ≡ s → ((fr : FrameCode) (sh : ShapeCode) (wk : Walk) → s ≡ step.Next fr sh wk → ⊥) → f.between.after ≡ []
+  walked_end (step.Next fr sh wk) e k = absurd (k fr sh wk refl)
   walked_end (step.Refused rule) e k = absurd (walked-answers e)
   walked_end step.End e k = walked-answers e
 

@@ -81,7 +81,7 @@ numbers v =
     }
 
 found : (m : After-list_read-found) → m.list_read-found.result ≡ length (read_wires (k (view.up-After-judge-verdict _ _ _ m.before.before.before.before.before.before)) (probes (view.up-After-judge-verdict _ _ _ m.before.before.before.before.before.before)))
-found m = m.list_read-found.ensures.all ∙ ap (λ (z : Circuit). length (read_wires z (probes (view.up-After-judge-verdict _ _ _ m.before.before.before.before.before.before)))) (sym (numbers (view.up-In-Accepted _ _ _ m.before.before.before.before)).of.of.circuit_is)
+found m = m.list_read-found.ensures.all ∙ ap (λ (z : Circuit). length (read_wires z (probes (view.up-After-judge-verdict _ _ _ m.before.before.before.before.before.before)))) (sym (numbers (view.up-In-Accepted _ _ _ m.before.before.before)).of.of.circuit_is)
 
 pub returns-in_default-clause-answered : goal.returns-in_default-clause-answered
 returns-in_default-clause-answered c =

@@ -44,7 +44,7 @@ abbrev ends_in : After-split-lines → List ℕ
 ends_in c = c.split-lines.new.ends
 
 sized : (c : After-split-lines) → (length (block_in c) ≡ block_words) × (length (ends_in c) ≡ block_words)
-sized c = (c.split-lines.auto.ends.1.1.0 ∙ c.loop-at.invariant.1, c.split-lines.auto.ends.1.1.1.0 ∙ c.loop-at.invariant.2)
+sized c = (c.split-lines.auto.1.1.1.0 ∙ c.loop-at.invariant.1, c.split-lines.auto.1.1.1.1.0 ∙ c.loop-at.invariant.2)
 
 lined : (c : After-split-lines) → Lines (ends_in c) c.split-lines.result
 lined c = let s = c.split-lines.ensures in record {
@@ -175,10 +175,10 @@ pub overflow_mul-at : goal.overflow_mul-at
 overflow_mul-at c = omega (arith, numbers (goal.at.overflow_mul-at c).After-taken-taken, last (goal.at.overflow_mul-at c).Else-taken-eq0)
 
 pub overflow_add-at : goal.overflow_add-at
-overflow_add-at c = let g = c.good in omega (arith, numbers (goal.at.overflow_add-at c).After-taken-taken, last (goal.at.overflow_add-at c).Else-taken-eq0)
+overflow_add-at c = let g = c.well_formed in omega (arith, numbers (goal.at.overflow_add-at c).After-taken-taken, last (goal.at.overflow_add-at c).Else-taken-eq0)
 
 pub overflow_add-line : goal.overflow_add-line
-overflow_add-line c = let g = c.good in omega (arith, numbers (goal.at.overflow_add-line c).After-taken-taken, c.loop-at.invariant.0.lines)
+overflow_add-line c = let g = c.well_formed in omega (arith, numbers (goal.at.overflow_add-line c).After-taken-taken, c.loop-at.invariant.0.lines)
 
 pub overflow_add-stored : goal.overflow_add-stored
 overflow_add-stored c = omega (arith, numbers (goal.at.overflow_add-stored c).After-taken-taken, last (goal.at.overflow_add-stored c).Else-taken-eq0, fits (goal.at.overflow_add-stored c).At-loop-at)

@@ -50,7 +50,7 @@ bits c = given (view.up-At-loop-frame _ _ _ _ _ c.before.before.before) ∙ ap p
 
 gated : (c : Then-run_gate) → let a = c.args in let l = c.loop-frame in 
     ClockingTo a.table.now a.shares.now a.tape.now a.values.now a.bank.now c.run_gate.new.values c.run_gate.new.bank c.in-Next.next.at (l.first + c.in-Next.shape.wires) l.from l.used
-gated c = gate-next c.loop-frame.invariant.1 (same (view.up-In-Next _ _ _ _ _ c.before.before.before.before.before.before.before.before.before.before)) (met (view.up-In-Next _ _ _ _ _ c.before.before.before.before.before.before.before.before.before.before)) c.run_gate.ensures c.if-run_gate.true
+gated c = gate-next c.loop-frame.invariant.1 (same (view.up-In-Next _ _ _ _ _ c.before.before.before.before.before.before.before.before.before)) (met (view.up-In-Next _ _ _ _ _ c.before.before.before.before.before.before.before.before.before)) c.run_gate.ensures c.if-run_gate.true
 
 words : (c : After-operands-ops) → let table = c.args.table.now in
     c.operands-ops.result.now ≡ operands_at table (nth table 1) c.loop-frame.walk.at
@@ -72,7 +72,7 @@ pub shape_of-bank-in_default : goal.shape_of-bank-in_default
 shape_of-bank-in_default c = c.loop-frame.invariant.1.held_sized
 
 pub returns-in_default : goal.returns-in_default
-returns-in_default c = let f = c.loop-frame.invariant.1 in clocking_done f (walked_end f.walked _ (sym (answer (goal.at.returns-in_default c).After-step-step)) c.in_default.in_default-own.keys2)
+returns-in_default c = let f = c.loop-frame.invariant.1 in clocking_done f (walked_end f.walked _ (sym (answer (goal.at.returns-in_default c).After-step-step)) c.in_default.not-Next)
 
 pub run_gate-requires : goal.run_gate-requires
 run_gate-requires c = let f = c.loop-frame.invariant.1 in (_, _, (met (goal.at.run_gate-requires c).In-Next).early, omega (arith, room_in f.walked (same (goal.at.run_gate-requires c).In-Next) (met (goal.at.run_gate-requires c).In-Next), f.sized), held_room f (same (goal.at.run_gate-requires c).In-Next) (met (goal.at.run_gate-requires c).In-Next))
@@ -84,10 +84,10 @@ pub run_gates-passed-requires : goal.run_gates-passed-requires
 run_gates-passed-requires c = ((met (goal.at.run_gates-passed-requires c).In-Next).same, bits (goal.at.run_gates-passed-requires c).In-Next, (_, _, _, _, _, _, gated (goal.at.run_gates-passed-requires c).Then-run_gate))
 
 pub loop-frame-smaller-then-run_gate : goal.loop-frame-smaller-then-run_gate
-loop-frame-smaller-then-run_gate c = omega (arith, c.step-1.given.0.1.run-gates.ensures.1.later, (met (goal.at.loop-frame-smaller-then-run_gate c).In-Next).later, (met (goal.at.loop-frame-smaller-then-run_gate c).In-Next).onward.most)
+loop-frame-smaller-then-run_gate c = omega (arith, c.run_gates-passed.ensures.1.later, (met (goal.at.loop-frame-smaller-then-run_gate c).In-Next).later, (met (goal.at.loop-frame-smaller-then-run_gate c).In-Next).onward.most)
 
 pub loop-frame-preserved-then-run_gate : goal.loop-frame-preserved-then-run_gate
-loop-frame-preserved-then-run_gate c = let e = c.step-1.given.0.1.run-gates.ensures in (e.0, e.1.runs (gated (goal.at.loop-frame-preserved-then-run_gate c).Then-run_gate))
+loop-frame-preserved-then-run_gate c = let e = c.run_gates-passed.ensures in (e.0, e.1.runs (gated (goal.at.loop-frame-preserved-then-run_gate c).Then-run_gate))
 
 pub run_frame-requires : goal.run_frame-requires
 run_frame-requires c =
@@ -106,13 +106,13 @@ pub overflow_add-first-else-run_gate : goal.overflow_add-first-else-run_gate
 overflow_add-first-else-run_gate c = omega (arith, (counts (goal.at.overflow_add-first-else-run_gate c).In-Next).wires)
 
 pub overflow_mul-from : goal.overflow_mul-from
-overflow_mul-from c = omega (arith, (counts (goal.at.overflow_mul-from c).In-Next).shares, c.good.1.0.0)
+overflow_mul-from c = omega (arith, (counts (goal.at.overflow_mul-from c).In-Next).shares, c.well_formed.1.0.0)
 
 pub overflow_add-from : goal.overflow_add-from
-overflow_add-from c = omega (arith, (counts (goal.at.overflow_add-from c).In-Next).shares, c.good.1.0.0)
+overflow_add-from c = omega (arith, (counts (goal.at.overflow_add-from c).In-Next).shares, c.well_formed.1.0.0)
 
 pub overflow_add-used : goal.overflow_add-used
-overflow_add-used c = omega (arith, (counts (goal.at.overflow_add-used c).In-Next).randoms, c.good.1.1.0.0)
+overflow_add-used c = omega (arith, (counts (goal.at.overflow_add-used c).In-Next).randoms, c.well_formed.1.1.0.0)
 
 pub loop-frame-smaller : goal.loop-frame-smaller
 loop-frame-smaller c = omega (arith, (met (goal.at.loop-frame-smaller c).In-Next).later, (met (goal.at.loop-frame-smaller c).In-Next).onward.most)

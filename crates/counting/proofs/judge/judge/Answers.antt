@@ -81,7 +81,7 @@ from15 : (v : In-Accepted) → Comes (view.up-After-check-verdict _ _ _ _ v.befo
 from15 v = let a = v.args in rules-left a.table.now a.notes.now a.secrets.now a.probes.now a.room (numbers v).passes
 
 from17 : (c : Else-secrets-inputs) → Comes (view.up-After-check-verdict _ _ _ _ c.before.before.before.before.before) (left17 (view.up-After-check-verdict _ _ _ _ c.before.before.before.before.before))
-from17 c = kept _ _ _ (from15 (view.up-In-Accepted _ _ _ _ c.before.before.before)) (eq-eqb _ _ (c.if-secrets-inputs.false ∙ ap (λ n. 2 * n) (numbers (view.up-In-Accepted _ _ _ _ c.before.before.before)).inputs))
+from17 c = kept _ _ _ (from15 (view.up-In-Accepted _ _ _ _ c.before.before)) (eq-eqb _ _ (c.if-secrets-inputs.false ∙ ap (λ n. 2 * n) (numbers (view.up-In-Accepted _ _ _ _ c.before.before)).inputs))
 
 from18 : (c : Else-room-lt1024) → Comes (view.up-After-check-verdict _ _ _ _ c.before.before.before.before.before.before) (left18 (view.up-After-check-verdict _ _ _ _ c.before.before.before.before.before.before))
 from18 c = kept _ _ _ (from17 (view.up-Else-secrets-inputs _ _ _ _ c.before.before)) (le-leb _ _ c.if-room-lt1024.false)
@@ -92,17 +92,17 @@ by_byte c = from18 (view.up-Else-room-lt1024 _ _ _ _ c.before.before) ∙ ap (λ
 by_probe : (c : After-first_missing-probe) → Comes (view.up-After-check-verdict _ _ _ _ c.before.before.before.before.before.before.before.before.before) (refusal 19 0 (probes (view.up-After-check-verdict _ _ _ _ c.before.before.before.before.before.before.before.before.before)) c.first_missing-probe.result then left24 (view.up-After-check-verdict _ _ _ _ c.before.before.before.before.before.before.before.before.before))
 by_probe c =
     none_found 18 0 (secrets (view.up-After-check-verdict _ _ _ _ c.before.before.before.before.before.before.before.before.before)) _ (left19 (view.up-After-check-verdict _ _ _ _ c.before.before.before.before.before.before.before.before.before)) (by_byte (view.up-After-first_over-byte _ _ _ _ c.before.before.before)) c.if-byte-secrets.false
-    ∙ ap (λ j. j then left24 (view.up-After-check-verdict _ _ _ _ c.before.before.before.before.before.before.before.before.before)) (c.first_missing-probe.ensures.is (k (view.up-After-check-verdict _ _ _ _ c.before.before.before.before.before.before.before.before.before)) (sym (numbers (view.up-In-Accepted _ _ _ _ c.before.before.before.before.before.before.before)).wires) 0)
+    ∙ ap (λ j. j then left24 (view.up-After-check-verdict _ _ _ _ c.before.before.before.before.before.before.before.before.before)) (c.first_missing-probe.ensures.is (k (view.up-After-check-verdict _ _ _ _ c.before.before.before.before.before.before.before.before.before)) (sym (numbers (view.up-In-Accepted _ _ _ _ c.before.before.before.before.before.before)).wires) 0)
 
 from24 : (c : Else-probe-probes) → Comes (view.up-After-check-verdict _ _ _ _ c.before.before.before.before.before.before.before.before.before.before) (left24 (view.up-After-check-verdict _ _ _ _ c.before.before.before.before.before.before.before.before.before.before))
 from24 c = none_found 19 0 (probes (view.up-After-check-verdict _ _ _ _ c.before.before.before.before.before.before.before.before.before.before)) _ (left24 (view.up-After-check-verdict _ _ _ _ c.before.before.before.before.before.before.before.before.before.before)) (by_probe (view.up-After-first_missing-probe _ _ _ _ c.before.before)) c.if-probe-probes.false
 
 free : (c : Else-probe-probes) → 
     (nth c.args.table.now 1 - 1) * c.in-Accepted.inputs + c.in-Accepted.randoms ≡ free_bits (k (view.up-After-check-verdict _ _ _ _ c.before.before.before.before.before.before.before.before.before.before))
-free c = let n = numbers (view.up-In-Accepted _ _ _ _ c.before.before.before.before.before.before.before.before) in ap₂ ◌+◌ (ap₂ (λ x y. (x - 1) * y) n.of.d_is n.inputs) n.randoms
+free c = let n = numbers (view.up-In-Accepted _ _ _ _ c.before.before.before.before.before.before.before) in ap₂ ◌+◌ (ap₂ (λ x y. (x - 1) * y) n.of.d_is n.inputs) n.randoms
 
 shares : (c : Else-probe-probes) → (nth c.args.table.now 1 - 1) * c.in-Accepted.inputs ≤ wire_limit
-shares c = subst (λ (m : ℕ). (nth c.args.table.now 1 - 1) * m ≤ wire_limit) (sym (numbers (view.up-In-Accepted _ _ _ _ c.before.before.before.before.before.before.before.before)).inputs) (numbers (view.up-In-Accepted _ _ _ _ c.before.before.before.before.before.before.before.before)).of'.shares
+shares c = subst (λ (m : ℕ). (nth c.args.table.now 1 - 1) * m ≤ wire_limit) (sym (numbers (view.up-In-Accepted _ _ _ _ c.before.before.before.before.before.before.before)).inputs) (numbers (view.up-In-Accepted _ _ _ _ c.before.before.before.before.before.before.before)).of'.shares
 
 pub returns-in_default : goal.returns-in_default
 returns-in_default c =

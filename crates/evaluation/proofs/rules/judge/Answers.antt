@@ -79,10 +79,10 @@ from15 : (v : In-Accepted) → Comes (view.up-After-check-verdict _ _ _ _ v.befo
 from15 v sheets s = let a = v.args in rules-left a.table.now a.notes.now a.shares.now a.tape.now sheets a.probes.now a.room s (numbers v).passes
 
 from16 : (c : Else-shares-inputs) → Comes (view.up-After-check-verdict _ _ _ _ c.before.before.before.before.before.before) (left16 (view.up-After-check-verdict _ _ _ _ c.before.before.before.before.before.before))
-from16 c sheets s = kept _ _ _ (from15 (view.up-In-Accepted _ _ _ _ c.before.before.before.before) sheets s) (eq-eqb _ _ (c.if-shares-inputs.false ∙ (numbers (view.up-In-Accepted _ _ _ _ c.before.before.before.before)).shares))
+from16 c sheets s = kept _ _ _ (from15 (view.up-In-Accepted _ _ _ _ c.before.before.before) sheets s) (eq-eqb _ _ (c.if-shares-inputs.false ∙ (numbers (view.up-In-Accepted _ _ _ _ c.before.before.before)).shares))
 
 from17 : (c : Else-tape-randoms) → Comes (view.up-After-check-verdict _ _ _ _ c.before.before.before.before.before.before.before) (left17 (view.up-After-check-verdict _ _ _ _ c.before.before.before.before.before.before.before))
-from17 c sheets s = kept _ _ _ (from16 (view.up-Else-shares-inputs _ _ _ _ c.before.before) sheets s) (eq-eqb _ _ (c.if-tape-randoms.false ∙ (numbers (view.up-In-Accepted _ _ _ _ c.before.before.before.before.before)).randoms))
+from17 c sheets s = kept _ _ _ (from16 (view.up-Else-shares-inputs _ _ _ _ c.before.before) sheets s) (eq-eqb _ _ (c.if-tape-randoms.false ∙ (numbers (view.up-In-Accepted _ _ _ _ c.before.before.before.before)).randoms))
 
 from18 : (c : Else-room-lt-WIRES) → Comes (view.up-After-check-verdict _ _ _ _ c.before.before.before.before.before.before.before.before) (left18 (view.up-After-check-verdict _ _ _ _ c.before.before.before.before.before.before.before.before))
 from18 c sheets s = kept _ _ _ (from17 (view.up-Else-tape-randoms _ _ _ _ c.before.before) sheets s) (le-leb _ _ c.if-room-lt-WIRES.false)
@@ -102,7 +102,7 @@ by_tape c sheets s =
 by_probe : (c : After-first_missing-probe) → 
     Comes (view.up-After-check-verdict _ _ _ _ c.before.before.before.before.before.before.before.before.before.before.before.before.before) (found 19 0 (probes (view.up-After-check-verdict _ _ _ _ c.before.before.before.before.before.before.before.before.before.before.before.before.before)) c.first_missing-probe.result pass)
 by_probe c sheets s =
-    none_found 18 _ (tape (view.up-After-check-verdict _ _ _ _ c.before.before.before.before.before.before.before.before.before.before.before.before.before)) _ (left19 (view.up-After-check-verdict _ _ _ _ c.before.before.before.before.before.before.before.before.before.before.before.before.before)) (by_tape (view.up-After-first_over-drawn _ _ _ _ c.before.before.before) sheets s) c.if-drawn-tape.false ∙ c.first_missing-probe.ensures.is (k (view.up-After-check-verdict _ _ _ _ c.before.before.before.before.before.before.before.before.before.before.before.before.before)) (sym (numbers (view.up-In-Accepted _ _ _ _ c.before.before.before.before.before.before.before.before.before.before.before)).wires) 0 ∙ sym (then_none (refusal 19 0 (probes (view.up-After-check-verdict _ _ _ _ c.before.before.before.before.before.before.before.before.before.before.before.before.before)) c.first_missing-probe.result))
+    none_found 18 _ (tape (view.up-After-check-verdict _ _ _ _ c.before.before.before.before.before.before.before.before.before.before.before.before.before)) _ (left19 (view.up-After-check-verdict _ _ _ _ c.before.before.before.before.before.before.before.before.before.before.before.before.before)) (by_tape (view.up-After-first_over-drawn _ _ _ _ c.before.before.before) sheets s) c.if-drawn-tape.false ∙ c.first_missing-probe.ensures.is (k (view.up-After-check-verdict _ _ _ _ c.before.before.before.before.before.before.before.before.before.before.before.before.before)) (sym (numbers (view.up-In-Accepted _ _ _ _ c.before.before.before.before.before.before.before.before.before.before)).wires) 0 ∙ sym (then_none (refusal 19 0 (probes (view.up-After-check-verdict _ _ _ _ c.before.before.before.before.before.before.before.before.before.before.before.before.before)) c.first_missing-probe.result))
 
 pub returns-in_default : goal.returns-in_default
 returns-in_default c =

@@ -49,7 +49,7 @@ end_of c = c.in-Next.next.at + (behind (view.up-After-fits _ _ _ _ _ c.before.be
 
 went : (c : Else-not-fits) → Further (walked (view.up-At-loop-frame _ _ _ _ _ c.before.before.before.before.before.before)) c.requires.1 (end_of c) (behind (view.up-After-fits _ _ _ _ _ c.before.before)).frames-further.result
 went c = subst (λ (r : ℕ). Further (walked (view.up-At-loop-frame _ _ _ _ _ c.before.before.before.before.before.before)) c.requires.1 (c.in-Next.next.at + r * (1 + c.in-Next.shape.words)) r)
-    (sym (behind (view.up-After-fits _ _ _ _ _ c.before.before)).frames-further.ensures) ((met (view.up-In-Next _ _ _ _ _ c.before.before.before.before.before)).right (sym c.fits2.ensures ∙ fitted c))
+    (sym (behind (view.up-After-fits _ _ _ _ _ c.before.before)).frames-further.ensures) ((met (view.up-In-Next _ _ _ _ _ c.before.before.before.before)).right (sym c.fits2.ensures ∙ fitted c))
 
 pub bounds-table-1 : goal.bounds-table-1
 bounds-table-1 c = omega (arith, headed c.requires.0)

@@ -82,7 +82,7 @@ pub shape_of-values-in_default : goal.shape_of-values-in_default
 shape_of-values-in_default c = c.loop-frame.invariant.1.sized
 
 pub returns-in_default : goal.returns-in_default
-returns-in_default c = let f = c.loop-frame.invariant.1 in all-filled f (walked_end f.walked _ (sym (answer (goal.at.returns-in_default c).After-step-step)) c.in_default.in_default-own.keys2)
+returns-in_default c = let f = c.loop-frame.invariant.1 in all-filled f (walked_end f.walked _ (sym (answer (goal.at.returns-in_default c).After-step-step)) c.in_default.not-Next)
 
 pub write_gate-requires : goal.write_gate-requires
 write_gate-requires c = (_, _, (met (goal.at.write_gate-requires c).In-Next).early, room (goal.at.write_gate-requires c).In-Next)

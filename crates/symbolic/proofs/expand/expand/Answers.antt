@@ -48,7 +48,7 @@ counts c = let f = c.loop-frame.invariant.1.walked in record { wires = (met c).f
 
 gated : (c : Then-write_gate) → let a = c.args in let l = c.loop-frame in 
     ExpandedTo (length a.sums.now) a.table.now a.shares.now a.tape.now a.read.now a.found c.write_gate.new.sums l.terms c.in-Next.next.at (l.before.first + c.in-Next.shape.wires) l.before.from l.before.used l.before.outputs
-gated c = gate-behind c.loop-frame.invariant.1 (same (view.up-In-Next _ _ _ _ _ c.before.before.before.before.before.before.before)) (met (view.up-In-Next _ _ _ _ _ c.before.before.before.before.before.before.before)) c.write_gate.ensures c.if-write_gate.true
+gated c = gate-behind c.loop-frame.invariant.1 (same (view.up-In-Next _ _ _ _ _ c.before.before.before.before.before.before)) (met (view.up-In-Next _ _ _ _ _ c.before.before.before.before.before.before)) c.write_gate.ensures c.if-write_gate.true
 
 left : (c : Else-write_gate) → c.write_gate.new.sums ≡ c.loop-frame.sums
 left c = c.write_gate.ensures.left c.if-write_gate.false
@@ -58,7 +58,7 @@ words c = c.operands.ensures ∙ ap (λ n. operands_at c.args.table.now n c.loop
 
 behind : (c : After-write_frame-outputs) → let a = c.args in let l = c.loop-frame in 
     ExpandedTo (length a.sums.now) a.table.now a.shares.now a.tape.now a.read.now a.found c.write_frame-outputs.new.sums c.write_frame-outputs.new.terms c.in-Next.next.at (l.before.first + c.in-Next.shape.wires) (l.before.from + nth a.table.now 1 * c.in-Next.shape.inputs) (l.before.used + c.in-Next.shape.randoms) c.write_frame-outputs.result
-behind c = frame-behind c.loop-frame.invariant.1 (same (view.up-In-Next _ _ _ _ _ c.before.before.before.before.before.before.before.before.before.before.before)) (met (view.up-In-Next _ _ _ _ _ c.before.before.before.before.before.before.before.before.before.before.before)) (left (view.up-Else-write_gate _ _ _ _ _ c.before.before.before.before.before)) (rw (words (view.up-After-operands _ _ _ _ _ c.before.before)) at c.write_frame-outputs.ensures)
+behind c = frame-behind c.loop-frame.invariant.1 (same (view.up-In-Next _ _ _ _ _ c.before.before.before.before.before.before.before.before.before.before)) (met (view.up-In-Next _ _ _ _ _ c.before.before.before.before.before.before.before.before.before.before)) (left (view.up-Else-write_gate _ _ _ _ _ c.before.before.before.before.before)) (rw (words (view.up-After-operands _ _ _ _ _ c.before.before)) at c.write_frame-outputs.ensures)
 
 pub bounds-table-1 : goal.bounds-table-1
 bounds-table-1 c = omega (arith, headed c.requires.0.accepted)
@@ -76,7 +76,7 @@ pub shape_of-terms-in_default : goal.shape_of-terms-in_default
 shape_of-terms-in_default c = c.loop-frame.invariant.1.sized ∙ sym (ap length c.requires.8)
 
 pub returns-in_default : goal.returns-in_default
-returns-in_default c = let t = c.loop-frame.invariant.1 in all-expanded t (walked_end t.walked _ (sym (answer (goal.at.returns-in_default c).After-step-step)) c.in_default.in_default-own.keys2) c.requires.7
+returns-in_default c = let t = c.loop-frame.invariant.1 in all-expanded t (walked_end t.walked _ (sym (answer (goal.at.returns-in_default c).After-step-step)) c.in_default.not-Next) c.requires.7
 
 pub write_gate-requires : goal.write_gate-requires
 write_gate-requires c = let t = c.loop-frame.invariant.1 in (_, _, _, _, _, _, _, frame_asks t (same (goal.at.write_gate-requires c).In-Next) t.sums_sized _ (met (goal.at.write_gate-requires c).In-Next))
@@ -88,20 +88,20 @@ pub expand_gates-passed-requires : goal.expand_gates-passed-requires
 expand_gates-passed-requires c = ((met (goal.at.expand_gates-passed-requires c).In-Next).same, bits (goal.at.expand_gates-passed-requires c).In-Next, (_, _, _, _, _, _, _, _, _, gated (goal.at.expand_gates-passed-requires c).Then-write_gate))
 
 pub loop-frame-smaller-then-write_gate : goal.loop-frame-smaller-then-write_gate
-loop-frame-smaller-then-write_gate c = omega (arith, c.step-1.given.0.1.expand-gates.ensures.1.later, (met (goal.at.loop-frame-smaller-then-write_gate c).In-Next).later, (met (goal.at.loop-frame-smaller-then-write_gate c).In-Next).onward.most)
+loop-frame-smaller-then-write_gate c = omega (arith, c.expand_gates-passed.ensures.1.later, (met (goal.at.loop-frame-smaller-then-write_gate c).In-Next).later, (met (goal.at.loop-frame-smaller-then-write_gate c).In-Next).onward.most)
 
 pub loop-frame-preserved-then-write_gate : goal.loop-frame-preserved-then-write_gate
-loop-frame-preserved-then-write_gate c = let e = c.step-1.given.0.1.expand-gates.ensures in (e.0, e.1.expands (gated (goal.at.loop-frame-preserved-then-write_gate c).Then-write_gate))
+loop-frame-preserved-then-write_gate c = let e = c.expand_gates-passed.ensures in (e.0, e.1.expands (gated (goal.at.loop-frame-preserved-then-write_gate c).Then-write_gate))
 
 pub write_frame-outputs-requires : goal.write_frame-outputs-requires
 write_frame-outputs-requires c =
     let t = c.loop-frame.invariant.1 in
     let p = c.requires in
     let g = c.write_gate in
-    (rw (words (goal.at.write_frame-outputs-requires c).After-operands) (frame_asks t (same (goal.at.write_frame-outputs-requires c).In-Next) (c.step-1.given.0.1.auto.0 ∙ t.sums_sized) _ (met (goal.at.write_frame-outputs-requires c).In-Next)), bits (goal.at.write_frame-outputs-requires c).In-Next, t.sized, p.5, p.6, (λ i l. omega (arith, p.7 i l, p.0.roomy, t.sums_sized, c.step-1.given.0.1.auto.0)), c.step-1.given.0.1.ensures.other c.if-write_gate.false)
+    (rw (words (goal.at.write_frame-outputs-requires c).After-operands) (frame_asks t (same (goal.at.write_frame-outputs-requires c).In-Next) (g.auto.0 ∙ t.sums_sized) _ (met (goal.at.write_frame-outputs-requires c).In-Next)), bits (goal.at.write_frame-outputs-requires c).In-Next, t.sized, p.5, p.6, (λ i l. omega (arith, p.7 i l, p.0.roomy, t.sums_sized, g.auto.0)), g.ensures.other c.if-write_gate.false)
 
 pub advance-before-requires : goal.advance-before-requires
-advance-before-requires c = let n = counts (goal.at.advance-before-requires c).In-Next in (n.wires, omega (arith, n.shares, c.good.1.0.0), omega (arith, n.randoms, c.requires.1))
+advance-before-requires c = let n = counts (goal.at.advance-before-requires c).In-Next in (n.wires, omega (arith, n.shares, c.well_formed.1.0.0), omega (arith, n.randoms, c.requires.1))
 
 pub loop-frame-smaller : goal.loop-frame-smaller
 loop-frame-smaller c = omega (arith, (met (goal.at.loop-frame-smaller c).In-Next).later, (met (goal.at.loop-frame-smaller c).In-Next).onward.most)
