@@ -27,12 +27,12 @@ given c =
     c.random_bits-randoms.ensures.0 ∙ listed-right (nth (table c) 1) (omega (arith, w.shares, w.most)) ∙ ap pairs (sym w.walk_shares)
 
 -- what the step answers
-answered : (c : After-step-step) → c.step-step.result ≡ step_at (table (view.up-At-loop-rule _ _ _ _ _ c.before.before)) c.loop-rule.walk.d c.loop-rule.walk.at
-answered c = right_step (table (view.up-At-loop-rule _ _ _ _ _ c.before.before)) c.random_bits-randoms.result c.loop-rule.walk.d c.loop-rule.walk.at c.step-step.ensures (given (view.up-At-loop-rule _ _ _ _ _ c.before.before))
+answered : (c : After-step-step) → c.step-step.result ≡ step_at (table (view.up-At-loop-rule _ _ _ _ _ _ c.before.before)) c.loop-rule.walk.d c.loop-rule.walk.at
+answered c = right_step (table (view.up-At-loop-rule _ _ _ _ _ _ c.before.before)) c.random_bits-randoms.result c.loop-rule.walk.d c.loop-rule.walk.at c.step-step.ensures (given (view.up-At-loop-rule _ _ _ _ _ _ c.before.before))
 
 met : (c : After-operands-ops) → let (fr, (sh, (on, _))) = c.step-in-Next-1.given.0 in
-    step.Next fr sh on ≡ step_at (table (view.up-At-loop-rule _ _ _ _ _ c.before.before.before.before)) c.loop-rule.walk.d c.loop-rule.walk.at
-met c = sym c.in-Next.is ∙ answered (view.up-After-step-step _ _ _ _ _ c.before.before.before)
+    step.Next fr sh on ≡ step_at (table (view.up-At-loop-rule _ _ _ _ _ _ c.before.before.before.before)) c.loop-rule.walk.d c.loop-rule.walk.at
+met c = sym c.in-Next.is ∙ answered (view.up-After-step-step _ _ _ _ _ _ c.before.before.before)
 
 pub bounds-table-1 : goal.bounds-table-1
 bounds-table-1 c = omega (arith, (headed c.args.table.now (length c.args.notes.now) c.requires).two)

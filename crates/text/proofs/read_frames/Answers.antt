@@ -44,7 +44,7 @@ abbrev ends_in : After-split-lines → List ℕ
 ends_in c = c.split-lines.new.ends
 
 sized : (c : After-split-lines) → (length (block_in c) ≡ block_words) × (length (ends_in c) ≡ block_words)
-sized c = (c.split-lines.auto.1.1.1.0 ∙ c.loop-at.invariant.1, c.split-lines.auto.1.1.1.1.0 ∙ c.loop-at.invariant.2)
+sized c = (c.split-lines.auto.ends.1.1.0 ∙ c.loop-at.invariant.1, c.split-lines.auto.ends.1.1.1.0 ∙ c.loop-at.invariant.2)
 
 lined : (c : After-split-lines) → Lines (ends_in c) c.split-lines.result
 lined c = let s = c.split-lines.ensures in record {
@@ -56,7 +56,7 @@ lined c = let s = c.split-lines.ensures in record {
 
 -- the numbers of the lines that are taken
 abbrev count : After-taken-taken → ℕ
-count c = start_of (ends_in (view.up-After-split-lines _ _ _ _ _ c.before.before.before.before.before.before.before)) c.taken-taken.result
+count c = start_of (ends_in (view.up-After-split-lines _ _ _ _ _ _ c.before.before.before.before.before.before.before)) c.taken-taken.result
 
 record Numbers (c : After-taken-taken) : Type 0 where
   room : c.loop-at.stored + count c ≤ c.args.room
@@ -79,8 +79,8 @@ numbers c =
       few = omega (arith, most p q l s t n (omega arith), s.most);
     }
 
-last : (c : Else-taken-eq0) → count (view.up-After-taken-taken _ _ _ _ _ c.before.before) ≡ get_or (ends_in (view.up-After-split-lines _ _ _ _ _ c.before.before.before.before.before.before.before.before)) (c.taken-taken.result - 1) 0
-last c = start_last (ends_in (view.up-After-split-lines _ _ _ _ _ c.before.before.before.before.before.before.before.before)) c.taken-taken.result (omega arith)
+last : (c : Else-taken-eq0) → count (view.up-After-taken-taken _ _ _ _ _ _ c.before.before) ≡ get_or (ends_in (view.up-After-split-lines _ _ _ _ _ _ c.before.before.before.before.before.before.before.before)) (c.taken-taken.result - 1) 0
+last c = start_last (ends_in (view.up-After-split-lines _ _ _ _ _ _ c.before.before.before.before.before.before.before.before)) c.taken-taken.result (omega arith)
 
 fits : (l : At-loop-at) → (l.loop-at.stored ≤ l.args.room) × (l.args.room ≤ 8192) × (l.args.room ≤ length l.loop-at.table)
 fits l =

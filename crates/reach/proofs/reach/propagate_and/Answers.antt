@@ -15,7 +15,7 @@ pub propagate_products-requires : goal.propagate_products-requires
 propagate_products-requires c = let p = c.requires in (p.0, omega arith, p.2, p.3)
 
 pub shape_of-marks : goal.shape_of-marks
-shape_of-marks c = c.propagate_products.auto.0 ∙ c.propagate_rows.auto.0 ∙ c.propagate_outputs.auto.0
+shape_of-marks c = c.propagate_products.auto.marks ∙ c.propagate_rows.auto.marks ∙ c.propagate_outputs.auto.marks
 
 pub returns : goal.returns
 returns c =

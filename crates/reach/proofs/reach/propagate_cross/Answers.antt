@@ -14,7 +14,7 @@ pub propagate-requires-3 : goal.propagate-requires-3
 propagate-requires-3 c = (omega arith, omega arith, omega arith)
 
 pub shape_of-marks : goal.shape_of-marks
-shape_of-marks c = c.propagate-3.auto.0 ∙ c.propagate-2.auto.0 ∙ c.propagate.auto.0
+shape_of-marks c = c.propagate-3.auto.marks ∙ c.propagate-2.auto.marks ∙ c.propagate.auto.marks
 
 pub returns : goal.returns
 returns c =

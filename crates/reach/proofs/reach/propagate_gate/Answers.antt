@@ -5,7 +5,7 @@ pub propagate-requires : goal.propagate-requires
 propagate-requires c = c.requires
 
 pub shape_of-marks : goal.shape_of-marks
-shape_of-marks c = c.propagate.auto.0
+shape_of-marks c = c.propagate.auto.marks
 
 pub returns : goal.returns
 returns c = c.propagate.ensures

@@ -15,10 +15,10 @@ share s = share-of _ _ _ s.requires.0.2 s.requires.1
 
 -- the marks keep their number
 once : (c : After-mark_six_apart) → length c.mark_six_apart.new.marks ≡ length c.args.marks.now
-once c = c.mark_six_apart.auto.0 ∙ simp length-set
+once c = c.mark_six_apart.auto.marks ∙ simp length-set
 
 twice : (c : After-mark_six_apart-2) → length c.mark_six_apart-2.new.marks ≡ length c.args.marks.now
-twice c = c.mark_six_apart-2.auto.0 ∙ once c.before.before.before.before
+twice c = c.mark_six_apart-2.auto.marks ∙ once c.before.before.before.before
 
 pub out_at-wire-requires : goal.out_at-wire-requires
 out_at-wire-requires c = (c.requires.0, c.requires.1)

@@ -9,7 +9,7 @@ use Rattle.reach.proofs.reach.propagate_sum.Goals.{After-mark_masks}
 
 -- the marks keep their number
 kept : (c : After-mark_masks) → length c.mark_masks.new.marks ≡ length c.args.marks.now
-kept c = c.mark_masks.auto.0 ∙ simp length-set
+kept c = c.mark_masks.auto.marks ∙ simp length-set
 
 pub sum_at-wire-requires : goal.sum_at-wire-requires
 sum_at-wire-requires c = (c.requires.0, omega arith)

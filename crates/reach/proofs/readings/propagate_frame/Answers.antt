@@ -41,14 +41,14 @@ pub returns-in-Con : goal.returns-in-Con
 returns-in-Con c = rw (c.in-Gate.is, c.in-Con.is) (λ from. moves_stop _ _ (λ g h. ap is_stop h))
 
 pub shape_of-marks-in-Xor : goal.shape_of-marks-in-Xor
-shape_of-marks-in-Xor c = c.propagate_gate.auto.0
+shape_of-marks-in-Xor c = c.propagate_gate.auto.marks
 
 pub returns-in-Xor : goal.returns-in-Xor
 returns-in-Xor c = 
     rw (c.in-Gate.is, c.in-Xor.is, c.propagate_gate.ensures) (λ from. moves_gate _ (sum _) _ refl (λ g h. h))
 
 pub shape_of-marks-in-Not : goal.shape_of-marks-in-Not
-shape_of-marks-in-Not c = c.propagate_gate-in-Not.auto.0
+shape_of-marks-in-Not c = c.propagate_gate-in-Not.auto.marks
 
 pub returns-in-Not : goal.returns-in-Not
 returns-in-Not c = 

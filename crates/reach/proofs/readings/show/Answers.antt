@@ -6,7 +6,7 @@ use Rattle.reach.proofs.readings.show.Goals as goal
 use Rattle.reach.proofs.readings.show.Goals.{At-loop-x-2}
 
 -- both loops together
-shown : (c : At-loop-x-22 decreases-loop2) → let a = c.args in
+shown : (c : At-loop-x-2) → let a = c.args in
     ShownTo a.marks.now a.values.now a.reading.now c.loop-x-2.reading c.loop-x-2.x
 shown c = c.loop-x-2.invariant.2 _ c.loop-x.invariant.1
 

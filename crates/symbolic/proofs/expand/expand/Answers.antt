@@ -98,7 +98,7 @@ write_frame-outputs-requires c =
     let t = c.loop-frame.invariant.1 in
     let p = c.requires in
     let g = c.write_gate in
-    (rw (words (goal.at.write_frame-outputs-requires c).After-operands) (frame_asks t (same (goal.at.write_frame-outputs-requires c).In-Next) (g.auto.0 ∙ t.sums_sized) _ (met (goal.at.write_frame-outputs-requires c).In-Next)), bits (goal.at.write_frame-outputs-requires c).In-Next, t.sized, p.5, p.6, (λ i l. omega (arith, p.7 i l, p.0.roomy, t.sums_sized, g.auto.0)), g.ensures.other c.if-write_gate.false)
+    (rw (words (goal.at.write_frame-outputs-requires c).After-operands) (frame_asks t (same (goal.at.write_frame-outputs-requires c).In-Next) (g.auto.sums ∙ t.sums_sized) _ (met (goal.at.write_frame-outputs-requires c).In-Next)), bits (goal.at.write_frame-outputs-requires c).In-Next, t.sized, p.5, p.6, (λ i l. omega (arith, p.7 i l, p.0.roomy, t.sums_sized, g.auto.sums)), g.ensures.other c.if-write_gate.false)
 
 pub advance-before-requires : goal.advance-before-requires
 advance-before-requires c = let n = counts (goal.at.advance-before-requires c).In-Next in (n.wires, omega (arith, n.shares, c.well_formed.1.0.0), omega (arith, n.randoms, c.requires.1))

@@ -54,7 +54,7 @@ pub write_gate-requires : goal.write_gate-requires
 write_gate-requires c = let t = expanded (goal.at.write_gate-requires c).At-loop-frame in (_, _, _, _, _, _, _, frame_asks t (second_word t.walked.evaluable.accepted) t.sums_sized _ (told (goal.at.write_gate-requires c).In-Next))
 
 pub shape_of-sums-then-not-write_gate : goal.shape_of-sums-then-not-write_gate
-shape_of-sums-then-not-write_gate c = c.write_gate.auto.0 ∙ sized (goal.at.shape_of-sums-then-not-write_gate c).At-loop-frame
+shape_of-sums-then-not-write_gate c = c.write_gate.auto.sums ∙ sized (goal.at.shape_of-sums-then-not-write_gate c).At-loop-frame
 
 pub returns-then-not-write_gate : goal.returns-then-not-write_gate
 returns-then-not-write_gate c = rw (c.write_gate.ensures.left (not-true c.write_gate.result (ap not c.if-not-write_gate.true))) c.loop-frame.invariant

@@ -46,7 +46,7 @@ pub returns-in-In : goal.returns-in-In
 returns-in-In c = rw (c.in-Gate.is, c.in-In.is) (c.copy.ensures, refl, refl)
 
 pub shape_of-sums-in-Con : goal.shape_of-sums-in-Con
-shape_of-sums-in-Con c = c.write_constant.auto.0
+shape_of-sums-in-Con c = c.write_constant.auto.sums
 
 pub returns-in-Con : goal.returns-in-Con
 returns-in-Con c = rw (c.in-Gate.is, c.in-Con.is) (c.write_constant.ensures, refl, refl)
