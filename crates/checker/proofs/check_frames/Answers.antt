@@ -30,8 +30,8 @@ given c =
 answered : (c : After-step-step) → c.step-step.result ≡ step_at (table (view.up-At-loop-rule _ _ _ _ _ _ c.before.before)) c.loop-rule.walk.d c.loop-rule.walk.at
 answered c = right_step (table (view.up-At-loop-rule _ _ _ _ _ _ c.before.before)) c.random_bits-randoms.result c.loop-rule.walk.d c.loop-rule.walk.at c.step-step.ensures (given (view.up-At-loop-rule _ _ _ _ _ _ c.before.before))
 
-met : (c : After-operands-ops) → let (fr, (sh, (on, _))) = c.step-in-Next-1.given.0 in
-    step.Next fr sh on ≡ step_at (table (view.up-At-loop-rule _ _ _ _ _ _ c.before.before.before.before)) c.loop-rule.walk.d c.loop-rule.walk.at
+met : (c : After-operands-ops) → 
+    step.Next c.in-Next.frame c.in-Next.shape c.in-Next.next ≡ step_at (table (view.up-At-loop-rule _ _ _ _ _ _ c.before.before.before.before)) c.loop-rule.walk.d c.loop-rule.walk.at
 met c = sym c.in-Next.is ∙ answered (view.up-After-step-step _ _ _ _ _ _ c.before.before.before)
 
 pub bounds-table-1 : goal.bounds-table-1
@@ -44,25 +44,25 @@ pub shape_of-notes-in-End : goal.shape_of-notes-in-End
 shape_of-notes-in-End c = kept c.loop-rule.invariant
 
 pub returns-in-End-clause-answered : goal.returns-in-End-clause-answered
-returns-in-End-clause-answered c = rw c.accepted.ensures ((way_end c.loop-rule.invariant (sym c.in-End.is ∙ answered (goal.at.returns-in-End-clause-answered c).After-step-step))).0
+returns-in-End-clause-answered c = rw c.accepted.ensures (((way_end c.loop-rule.invariant (sym c.in-End.is ∙ answered (goal.at.returns-in-End-clause-answered c).After-step-step))).0)
 
 pub returns-in-End-clause-noted : goal.returns-in-End-clause-noted
-returns-in-End-clause-noted c = rw c.accepted.ensures ((way_end c.loop-rule.invariant (sym c.in-End.is ∙ answered (goal.at.returns-in-End-clause-noted c).After-step-step))).1
+returns-in-End-clause-noted c = (((way_end c.loop-rule.invariant (sym c.in-End.is ∙ answered (goal.at.returns-in-End-clause-noted c).After-step-step))).1.0)
 
 pub returns-in-End-clause-inputs : goal.returns-in-End-clause-inputs
-returns-in-End-clause-inputs c = rw c.accepted.ensures ((way_end c.loop-rule.invariant (sym c.in-End.is ∙ answered (goal.at.returns-in-End-clause-inputs c).After-step-step))).2
+returns-in-End-clause-inputs c = rw c.accepted.ensures (((way_end c.loop-rule.invariant (sym c.in-End.is ∙ answered (goal.at.returns-in-End-clause-inputs c).After-step-step))).1.1)
 
 pub shape_of-notes-in-Refused : goal.shape_of-notes-in-Refused
 shape_of-notes-in-Refused c = kept c.loop-rule.invariant
 
 pub returns-in-Refused-clause-answered : goal.returns-in-Refused-clause-answered
-returns-in-Refused-clause-answered c = rw c.refused.ensures ((way_refused c.loop-rule.invariant _ (sym c.in-Refused.is ∙ answered (goal.at.returns-in-Refused-clause-answered c).After-step-step))).0
+returns-in-Refused-clause-answered c = rw c.refused.ensures (((way_refused c.loop-rule.invariant _ (sym c.in-Refused.is ∙ answered (goal.at.returns-in-Refused-clause-answered c).After-step-step))).0)
 
 pub returns-in-Refused-clause-noted : goal.returns-in-Refused-clause-noted
-returns-in-Refused-clause-noted c = rw c.refused.ensures ((way_refused c.loop-rule.invariant _ (sym c.in-Refused.is ∙ answered (goal.at.returns-in-Refused-clause-noted c).After-step-step))).1
+returns-in-Refused-clause-noted c = (((way_refused c.loop-rule.invariant _ (sym c.in-Refused.is ∙ answered (goal.at.returns-in-Refused-clause-noted c).After-step-step))).1.0)
 
 pub returns-in-Refused-clause-inputs : goal.returns-in-Refused-clause-inputs
-returns-in-Refused-clause-inputs c = rw c.refused.ensures ((way_refused c.loop-rule.invariant _ (sym c.in-Refused.is ∙ answered (goal.at.returns-in-Refused-clause-inputs c).After-step-step))).2
+returns-in-Refused-clause-inputs c = rw c.refused.ensures (((way_refused c.loop-rule.invariant _ (sym c.in-Refused.is ∙ answered (goal.at.returns-in-Refused-clause-inputs c).After-step-step))).1.1)
 
 pub add-added-requires : goal.add-added-requires
 add-added-requires c = let w = c.loop-rule.invariant in (bounded w, frame-of w (met (goal.at.add-added-requires c).After-operands-ops) c.operands-ops.result.now c.operands-ops.ensures)
@@ -80,10 +80,10 @@ shape_of-notes-in-Refused-added c =
     ap length (broken_kept w (met (goal.at.shape_of-notes-in-Refused-added c).After-operands-ops) c.operands-ops.result.now c.operands-ops.ensures _ c.add-added.result c.add-added.ensures _ c.in-Refused-added.is) ∙ kept w
 
 pub returns-in-Refused-added-clause-answered : goal.returns-in-Refused-added-clause-answered
-returns-in-Refused-added-clause-answered c = rw c.refused-in-Refused-added.ensures ((way_broken c.loop-rule.invariant (met (goal.at.returns-in-Refused-added-clause-answered c).After-operands-ops) c.operands-ops.result.now c.operands-ops.ensures _ c.add-added.result c.add-added.ensures _ c.in-Refused-added.is)).0
+returns-in-Refused-added-clause-answered c = rw c.refused-in-Refused-added.ensures (((way_broken c.loop-rule.invariant (met (goal.at.returns-in-Refused-added-clause-answered c).After-operands-ops) c.operands-ops.result.now c.operands-ops.ensures _ c.add-added.result c.add-added.ensures _ c.in-Refused-added.is)).0)
 
 pub returns-in-Refused-added-clause-noted : goal.returns-in-Refused-added-clause-noted
-returns-in-Refused-added-clause-noted c = rw c.refused-in-Refused-added.ensures ((way_broken c.loop-rule.invariant (met (goal.at.returns-in-Refused-added-clause-noted c).After-operands-ops) c.operands-ops.result.now c.operands-ops.ensures _ c.add-added.result c.add-added.ensures _ c.in-Refused-added.is)).1
+returns-in-Refused-added-clause-noted c = (((way_broken c.loop-rule.invariant (met (goal.at.returns-in-Refused-added-clause-noted c).After-operands-ops) c.operands-ops.result.now c.operands-ops.ensures _ c.add-added.result c.add-added.ensures _ c.in-Refused-added.is)).1.0)
 
 pub returns-in-Refused-added-clause-inputs : goal.returns-in-Refused-added-clause-inputs
-returns-in-Refused-added-clause-inputs c = rw c.refused-in-Refused-added.ensures ((way_broken c.loop-rule.invariant (met (goal.at.returns-in-Refused-added-clause-inputs c).After-operands-ops) c.operands-ops.result.now c.operands-ops.ensures _ c.add-added.result c.add-added.ensures _ c.in-Refused-added.is)).2
+returns-in-Refused-added-clause-inputs c = rw c.refused-in-Refused-added.ensures (((way_broken c.loop-rule.invariant (met (goal.at.returns-in-Refused-added-clause-inputs c).After-operands-ops) c.operands-ops.result.now c.operands-ops.ensures _ c.add-added.result c.add-added.ensures _ c.in-Refused-added.is)).1.1)

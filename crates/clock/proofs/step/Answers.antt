@@ -34,8 +34,8 @@ laws c = let a = c.args in (
 )
 
 passes : (v : In-Accepted) → let a = v.args in
-    Passed a.table.now a.notes.now a.shares.now a.tape.now (sheets (view.up-After-judge-verdict _ _ _ v.before.before.before.before)) [] v.smaller-room.result v.in-Accepted.wires
-passes v = passed v.judge-verdict.ensures (sheets (view.up-After-judge-verdict _ _ _ v.before.before.before.before)) (shorter (view.up-After-judge-verdict _ _ _ v.before.before.before.before)) v.in-Accepted.is
+    Passed a.table.now a.notes.now a.shares.now a.tape.now (sheets (view.up-After-judge-verdict _ _ _ _ v.before.before.before.before)) [] v.smaller-room.result v.in-Accepted.wires
+passes v = passed v.judge-verdict.ensures (sheets (view.up-After-judge-verdict _ _ _ _ v.before.before.before.before)) (shorter (view.up-After-judge-verdict _ _ _ _ v.before.before.before.before)) v.in-Accepted.is
 
 -- the numbers that are added for a refusal stay small
 record Few (v : In-Accepted) : Type 0 where
@@ -57,49 +57,49 @@ returns-in_default-clause-noted c =
     let j = c.judge-verdict.ensures in
     let a = c.args in
     let e = refused-before _ _ _ _ a.values.now a.bank.now (sym (ap answer_of c.in_default.is) ∙ j.answers (sheets (goal.at.returns-in_default-clause-noted c).After-judge-verdict) (shorter (goal.at.returns-in_default-clause-noted c).After-judge-verdict)) in
-    let same = left _ _ _ _ a.values.now a.bank.now e in  ((ap answer_of c.in_default.is ∙ e, (j.noted, (same _ _, (same _ _, laws (goal.at.returns-in_default-clause-noted c).After-judge-verdict))))).1
+    let same = left _ _ _ _ a.values.now a.bank.now e in  ((ap answer_of c.in_default.is ∙ e, (j.noted, (same _ _, (same _ _, laws (goal.at.returns-in_default-clause-noted c).After-judge-verdict))))).1.0
 
 pub returns-in_default-clause-valued : goal.returns-in_default-clause-valued
 returns-in_default-clause-valued c =
     let j = c.judge-verdict.ensures in
     let a = c.args in
     let e = refused-before _ _ _ _ a.values.now a.bank.now (sym (ap answer_of c.in_default.is) ∙ j.answers (sheets (goal.at.returns-in_default-clause-valued c).After-judge-verdict) (shorter (goal.at.returns-in_default-clause-valued c).After-judge-verdict)) in
-    let same = left _ _ _ _ a.values.now a.bank.now e in  ((ap answer_of c.in_default.is ∙ e, (j.noted, (same _ _, (same _ _, laws (goal.at.returns-in_default-clause-valued c).After-judge-verdict))))).2
+    let same = left _ _ _ _ a.values.now a.bank.now e in  ((ap answer_of c.in_default.is ∙ e, (j.noted, (same _ _, (same _ _, laws (goal.at.returns-in_default-clause-valued c).After-judge-verdict))))).1.1.0
 
 pub returns-in_default-clause-banked : goal.returns-in_default-clause-banked
 returns-in_default-clause-banked c =
     let j = c.judge-verdict.ensures in
     let a = c.args in
     let e = refused-before _ _ _ _ a.values.now a.bank.now (sym (ap answer_of c.in_default.is) ∙ j.answers (sheets (goal.at.returns-in_default-clause-banked c).After-judge-verdict) (shorter (goal.at.returns-in_default-clause-banked c).After-judge-verdict)) in
-    let same = left _ _ _ _ a.values.now a.bank.now e in  ((ap answer_of c.in_default.is ∙ e, (j.noted, (same _ _, (same _ _, laws (goal.at.returns-in_default-clause-banked c).After-judge-verdict))))).3
+    let same = left _ _ _ _ a.values.now a.bank.now e in  ((ap answer_of c.in_default.is ∙ e, (j.noted, (same _ _, (same _ _, laws (goal.at.returns-in_default-clause-banked c).After-judge-verdict))))).1.1.1.0
 
 pub returns-in_default-clause-pipelined : goal.returns-in_default-clause-pipelined
 returns-in_default-clause-pipelined c =
     let j = c.judge-verdict.ensures in
     let a = c.args in
     let e = refused-before _ _ _ _ a.values.now a.bank.now (sym (ap answer_of c.in_default.is) ∙ j.answers (sheets (goal.at.returns-in_default-clause-pipelined c).After-judge-verdict) (shorter (goal.at.returns-in_default-clause-pipelined c).After-judge-verdict)) in
-    let same = left _ _ _ _ a.values.now a.bank.now e in  ((ap answer_of c.in_default.is ∙ e, (j.noted, (same _ _, (same _ _, laws (goal.at.returns-in_default-clause-pipelined c).After-judge-verdict))))).4
+    let same = left _ _ _ _ a.values.now a.bank.now e in  ((ap answer_of c.in_default.is ∙ e, (j.noted, (same _ _, (same _ _, laws (goal.at.returns-in_default-clause-pipelined c).After-judge-verdict))))).1.1.1.1.0
 
 pub returns-in_default-clause-registers_alone : goal.returns-in_default-clause-registers_alone
 returns-in_default-clause-registers_alone c =
     let j = c.judge-verdict.ensures in
     let a = c.args in
     let e = refused-before _ _ _ _ a.values.now a.bank.now (sym (ap answer_of c.in_default.is) ∙ j.answers (sheets (goal.at.returns-in_default-clause-registers_alone c).After-judge-verdict) (shorter (goal.at.returns-in_default-clause-registers_alone c).After-judge-verdict)) in
-    let same = left _ _ _ _ a.values.now a.bank.now e in  ((ap answer_of c.in_default.is ∙ e, (j.noted, (same _ _, (same _ _, laws (goal.at.returns-in_default-clause-registers_alone c).After-judge-verdict))))).5
+    let same = left _ _ _ _ a.values.now a.bank.now e in  ((ap answer_of c.in_default.is ∙ e, (j.noted, (same _ _, (same _ _, laws (goal.at.returns-in_default-clause-registers_alone c).After-judge-verdict))))).1.1.1.1.1.0
 
 pub returns-in_default-clause-is_clock : goal.returns-in_default-clause-is_clock
 returns-in_default-clause-is_clock c =
     let j = c.judge-verdict.ensures in
     let a = c.args in
     let e = refused-before _ _ _ _ a.values.now a.bank.now (sym (ap answer_of c.in_default.is) ∙ j.answers (sheets (goal.at.returns-in_default-clause-is_clock c).After-judge-verdict) (shorter (goal.at.returns-in_default-clause-is_clock c).After-judge-verdict)) in
-    let same = left _ _ _ _ a.values.now a.bank.now e in  ((ap answer_of c.in_default.is ∙ e, (j.noted, (same _ _, (same _ _, laws (goal.at.returns-in_default-clause-is_clock c).After-judge-verdict))))).6
+    let same = left _ _ _ _ a.values.now a.bank.now e in  ((ap answer_of c.in_default.is ∙ e, (j.noted, (same _ _, (same _ _, laws (goal.at.returns-in_default-clause-is_clock c).After-judge-verdict))))).1.1.1.1.1.1.0
 
 pub returns-in_default-clause-bank_stays : goal.returns-in_default-clause-bank_stays
 returns-in_default-clause-bank_stays c =
     let j = c.judge-verdict.ensures in
     let a = c.args in
     let e = refused-before _ _ _ _ a.values.now a.bank.now (sym (ap answer_of c.in_default.is) ∙ j.answers (sheets (goal.at.returns-in_default-clause-bank_stays c).After-judge-verdict) (shorter (goal.at.returns-in_default-clause-bank_stays c).After-judge-verdict)) in
-    let same = left _ _ _ _ a.values.now a.bank.now e in  ((ap answer_of c.in_default.is ∙ e, (j.noted, (same _ _, (same _ _, laws (goal.at.returns-in_default-clause-bank_stays c).After-judge-verdict))))).7
+    let same = left _ _ _ _ a.values.now a.bank.now e in  ((ap answer_of c.in_default.is ∙ e, (j.noted, (same _ _, (same _ _, laws (goal.at.returns-in_default-clause-bank_stays c).After-judge-verdict))))).1.1.1.1.1.1.1
 
 pub first_register_over-x-requires : goal.first_register_over-x-requires
 first_register_over-x-requires c = let p = passes (goal.at.first_register_over-x-requires c).In-Accepted in ((evaluable _ _ _ _ _ _ p (omega arith), omega (arith, p.wires_are, p.few, p.roomy)), p.wires_are, p.share_bits, p.tape_bits)
@@ -122,49 +122,49 @@ returns-then-x-wires-clause-noted c =
     let a = c.args in
     let broken = over_first _ _ _ _ a.values.now a.bank.now (passes (goal.at.returns-then-x-wires-clause-noted c).In-Accepted) c.first_register_over-x.ensures c.if-x-wires.true in
     let e = sym (ap (answer (circuit_of a.table.now a.notes.now)) broken) in
-    let same = left _ _ _ _ a.values.now a.bank.now e in  ((c.refusal.ensures ∙ e, (c.judge-verdict.ensures.noted, (same _ _, (same _ _, laws (goal.at.returns-then-x-wires-clause-noted c).After-judge-verdict))))).1
+    let same = left _ _ _ _ a.values.now a.bank.now e in  ((c.refusal.ensures ∙ e, (c.judge-verdict.ensures.noted, (same _ _, (same _ _, laws (goal.at.returns-then-x-wires-clause-noted c).After-judge-verdict))))).1.0
 
 pub returns-then-x-wires-clause-valued : goal.returns-then-x-wires-clause-valued
 returns-then-x-wires-clause-valued c =
     let a = c.args in
     let broken = over_first _ _ _ _ a.values.now a.bank.now (passes (goal.at.returns-then-x-wires-clause-valued c).In-Accepted) c.first_register_over-x.ensures c.if-x-wires.true in
     let e = sym (ap (answer (circuit_of a.table.now a.notes.now)) broken) in
-    let same = left _ _ _ _ a.values.now a.bank.now e in  ((c.refusal.ensures ∙ e, (c.judge-verdict.ensures.noted, (same _ _, (same _ _, laws (goal.at.returns-then-x-wires-clause-valued c).After-judge-verdict))))).2
+    let same = left _ _ _ _ a.values.now a.bank.now e in  ((c.refusal.ensures ∙ e, (c.judge-verdict.ensures.noted, (same _ _, (same _ _, laws (goal.at.returns-then-x-wires-clause-valued c).After-judge-verdict))))).1.1.0
 
 pub returns-then-x-wires-clause-banked : goal.returns-then-x-wires-clause-banked
 returns-then-x-wires-clause-banked c =
     let a = c.args in
     let broken = over_first _ _ _ _ a.values.now a.bank.now (passes (goal.at.returns-then-x-wires-clause-banked c).In-Accepted) c.first_register_over-x.ensures c.if-x-wires.true in
     let e = sym (ap (answer (circuit_of a.table.now a.notes.now)) broken) in
-    let same = left _ _ _ _ a.values.now a.bank.now e in  ((c.refusal.ensures ∙ e, (c.judge-verdict.ensures.noted, (same _ _, (same _ _, laws (goal.at.returns-then-x-wires-clause-banked c).After-judge-verdict))))).3
+    let same = left _ _ _ _ a.values.now a.bank.now e in  ((c.refusal.ensures ∙ e, (c.judge-verdict.ensures.noted, (same _ _, (same _ _, laws (goal.at.returns-then-x-wires-clause-banked c).After-judge-verdict))))).1.1.1.0
 
 pub returns-then-x-wires-clause-pipelined : goal.returns-then-x-wires-clause-pipelined
 returns-then-x-wires-clause-pipelined c =
     let a = c.args in
     let broken = over_first _ _ _ _ a.values.now a.bank.now (passes (goal.at.returns-then-x-wires-clause-pipelined c).In-Accepted) c.first_register_over-x.ensures c.if-x-wires.true in
     let e = sym (ap (answer (circuit_of a.table.now a.notes.now)) broken) in
-    let same = left _ _ _ _ a.values.now a.bank.now e in  ((c.refusal.ensures ∙ e, (c.judge-verdict.ensures.noted, (same _ _, (same _ _, laws (goal.at.returns-then-x-wires-clause-pipelined c).After-judge-verdict))))).4
+    let same = left _ _ _ _ a.values.now a.bank.now e in  ((c.refusal.ensures ∙ e, (c.judge-verdict.ensures.noted, (same _ _, (same _ _, laws (goal.at.returns-then-x-wires-clause-pipelined c).After-judge-verdict))))).1.1.1.1.0
 
 pub returns-then-x-wires-clause-registers_alone : goal.returns-then-x-wires-clause-registers_alone
 returns-then-x-wires-clause-registers_alone c =
     let a = c.args in
     let broken = over_first _ _ _ _ a.values.now a.bank.now (passes (goal.at.returns-then-x-wires-clause-registers_alone c).In-Accepted) c.first_register_over-x.ensures c.if-x-wires.true in
     let e = sym (ap (answer (circuit_of a.table.now a.notes.now)) broken) in
-    let same = left _ _ _ _ a.values.now a.bank.now e in  ((c.refusal.ensures ∙ e, (c.judge-verdict.ensures.noted, (same _ _, (same _ _, laws (goal.at.returns-then-x-wires-clause-registers_alone c).After-judge-verdict))))).5
+    let same = left _ _ _ _ a.values.now a.bank.now e in  ((c.refusal.ensures ∙ e, (c.judge-verdict.ensures.noted, (same _ _, (same _ _, laws (goal.at.returns-then-x-wires-clause-registers_alone c).After-judge-verdict))))).1.1.1.1.1.0
 
 pub returns-then-x-wires-clause-is_clock : goal.returns-then-x-wires-clause-is_clock
 returns-then-x-wires-clause-is_clock c =
     let a = c.args in
     let broken = over_first _ _ _ _ a.values.now a.bank.now (passes (goal.at.returns-then-x-wires-clause-is_clock c).In-Accepted) c.first_register_over-x.ensures c.if-x-wires.true in
     let e = sym (ap (answer (circuit_of a.table.now a.notes.now)) broken) in
-    let same = left _ _ _ _ a.values.now a.bank.now e in  ((c.refusal.ensures ∙ e, (c.judge-verdict.ensures.noted, (same _ _, (same _ _, laws (goal.at.returns-then-x-wires-clause-is_clock c).After-judge-verdict))))).6
+    let same = left _ _ _ _ a.values.now a.bank.now e in  ((c.refusal.ensures ∙ e, (c.judge-verdict.ensures.noted, (same _ _, (same _ _, laws (goal.at.returns-then-x-wires-clause-is_clock c).After-judge-verdict))))).1.1.1.1.1.1.0
 
 pub returns-then-x-wires-clause-bank_stays : goal.returns-then-x-wires-clause-bank_stays
 returns-then-x-wires-clause-bank_stays c =
     let a = c.args in
     let broken = over_first _ _ _ _ a.values.now a.bank.now (passes (goal.at.returns-then-x-wires-clause-bank_stays c).In-Accepted) c.first_register_over-x.ensures c.if-x-wires.true in
     let e = sym (ap (answer (circuit_of a.table.now a.notes.now)) broken) in
-    let same = left _ _ _ _ a.values.now a.bank.now e in  ((c.refusal.ensures ∙ e, (c.judge-verdict.ensures.noted, (same _ _, (same _ _, laws (goal.at.returns-then-x-wires-clause-bank_stays c).After-judge-verdict))))).7
+    let same = left _ _ _ _ a.values.now a.bank.now e in  ((c.refusal.ensures ∙ e, (c.judge-verdict.ensures.noted, (same _ _, (same _ _, laws (goal.at.returns-then-x-wires-clause-bank_stays c).After-judge-verdict))))).1.1.1.1.1.1.1
 
 pub run-requires : goal.run-requires
 run-requires c = let p = passes (goal.at.run-requires c).In-Accepted in ((evaluable _ _ _ _ _ _ p (omega arith), omega (arith, p.wires_are, p.few, p.roomy)), p.wires_are)
@@ -185,7 +185,7 @@ returns-clause-noted c =
     let all = passes_all _ _ _ _ a.values.now a.bank.now p c.first_register_over-x.ensures c.if-x-wires.false in  ((
       sym (ap answer_of c.in-Accepted.is) ∙ c.judge-verdict.ensures.answers (sheets (goal.at.returns-clause-noted c).After-judge-verdict) (shorter (goal.at.returns-clause-noted c).After-judge-verdict) ∙ ap (answer (circuit_of a.table.now a.notes.now)) (p.passes ∙ sym all),
       (c.judge-verdict.ensures.noted, (valued _ _ _ _ _ _ p c.first_register_over-x.ensures c.if-x-wires.false c.run.ensures, (banked _ _ _ _ _ _ p c.first_register_over-x.ensures c.if-x-wires.false c.run.ensures, laws (goal.at.returns-clause-noted c).After-judge-verdict))),
-    )).1
+    )).1.0
 
 pub returns-clause-valued : goal.returns-clause-valued
 returns-clause-valued c =
@@ -194,7 +194,7 @@ returns-clause-valued c =
     let all = passes_all _ _ _ _ a.values.now a.bank.now p c.first_register_over-x.ensures c.if-x-wires.false in  ((
       sym (ap answer_of c.in-Accepted.is) ∙ c.judge-verdict.ensures.answers (sheets (goal.at.returns-clause-valued c).After-judge-verdict) (shorter (goal.at.returns-clause-valued c).After-judge-verdict) ∙ ap (answer (circuit_of a.table.now a.notes.now)) (p.passes ∙ sym all),
       (c.judge-verdict.ensures.noted, (valued _ _ _ _ _ _ p c.first_register_over-x.ensures c.if-x-wires.false c.run.ensures, (banked _ _ _ _ _ _ p c.first_register_over-x.ensures c.if-x-wires.false c.run.ensures, laws (goal.at.returns-clause-valued c).After-judge-verdict))),
-    )).2
+    )).1.1.0
 
 pub returns-clause-banked : goal.returns-clause-banked
 returns-clause-banked c =
@@ -203,7 +203,7 @@ returns-clause-banked c =
     let all = passes_all _ _ _ _ a.values.now a.bank.now p c.first_register_over-x.ensures c.if-x-wires.false in  ((
       sym (ap answer_of c.in-Accepted.is) ∙ c.judge-verdict.ensures.answers (sheets (goal.at.returns-clause-banked c).After-judge-verdict) (shorter (goal.at.returns-clause-banked c).After-judge-verdict) ∙ ap (answer (circuit_of a.table.now a.notes.now)) (p.passes ∙ sym all),
       (c.judge-verdict.ensures.noted, (valued _ _ _ _ _ _ p c.first_register_over-x.ensures c.if-x-wires.false c.run.ensures, (banked _ _ _ _ _ _ p c.first_register_over-x.ensures c.if-x-wires.false c.run.ensures, laws (goal.at.returns-clause-banked c).After-judge-verdict))),
-    )).3
+    )).1.1.1.0
 
 pub returns-clause-pipelined : goal.returns-clause-pipelined
 returns-clause-pipelined c =
@@ -212,7 +212,7 @@ returns-clause-pipelined c =
     let all = passes_all _ _ _ _ a.values.now a.bank.now p c.first_register_over-x.ensures c.if-x-wires.false in  ((
       sym (ap answer_of c.in-Accepted.is) ∙ c.judge-verdict.ensures.answers (sheets (goal.at.returns-clause-pipelined c).After-judge-verdict) (shorter (goal.at.returns-clause-pipelined c).After-judge-verdict) ∙ ap (answer (circuit_of a.table.now a.notes.now)) (p.passes ∙ sym all),
       (c.judge-verdict.ensures.noted, (valued _ _ _ _ _ _ p c.first_register_over-x.ensures c.if-x-wires.false c.run.ensures, (banked _ _ _ _ _ _ p c.first_register_over-x.ensures c.if-x-wires.false c.run.ensures, laws (goal.at.returns-clause-pipelined c).After-judge-verdict))),
-    )).4
+    )).1.1.1.1.0
 
 pub returns-clause-registers_alone : goal.returns-clause-registers_alone
 returns-clause-registers_alone c =
@@ -221,7 +221,7 @@ returns-clause-registers_alone c =
     let all = passes_all _ _ _ _ a.values.now a.bank.now p c.first_register_over-x.ensures c.if-x-wires.false in  ((
       sym (ap answer_of c.in-Accepted.is) ∙ c.judge-verdict.ensures.answers (sheets (goal.at.returns-clause-registers_alone c).After-judge-verdict) (shorter (goal.at.returns-clause-registers_alone c).After-judge-verdict) ∙ ap (answer (circuit_of a.table.now a.notes.now)) (p.passes ∙ sym all),
       (c.judge-verdict.ensures.noted, (valued _ _ _ _ _ _ p c.first_register_over-x.ensures c.if-x-wires.false c.run.ensures, (banked _ _ _ _ _ _ p c.first_register_over-x.ensures c.if-x-wires.false c.run.ensures, laws (goal.at.returns-clause-registers_alone c).After-judge-verdict))),
-    )).5
+    )).1.1.1.1.1.0
 
 pub returns-clause-is_clock : goal.returns-clause-is_clock
 returns-clause-is_clock c =
@@ -230,7 +230,7 @@ returns-clause-is_clock c =
     let all = passes_all _ _ _ _ a.values.now a.bank.now p c.first_register_over-x.ensures c.if-x-wires.false in  ((
       sym (ap answer_of c.in-Accepted.is) ∙ c.judge-verdict.ensures.answers (sheets (goal.at.returns-clause-is_clock c).After-judge-verdict) (shorter (goal.at.returns-clause-is_clock c).After-judge-verdict) ∙ ap (answer (circuit_of a.table.now a.notes.now)) (p.passes ∙ sym all),
       (c.judge-verdict.ensures.noted, (valued _ _ _ _ _ _ p c.first_register_over-x.ensures c.if-x-wires.false c.run.ensures, (banked _ _ _ _ _ _ p c.first_register_over-x.ensures c.if-x-wires.false c.run.ensures, laws (goal.at.returns-clause-is_clock c).After-judge-verdict))),
-    )).6
+    )).1.1.1.1.1.1.0
 
 pub returns-clause-bank_stays : goal.returns-clause-bank_stays
 returns-clause-bank_stays c =
@@ -239,4 +239,4 @@ returns-clause-bank_stays c =
     let all = passes_all _ _ _ _ a.values.now a.bank.now p c.first_register_over-x.ensures c.if-x-wires.false in  ((
       sym (ap answer_of c.in-Accepted.is) ∙ c.judge-verdict.ensures.answers (sheets (goal.at.returns-clause-bank_stays c).After-judge-verdict) (shorter (goal.at.returns-clause-bank_stays c).After-judge-verdict) ∙ ap (answer (circuit_of a.table.now a.notes.now)) (p.passes ∙ sym all),
       (c.judge-verdict.ensures.noted, (valued _ _ _ _ _ _ p c.first_register_over-x.ensures c.if-x-wires.false c.run.ensures, (banked _ _ _ _ _ _ p c.first_register_over-x.ensures c.if-x-wires.false c.run.ensures, laws (goal.at.returns-clause-bank_stays c).After-judge-verdict))),
-    )).7
+    )).1.1.1.1.1.1.1

@@ -62,26 +62,26 @@ promised c e tells wrote = (
 )
 
 record Numbers (v : In-Accepted) : Type 0 where
-  first : first_rules (table (view.up-After-judge-verdict _ _ _ v.before.before.before.before)) (notes (view.up-After-judge-verdict _ _ _ v.before.before.before.before)) (secrets (view.up-After-judge-verdict _ _ _ v.before.before.before.before)) (probes (view.up-After-judge-verdict _ _ _ v.before.before.before.before)) (length (counts (view.up-After-judge-verdict _ _ _ v.before.before.before.before))) ≡ pass
-  of : Passed (table (view.up-After-judge-verdict _ _ _ v.before.before.before.before)) (notes (view.up-After-judge-verdict _ _ _ v.before.before.before.before)) (secrets (view.up-After-judge-verdict _ _ _ v.before.before.before.before)) (probes (view.up-After-judge-verdict _ _ _ v.before.before.before.before)) (length (counts (view.up-After-judge-verdict _ _ _ v.before.before.before.before)))
-  wires : v.in-Accepted.wires ≡ size (circuit_in (table (view.up-After-judge-verdict _ _ _ v.before.before.before.before)))
-  randoms : v.in-Accepted.randoms ≡ (circuit_in (table (view.up-After-judge-verdict _ _ _ v.before.before.before.before))).randoms
-  inputs : v.in-Accepted.inputs ≡ (k (view.up-After-judge-verdict _ _ _ v.before.before.before.before)).inputs
+  first : first_rules (table (view.up-After-judge-verdict _ _ _ _ v.before.before.before.before)) (notes (view.up-After-judge-verdict _ _ _ _ v.before.before.before.before)) (secrets (view.up-After-judge-verdict _ _ _ _ v.before.before.before.before)) (probes (view.up-After-judge-verdict _ _ _ _ v.before.before.before.before)) (length (counts (view.up-After-judge-verdict _ _ _ _ v.before.before.before.before))) ≡ pass
+  of : Passed (table (view.up-After-judge-verdict _ _ _ _ v.before.before.before.before)) (notes (view.up-After-judge-verdict _ _ _ _ v.before.before.before.before)) (secrets (view.up-After-judge-verdict _ _ _ _ v.before.before.before.before)) (probes (view.up-After-judge-verdict _ _ _ _ v.before.before.before.before)) (length (counts (view.up-After-judge-verdict _ _ _ _ v.before.before.before.before)))
+  wires : v.in-Accepted.wires ≡ size (circuit_in (table (view.up-After-judge-verdict _ _ _ _ v.before.before.before.before)))
+  randoms : v.in-Accepted.randoms ≡ (circuit_in (table (view.up-After-judge-verdict _ _ _ _ v.before.before.before.before))).randoms
+  inputs : v.in-Accepted.inputs ≡ (k (view.up-After-judge-verdict _ _ _ _ v.before.before.before.before)).inputs
 
 numbers : (v : In-Accepted) → Numbers v
 numbers v =
-    let (p, wires, randoms) = answer-pass (k (view.up-After-judge-verdict _ _ _ v.before.before.before.before)) _ (sym (ap answer_of v.in-Accepted.is) ∙ v.judge-verdict.ensures.answers) in
+    let (p, wires, randoms) = answer-pass (k (view.up-After-judge-verdict _ _ _ _ v.before.before.before.before)) _ (sym (ap answer_of v.in-Accepted.is) ∙ v.judge-verdict.ensures.answers) in
     let q = passed _ _ _ _ _ p in
     record {
       first = p;
       of = q;
       wires = wires ∙ ap size q.of.circuit_is;
       randoms = randoms ∙ ap (λ (z : Circuit). z.randoms) q.of.circuit_is;
-      inputs = subst (λ (r : Verdict). InputsAre r (k (view.up-After-judge-verdict _ _ _ v.before.before.before.before)).inputs) v.in-Accepted.is v.judge-verdict.ensures.inputs;
+      inputs = subst (λ (r : Verdict). InputsAre r (k (view.up-After-judge-verdict _ _ _ _ v.before.before.before.before)).inputs) v.in-Accepted.is v.judge-verdict.ensures.inputs;
     }
 
-found : (m : After-list_read-found) → m.list_read-found.result ≡ length (read_wires (k (view.up-After-judge-verdict _ _ _ m.before.before.before.before.before.before)) (probes (view.up-After-judge-verdict _ _ _ m.before.before.before.before.before.before)))
-found m = m.list_read-found.ensures.all ∙ ap (λ (z : Circuit). length (read_wires z (probes (view.up-After-judge-verdict _ _ _ m.before.before.before.before.before.before)))) (sym (numbers (view.up-In-Accepted _ _ _ m.before.before.before)).of.of.circuit_is)
+found : (m : After-list_read-found) → m.list_read-found.result ≡ length (read_wires (k (view.up-After-judge-verdict _ _ _ _ m.before.before.before.before.before.before)) (probes (view.up-After-judge-verdict _ _ _ _ m.before.before.before.before.before.before)))
+found m = m.list_read-found.ensures.all ∙ ap (λ (z : Circuit). length (read_wires z (probes (view.up-After-judge-verdict _ _ _ _ m.before.before.before.before.before.before)))) (sym (numbers (view.up-In-Accepted _ _ _ _ m.before.before.before)).of.of.circuit_is)
 
 pub returns-in_default-clause-answered : goal.returns-in_default-clause-answered
 returns-in_default-clause-answered c =
@@ -91,22 +91,22 @@ returns-in_default-clause-answered c =
 pub returns-in_default-clause-noted : goal.returns-in_default-clause-noted
 returns-in_default-clause-noted c =
     let e = c.in_default.is in  (promised (goal.at.returns-in_default-clause-noted c).After-judge-verdict (refuses (table (goal.at.returns-in_default-clause-noted c).After-judge-verdict) (notes (goal.at.returns-in_default-clause-noted c).After-judge-verdict) (secrets (goal.at.returns-in_default-clause-noted c).After-judge-verdict) (probes (goal.at.returns-in_default-clause-noted c).After-judge-verdict) (counts (goal.at.returns-in_default-clause-noted c).After-judge-verdict) (answer-refused (k (goal.at.returns-in_default-clause-noted c).After-judge-verdict) _ (sym (ap answer_of e) ∙ c.judge-verdict.ensures.answers)))
-    (c.refused.ensures ∙ ap (λ v. refusal_in (answer_of v)) e) refl).1
+    (c.refused.ensures ∙ ap (λ v. refusal_in (answer_of v)) e) refl).1.0
 
 pub returns-in_default-clause-listed : goal.returns-in_default-clause-listed
 returns-in_default-clause-listed c =
     let e = c.in_default.is in  (promised (goal.at.returns-in_default-clause-listed c).After-judge-verdict (refuses (table (goal.at.returns-in_default-clause-listed c).After-judge-verdict) (notes (goal.at.returns-in_default-clause-listed c).After-judge-verdict) (secrets (goal.at.returns-in_default-clause-listed c).After-judge-verdict) (probes (goal.at.returns-in_default-clause-listed c).After-judge-verdict) (counts (goal.at.returns-in_default-clause-listed c).After-judge-verdict) (answer-refused (k (goal.at.returns-in_default-clause-listed c).After-judge-verdict) _ (sym (ap answer_of e) ∙ c.judge-verdict.ensures.answers)))
-    (c.refused.ensures ∙ ap (λ v. refusal_in (answer_of v)) e) refl).2
+    (c.refused.ensures ∙ ap (λ v. refusal_in (answer_of v)) e) refl).1.1.0
 
 pub returns-in_default-clause-add_up : goal.returns-in_default-clause-add_up
 returns-in_default-clause-add_up c =
     let e = c.in_default.is in  (promised (goal.at.returns-in_default-clause-add_up c).After-judge-verdict (refuses (table (goal.at.returns-in_default-clause-add_up c).After-judge-verdict) (notes (goal.at.returns-in_default-clause-add_up c).After-judge-verdict) (secrets (goal.at.returns-in_default-clause-add_up c).After-judge-verdict) (probes (goal.at.returns-in_default-clause-add_up c).After-judge-verdict) (counts (goal.at.returns-in_default-clause-add_up c).After-judge-verdict) (answer-refused (k (goal.at.returns-in_default-clause-add_up c).After-judge-verdict) _ (sym (ap answer_of e) ∙ c.judge-verdict.ensures.answers)))
-    (c.refused.ensures ∙ ap (λ v. refusal_in (answer_of v)) e) refl).3
+    (c.refused.ensures ∙ ap (λ v. refusal_in (answer_of v)) e) refl).1.1.1.0
 
 pub returns-in_default-clause-same_columns : goal.returns-in_default-clause-same_columns
 returns-in_default-clause-same_columns c =
     let e = c.in_default.is in  (promised (goal.at.returns-in_default-clause-same_columns c).After-judge-verdict (refuses (table (goal.at.returns-in_default-clause-same_columns c).After-judge-verdict) (notes (goal.at.returns-in_default-clause-same_columns c).After-judge-verdict) (secrets (goal.at.returns-in_default-clause-same_columns c).After-judge-verdict) (probes (goal.at.returns-in_default-clause-same_columns c).After-judge-verdict) (counts (goal.at.returns-in_default-clause-same_columns c).After-judge-verdict) (answer-refused (k (goal.at.returns-in_default-clause-same_columns c).After-judge-verdict) _ (sym (ap answer_of e) ∙ c.judge-verdict.ensures.answers)))
-    (c.refused.ensures ∙ ap (λ v. refusal_in (answer_of v)) e) refl).4
+    (c.refused.ensures ∙ ap (λ v. refusal_in (answer_of v)) e) refl).1.1.1.1
 
 pub list_read-found-requires : goal.list_read-found-requires
 list_read-found-requires c = let n = numbers (goal.at.list_read-found-requires c).In-Accepted in (record { accepted = n.of.of.accepted; wires_are = n.wires; made = λ x i. omega (arith, n.of.probed x i, n.wires, ap size n.of.of.circuit_is) }, refl)
@@ -115,16 +115,16 @@ pub returns-then-found-gt8-clause-answered : goal.returns-then-found-gt8-clause-
 returns-then-found-gt8-clause-answered c = (promised (goal.at.returns-then-found-gt8-clause-answered c).After-judge-verdict (too_many (table (goal.at.returns-then-found-gt8-clause-answered c).After-judge-verdict) (notes (goal.at.returns-then-found-gt8-clause-answered c).After-judge-verdict) (secrets (goal.at.returns-then-found-gt8-clause-answered c).After-judge-verdict) (probes (goal.at.returns-then-found-gt8-clause-answered c).After-judge-verdict) (counts (goal.at.returns-then-found-gt8-clause-answered c).After-judge-verdict) (numbers (goal.at.returns-then-found-gt8-clause-answered c).In-Accepted).first (omega (arith, found (goal.at.returns-then-found-gt8-clause-answered c).After-list_read-found, c.if-found-gt8.true))) refl refl).0
 
 pub returns-then-found-gt8-clause-noted : goal.returns-then-found-gt8-clause-noted
-returns-then-found-gt8-clause-noted c = (promised (goal.at.returns-then-found-gt8-clause-noted c).After-judge-verdict (too_many (table (goal.at.returns-then-found-gt8-clause-noted c).After-judge-verdict) (notes (goal.at.returns-then-found-gt8-clause-noted c).After-judge-verdict) (secrets (goal.at.returns-then-found-gt8-clause-noted c).After-judge-verdict) (probes (goal.at.returns-then-found-gt8-clause-noted c).After-judge-verdict) (counts (goal.at.returns-then-found-gt8-clause-noted c).After-judge-verdict) (numbers (goal.at.returns-then-found-gt8-clause-noted c).In-Accepted).first (omega (arith, found (goal.at.returns-then-found-gt8-clause-noted c).After-list_read-found, c.if-found-gt8.true))) refl refl).1
+returns-then-found-gt8-clause-noted c = (promised (goal.at.returns-then-found-gt8-clause-noted c).After-judge-verdict (too_many (table (goal.at.returns-then-found-gt8-clause-noted c).After-judge-verdict) (notes (goal.at.returns-then-found-gt8-clause-noted c).After-judge-verdict) (secrets (goal.at.returns-then-found-gt8-clause-noted c).After-judge-verdict) (probes (goal.at.returns-then-found-gt8-clause-noted c).After-judge-verdict) (counts (goal.at.returns-then-found-gt8-clause-noted c).After-judge-verdict) (numbers (goal.at.returns-then-found-gt8-clause-noted c).In-Accepted).first (omega (arith, found (goal.at.returns-then-found-gt8-clause-noted c).After-list_read-found, c.if-found-gt8.true))) refl refl).1.0
 
 pub returns-then-found-gt8-clause-listed : goal.returns-then-found-gt8-clause-listed
-returns-then-found-gt8-clause-listed c = (promised (goal.at.returns-then-found-gt8-clause-listed c).After-judge-verdict (too_many (table (goal.at.returns-then-found-gt8-clause-listed c).After-judge-verdict) (notes (goal.at.returns-then-found-gt8-clause-listed c).After-judge-verdict) (secrets (goal.at.returns-then-found-gt8-clause-listed c).After-judge-verdict) (probes (goal.at.returns-then-found-gt8-clause-listed c).After-judge-verdict) (counts (goal.at.returns-then-found-gt8-clause-listed c).After-judge-verdict) (numbers (goal.at.returns-then-found-gt8-clause-listed c).In-Accepted).first (omega (arith, found (goal.at.returns-then-found-gt8-clause-listed c).After-list_read-found, c.if-found-gt8.true))) refl refl).2
+returns-then-found-gt8-clause-listed c = (promised (goal.at.returns-then-found-gt8-clause-listed c).After-judge-verdict (too_many (table (goal.at.returns-then-found-gt8-clause-listed c).After-judge-verdict) (notes (goal.at.returns-then-found-gt8-clause-listed c).After-judge-verdict) (secrets (goal.at.returns-then-found-gt8-clause-listed c).After-judge-verdict) (probes (goal.at.returns-then-found-gt8-clause-listed c).After-judge-verdict) (counts (goal.at.returns-then-found-gt8-clause-listed c).After-judge-verdict) (numbers (goal.at.returns-then-found-gt8-clause-listed c).In-Accepted).first (omega (arith, found (goal.at.returns-then-found-gt8-clause-listed c).After-list_read-found, c.if-found-gt8.true))) refl refl).1.1.0
 
 pub returns-then-found-gt8-clause-add_up : goal.returns-then-found-gt8-clause-add_up
-returns-then-found-gt8-clause-add_up c = (promised (goal.at.returns-then-found-gt8-clause-add_up c).After-judge-verdict (too_many (table (goal.at.returns-then-found-gt8-clause-add_up c).After-judge-verdict) (notes (goal.at.returns-then-found-gt8-clause-add_up c).After-judge-verdict) (secrets (goal.at.returns-then-found-gt8-clause-add_up c).After-judge-verdict) (probes (goal.at.returns-then-found-gt8-clause-add_up c).After-judge-verdict) (counts (goal.at.returns-then-found-gt8-clause-add_up c).After-judge-verdict) (numbers (goal.at.returns-then-found-gt8-clause-add_up c).In-Accepted).first (omega (arith, found (goal.at.returns-then-found-gt8-clause-add_up c).After-list_read-found, c.if-found-gt8.true))) refl refl).3
+returns-then-found-gt8-clause-add_up c = (promised (goal.at.returns-then-found-gt8-clause-add_up c).After-judge-verdict (too_many (table (goal.at.returns-then-found-gt8-clause-add_up c).After-judge-verdict) (notes (goal.at.returns-then-found-gt8-clause-add_up c).After-judge-verdict) (secrets (goal.at.returns-then-found-gt8-clause-add_up c).After-judge-verdict) (probes (goal.at.returns-then-found-gt8-clause-add_up c).After-judge-verdict) (counts (goal.at.returns-then-found-gt8-clause-add_up c).After-judge-verdict) (numbers (goal.at.returns-then-found-gt8-clause-add_up c).In-Accepted).first (omega (arith, found (goal.at.returns-then-found-gt8-clause-add_up c).After-list_read-found, c.if-found-gt8.true))) refl refl).1.1.1.0
 
 pub returns-then-found-gt8-clause-same_columns : goal.returns-then-found-gt8-clause-same_columns
-returns-then-found-gt8-clause-same_columns c = (promised (goal.at.returns-then-found-gt8-clause-same_columns c).After-judge-verdict (too_many (table (goal.at.returns-then-found-gt8-clause-same_columns c).After-judge-verdict) (notes (goal.at.returns-then-found-gt8-clause-same_columns c).After-judge-verdict) (secrets (goal.at.returns-then-found-gt8-clause-same_columns c).After-judge-verdict) (probes (goal.at.returns-then-found-gt8-clause-same_columns c).After-judge-verdict) (counts (goal.at.returns-then-found-gt8-clause-same_columns c).After-judge-verdict) (numbers (goal.at.returns-then-found-gt8-clause-same_columns c).In-Accepted).first (omega (arith, found (goal.at.returns-then-found-gt8-clause-same_columns c).After-list_read-found, c.if-found-gt8.true))) refl refl).4
+returns-then-found-gt8-clause-same_columns c = (promised (goal.at.returns-then-found-gt8-clause-same_columns c).After-judge-verdict (too_many (table (goal.at.returns-then-found-gt8-clause-same_columns c).After-judge-verdict) (notes (goal.at.returns-then-found-gt8-clause-same_columns c).After-judge-verdict) (secrets (goal.at.returns-then-found-gt8-clause-same_columns c).After-judge-verdict) (probes (goal.at.returns-then-found-gt8-clause-same_columns c).After-judge-verdict) (counts (goal.at.returns-then-found-gt8-clause-same_columns c).After-judge-verdict) (numbers (goal.at.returns-then-found-gt8-clause-same_columns c).In-Accepted).first (omega (arith, found (goal.at.returns-then-found-gt8-clause-same_columns c).After-list_read-found, c.if-found-gt8.true))) refl refl).1.1.1.1
 
 pub list_counts-pairs-requires : goal.list_counts-pairs-requires
 list_counts-pairs-requires c =
@@ -158,7 +158,7 @@ returns-clause-noted c =
     let number = length (read_wires (k (goal.at.returns-clause-noted c).After-judge-verdict) (probes (goal.at.returns-clause-noted c).After-judge-verdict)) in  (promised (goal.at.returns-clause-noted c).After-judge-verdict (passes (table (goal.at.returns-clause-noted c).After-judge-verdict) (notes (goal.at.returns-clause-noted c).After-judge-verdict) (secrets (goal.at.returns-clause-noted c).After-judge-verdict) (probes (goal.at.returns-clause-noted c).After-judge-verdict) (counts (goal.at.returns-clause-noted c).After-judge-verdict) n.first (omega (arith, found (goal.at.returns-clause-noted c).After-list_read-found, c.if-found-gt8.false)))
     (ap₂ (λ x y. accepted x y c.list_counts-pairs.result) (found (goal.at.returns-clause-noted c).After-list_read-found) (c.power.ensures.0 ∙ ap (λ y. 2 ^ y) (found (goal.at.returns-clause-noted c).After-list_read-found)) ∙ ap (λ z. accepted number (2 ^ number) z) (c.list_counts-pairs.ensures.0 ∙ ap pair_count (sym same)))
     (sheet (table (goal.at.returns-clause-noted c).After-judge-verdict) (notes (goal.at.returns-clause-noted c).After-judge-verdict) (secrets (goal.at.returns-clause-noted c).After-judge-verdict) (probes (goal.at.returns-clause-noted c).After-judge-verdict) (counts (goal.at.returns-clause-noted c).After-judge-verdict) n.of.of n.inputs c.list_counts-pairs.ensures.1
-    (ap (λ (z : Circuit). read_wires z (probes (goal.at.returns-clause-noted c).After-judge-verdict)) same ∙ c.list_read-found.ensures.are c.if-found-gt8.false))).1
+    (ap (λ (z : Circuit). read_wires z (probes (goal.at.returns-clause-noted c).After-judge-verdict)) same ∙ c.list_read-found.ensures.are c.if-found-gt8.false))).1.0
 
 pub returns-clause-listed : goal.returns-clause-listed
 returns-clause-listed c =
@@ -167,7 +167,7 @@ returns-clause-listed c =
     let number = length (read_wires (k (goal.at.returns-clause-listed c).After-judge-verdict) (probes (goal.at.returns-clause-listed c).After-judge-verdict)) in  (promised (goal.at.returns-clause-listed c).After-judge-verdict (passes (table (goal.at.returns-clause-listed c).After-judge-verdict) (notes (goal.at.returns-clause-listed c).After-judge-verdict) (secrets (goal.at.returns-clause-listed c).After-judge-verdict) (probes (goal.at.returns-clause-listed c).After-judge-verdict) (counts (goal.at.returns-clause-listed c).After-judge-verdict) n.first (omega (arith, found (goal.at.returns-clause-listed c).After-list_read-found, c.if-found-gt8.false)))
     (ap₂ (λ x y. accepted x y c.list_counts-pairs.result) (found (goal.at.returns-clause-listed c).After-list_read-found) (c.power.ensures.0 ∙ ap (λ y. 2 ^ y) (found (goal.at.returns-clause-listed c).After-list_read-found)) ∙ ap (λ z. accepted number (2 ^ number) z) (c.list_counts-pairs.ensures.0 ∙ ap pair_count (sym same)))
     (sheet (table (goal.at.returns-clause-listed c).After-judge-verdict) (notes (goal.at.returns-clause-listed c).After-judge-verdict) (secrets (goal.at.returns-clause-listed c).After-judge-verdict) (probes (goal.at.returns-clause-listed c).After-judge-verdict) (counts (goal.at.returns-clause-listed c).After-judge-verdict) n.of.of n.inputs c.list_counts-pairs.ensures.1
-    (ap (λ (z : Circuit). read_wires z (probes (goal.at.returns-clause-listed c).After-judge-verdict)) same ∙ c.list_read-found.ensures.are c.if-found-gt8.false))).2
+    (ap (λ (z : Circuit). read_wires z (probes (goal.at.returns-clause-listed c).After-judge-verdict)) same ∙ c.list_read-found.ensures.are c.if-found-gt8.false))).1.1.0
 
 pub returns-clause-add_up : goal.returns-clause-add_up
 returns-clause-add_up c =
@@ -176,7 +176,7 @@ returns-clause-add_up c =
     let number = length (read_wires (k (goal.at.returns-clause-add_up c).After-judge-verdict) (probes (goal.at.returns-clause-add_up c).After-judge-verdict)) in  (promised (goal.at.returns-clause-add_up c).After-judge-verdict (passes (table (goal.at.returns-clause-add_up c).After-judge-verdict) (notes (goal.at.returns-clause-add_up c).After-judge-verdict) (secrets (goal.at.returns-clause-add_up c).After-judge-verdict) (probes (goal.at.returns-clause-add_up c).After-judge-verdict) (counts (goal.at.returns-clause-add_up c).After-judge-verdict) n.first (omega (arith, found (goal.at.returns-clause-add_up c).After-list_read-found, c.if-found-gt8.false)))
     (ap₂ (λ x y. accepted x y c.list_counts-pairs.result) (found (goal.at.returns-clause-add_up c).After-list_read-found) (c.power.ensures.0 ∙ ap (λ y. 2 ^ y) (found (goal.at.returns-clause-add_up c).After-list_read-found)) ∙ ap (λ z. accepted number (2 ^ number) z) (c.list_counts-pairs.ensures.0 ∙ ap pair_count (sym same)))
     (sheet (table (goal.at.returns-clause-add_up c).After-judge-verdict) (notes (goal.at.returns-clause-add_up c).After-judge-verdict) (secrets (goal.at.returns-clause-add_up c).After-judge-verdict) (probes (goal.at.returns-clause-add_up c).After-judge-verdict) (counts (goal.at.returns-clause-add_up c).After-judge-verdict) n.of.of n.inputs c.list_counts-pairs.ensures.1
-    (ap (λ (z : Circuit). read_wires z (probes (goal.at.returns-clause-add_up c).After-judge-verdict)) same ∙ c.list_read-found.ensures.are c.if-found-gt8.false))).3
+    (ap (λ (z : Circuit). read_wires z (probes (goal.at.returns-clause-add_up c).After-judge-verdict)) same ∙ c.list_read-found.ensures.are c.if-found-gt8.false))).1.1.1.0
 
 pub returns-clause-same_columns : goal.returns-clause-same_columns
 returns-clause-same_columns c =
@@ -185,4 +185,4 @@ returns-clause-same_columns c =
     let number = length (read_wires (k (goal.at.returns-clause-same_columns c).After-judge-verdict) (probes (goal.at.returns-clause-same_columns c).After-judge-verdict)) in  (promised (goal.at.returns-clause-same_columns c).After-judge-verdict (passes (table (goal.at.returns-clause-same_columns c).After-judge-verdict) (notes (goal.at.returns-clause-same_columns c).After-judge-verdict) (secrets (goal.at.returns-clause-same_columns c).After-judge-verdict) (probes (goal.at.returns-clause-same_columns c).After-judge-verdict) (counts (goal.at.returns-clause-same_columns c).After-judge-verdict) n.first (omega (arith, found (goal.at.returns-clause-same_columns c).After-list_read-found, c.if-found-gt8.false)))
     (ap₂ (λ x y. accepted x y c.list_counts-pairs.result) (found (goal.at.returns-clause-same_columns c).After-list_read-found) (c.power.ensures.0 ∙ ap (λ y. 2 ^ y) (found (goal.at.returns-clause-same_columns c).After-list_read-found)) ∙ ap (λ z. accepted number (2 ^ number) z) (c.list_counts-pairs.ensures.0 ∙ ap pair_count (sym same)))
     (sheet (table (goal.at.returns-clause-same_columns c).After-judge-verdict) (notes (goal.at.returns-clause-same_columns c).After-judge-verdict) (secrets (goal.at.returns-clause-same_columns c).After-judge-verdict) (probes (goal.at.returns-clause-same_columns c).After-judge-verdict) (counts (goal.at.returns-clause-same_columns c).After-judge-verdict) n.of.of n.inputs c.list_counts-pairs.ensures.1
-    (ap (λ (z : Circuit). read_wires z (probes (goal.at.returns-clause-same_columns c).After-judge-verdict)) same ∙ c.list_read-found.ensures.are c.if-found-gt8.false))).4
+    (ap (λ (z : Circuit). read_wires z (probes (goal.at.returns-clause-same_columns c).After-judge-verdict)) same ∙ c.list_read-found.ensures.are c.if-found-gt8.false))).1.1.1.1

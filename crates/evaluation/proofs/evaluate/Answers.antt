@@ -15,22 +15,22 @@ passes v = passed v.judge-verdict.ensures _ (one-sheet v.args.values.now) v.in-A
 pub returns-in_default-clause-answered : goal.returns-in_default-clause-answered
 returns-in_default-clause-answered c =
     let j = c.judge-verdict.ensures in
-    let s = one-sheet c.args.values.now in  ((j.answers _ s, (j.noted, (left j _ s c.in_default.is _ _, λ h. gadgets_compute _ _ h _ _)))).0
+    let s = one-sheet c.args.values.now in  j.answers _ s
 
 pub returns-in_default-clause-noted : goal.returns-in_default-clause-noted
 returns-in_default-clause-noted c =
     let j = c.judge-verdict.ensures in
-    let s = one-sheet c.args.values.now in  ((j.answers _ s, (j.noted, (left j _ s c.in_default.is _ _, λ h. gadgets_compute _ _ h _ _)))).1
+    let s = one-sheet c.args.values.now in  j.noted
 
 pub returns-in_default-clause-valued : goal.returns-in_default-clause-valued
 returns-in_default-clause-valued c =
     let j = c.judge-verdict.ensures in
-    let s = one-sheet c.args.values.now in  ((j.answers _ s, (j.noted, (left j _ s c.in_default.is _ _, λ h. gadgets_compute _ _ h _ _)))).2
+    let s = one-sheet c.args.values.now in  left j _ s c.in_default.is _ _
 
 pub returns-in_default-clause-computes : goal.returns-in_default-clause-computes
 returns-in_default-clause-computes c =
     let j = c.judge-verdict.ensures in
-    let s = one-sheet c.args.values.now in  ((j.answers _ s, (j.noted, (left j _ s c.in_default.is _ _, λ h. gadgets_compute _ _ h _ _)))).3
+    let s = one-sheet c.args.values.now in  λ h. gadgets_compute _ _ h _ _
 
 pub fill-requires : goal.fill-requires
 fill-requires c = evaluable _ _ _ _ _ _ (passes (goal.at.fill-requires c).In-Accepted) (omega arith)
@@ -38,19 +38,19 @@ fill-requires c = evaluable _ _ _ _ _ _ (passes (goal.at.fill-requires c).In-Acc
 pub returns-clause-answered : goal.returns-clause-answered
 returns-clause-answered c =
     let j = c.judge-verdict.ensures in
-    let a = c.args in  ((j.answers _ (one-sheet a.values.now), (j.noted, (holds _ _ _ _ _ _ (passes (goal.at.returns-clause-answered c).In-Accepted) (λ (k : Circuit). bytes (values_of k.wires (bits a.shares.now) (bits a.tape.now))) a.values.now (evaluated _ _ _ _ _ _ (passes (goal.at.returns-clause-answered c).In-Accepted) c.fill.ensures (omega arith)), λ h. gadgets_compute _ _ h _ _)))).0
+    let a = c.args in  j.answers _ (one-sheet a.values.now)
 
 pub returns-clause-noted : goal.returns-clause-noted
 returns-clause-noted c =
     let j = c.judge-verdict.ensures in
-    let a = c.args in  ((j.answers _ (one-sheet a.values.now), (j.noted, (holds _ _ _ _ _ _ (passes (goal.at.returns-clause-noted c).In-Accepted) (λ (k : Circuit). bytes (values_of k.wires (bits a.shares.now) (bits a.tape.now))) a.values.now (evaluated _ _ _ _ _ _ (passes (goal.at.returns-clause-noted c).In-Accepted) c.fill.ensures (omega arith)), λ h. gadgets_compute _ _ h _ _)))).1
+    let a = c.args in  j.noted
 
 pub returns-clause-valued : goal.returns-clause-valued
 returns-clause-valued c =
     let j = c.judge-verdict.ensures in
-    let a = c.args in  ((j.answers _ (one-sheet a.values.now), (j.noted, (holds _ _ _ _ _ _ (passes (goal.at.returns-clause-valued c).In-Accepted) (λ (k : Circuit). bytes (values_of k.wires (bits a.shares.now) (bits a.tape.now))) a.values.now (evaluated _ _ _ _ _ _ (passes (goal.at.returns-clause-valued c).In-Accepted) c.fill.ensures (omega arith)), λ h. gadgets_compute _ _ h _ _)))).2
+    let a = c.args in  holds _ _ _ _ _ _ (passes (goal.at.returns-clause-valued c).In-Accepted) (λ (k : Circuit). bytes (values_of k.wires (bits a.shares.now) (bits a.tape.now))) a.values.now (evaluated _ _ _ _ _ _ (passes (goal.at.returns-clause-valued c).In-Accepted) c.fill.ensures (omega arith))
 
 pub returns-clause-computes : goal.returns-clause-computes
 returns-clause-computes c =
     let j = c.judge-verdict.ensures in
-    let a = c.args in  ((j.answers _ (one-sheet a.values.now), (j.noted, (holds _ _ _ _ _ _ (passes (goal.at.returns-clause-computes c).In-Accepted) (λ (k : Circuit). bytes (values_of k.wires (bits a.shares.now) (bits a.tape.now))) a.values.now (evaluated _ _ _ _ _ _ (passes (goal.at.returns-clause-computes c).In-Accepted) c.fill.ensures (omega arith)), λ h. gadgets_compute _ _ h _ _)))).3
+    let a = c.args in  λ h. gadgets_compute _ _ h _ _

@@ -21,33 +21,33 @@ shorter : (c : After-judge-verdict) → Shortest c.smaller-room.result (sheets c
 shorter c = two_sheets _ _ _ c.smaller-room.ensures
 
 passes : (v : In-Accepted) → let a = v.args in
-    Passed a.table.now a.notes.now a.shares.now a.tape.now (sheets (view.up-After-judge-verdict _ _ _ v.before.before.before.before)) a.probes.now v.smaller-room.result v.in-Accepted.wires
-passes v = passed v.judge-verdict.ensures (sheets (view.up-After-judge-verdict _ _ _ v.before.before.before.before)) (shorter (view.up-After-judge-verdict _ _ _ v.before.before.before.before)) v.in-Accepted.is
+    Passed a.table.now a.notes.now a.shares.now a.tape.now (sheets (view.up-After-judge-verdict _ _ _ _ v.before.before.before.before)) a.probes.now v.smaller-room.result v.in-Accepted.wires
+passes v = passed v.judge-verdict.ensures (sheets (view.up-After-judge-verdict _ _ _ _ v.before.before.before.before)) (shorter (view.up-After-judge-verdict _ _ _ _ v.before.before.before.before)) v.in-Accepted.is
 
 pub returns-in_default-clause-answered : goal.returns-in_default-clause-answered
 returns-in_default-clause-answered c =
     let j = c.judge-verdict.ensures in
-    let same = left j (sheets (goal.at.returns-in_default-clause-answered c).After-judge-verdict) (shorter (goal.at.returns-in_default-clause-answered c).After-judge-verdict) c.in_default.is in  ((j.answers (sheets (goal.at.returns-in_default-clause-answered c).After-judge-verdict) (shorter (goal.at.returns-in_default-clause-answered c).After-judge-verdict), (j.noted, (same _ _, (same _ _, λ h. equal_counts _ _ h _))))).0
+    let same = left j (sheets (goal.at.returns-in_default-clause-answered c).After-judge-verdict) (shorter (goal.at.returns-in_default-clause-answered c).After-judge-verdict) c.in_default.is in  j.answers (sheets (goal.at.returns-in_default-clause-answered c).After-judge-verdict) (shorter (goal.at.returns-in_default-clause-answered c).After-judge-verdict)
 
 pub returns-in_default-clause-noted : goal.returns-in_default-clause-noted
 returns-in_default-clause-noted c =
     let j = c.judge-verdict.ensures in
-    let same = left j (sheets (goal.at.returns-in_default-clause-noted c).After-judge-verdict) (shorter (goal.at.returns-in_default-clause-noted c).After-judge-verdict) c.in_default.is in  ((j.answers (sheets (goal.at.returns-in_default-clause-noted c).After-judge-verdict) (shorter (goal.at.returns-in_default-clause-noted c).After-judge-verdict), (j.noted, (same _ _, (same _ _, λ h. equal_counts _ _ h _))))).1
+    let same = left j (sheets (goal.at.returns-in_default-clause-noted c).After-judge-verdict) (shorter (goal.at.returns-in_default-clause-noted c).After-judge-verdict) c.in_default.is in  j.noted
 
 pub returns-in_default-clause-valued : goal.returns-in_default-clause-valued
 returns-in_default-clause-valued c =
     let j = c.judge-verdict.ensures in
-    let same = left j (sheets (goal.at.returns-in_default-clause-valued c).After-judge-verdict) (shorter (goal.at.returns-in_default-clause-valued c).After-judge-verdict) c.in_default.is in  ((j.answers (sheets (goal.at.returns-in_default-clause-valued c).After-judge-verdict) (shorter (goal.at.returns-in_default-clause-valued c).After-judge-verdict), (j.noted, (same _ _, (same _ _, λ h. equal_counts _ _ h _))))).2
+    let same = left j (sheets (goal.at.returns-in_default-clause-valued c).After-judge-verdict) (shorter (goal.at.returns-in_default-clause-valued c).After-judge-verdict) c.in_default.is in  same _ _
 
 pub returns-in_default-clause-shown : goal.returns-in_default-clause-shown
 returns-in_default-clause-shown c =
     let j = c.judge-verdict.ensures in
-    let same = left j (sheets (goal.at.returns-in_default-clause-shown c).After-judge-verdict) (shorter (goal.at.returns-in_default-clause-shown c).After-judge-verdict) c.in_default.is in  ((j.answers (sheets (goal.at.returns-in_default-clause-shown c).After-judge-verdict) (shorter (goal.at.returns-in_default-clause-shown c).After-judge-verdict), (j.noted, (same _ _, (same _ _, λ h. equal_counts _ _ h _))))).3
+    let same = left j (sheets (goal.at.returns-in_default-clause-shown c).After-judge-verdict) (shorter (goal.at.returns-in_default-clause-shown c).After-judge-verdict) c.in_default.is in  same _ _
 
 pub returns-in_default-clause-secret : goal.returns-in_default-clause-secret
 returns-in_default-clause-secret c =
     let j = c.judge-verdict.ensures in
-    let same = left j (sheets (goal.at.returns-in_default-clause-secret c).After-judge-verdict) (shorter (goal.at.returns-in_default-clause-secret c).After-judge-verdict) c.in_default.is in  ((j.answers (sheets (goal.at.returns-in_default-clause-secret c).After-judge-verdict) (shorter (goal.at.returns-in_default-clause-secret c).After-judge-verdict), (j.noted, (same _ _, (same _ _, λ h. equal_counts _ _ h _))))).4
+    let same = left j (sheets (goal.at.returns-in_default-clause-secret c).After-judge-verdict) (shorter (goal.at.returns-in_default-clause-secret c).After-judge-verdict) c.in_default.is in  λ h. equal_counts _ _ h _
 
 pub fill-requires : goal.fill-requires
 fill-requires c = evaluable _ _ _ _ _ _ (passes (goal.at.fill-requires c).In-Accepted) (omega arith)
@@ -65,77 +65,32 @@ returns-clause-answered c =
     let j = c.judge-verdict.ensures in
     let a = c.args in
     let new = evaluated _ _ _ _ _ _ (passes (goal.at.returns-clause-answered c).In-Accepted) c.fill.ensures (omega arith) in
-    let read = c.show.ensures.is _ _ (bits a.shares.now) (bits a.tape.now) _ c.reach_stops.ensures new in  ((
-      sym (ap answer_of c.in-Accepted.is) ∙ j.answers (sheets (goal.at.returns-clause-answered c).After-judge-verdict) (shorter (goal.at.returns-clause-answered c).After-judge-verdict),
-      (
-        j.noted,
-        (
-          holds _ _ _ _ _ _ (passes (goal.at.returns-clause-answered c).In-Accepted) (λ (k : Circuit). bytes (values_of k.wires (bits a.shares.now) (bits a.tape.now))) a.values.now new,
-          (holds _ _ _ _ _ _ (passes (goal.at.returns-clause-answered c).In-Accepted) (λ (k : Circuit). reading_of k.wires a.probes.now (bits a.shares.now) (bits a.tape.now)) a.reading.now read, λ h. equal_counts _ _ h _),
-        ),
-      ),
-    )).0
+    let read = c.show.ensures.is _ _ (bits a.shares.now) (bits a.tape.now) _ c.reach_stops.ensures new in  sym (ap answer_of c.in-Accepted.is) ∙ j.answers (sheets (goal.at.returns-clause-answered c).After-judge-verdict) (shorter (goal.at.returns-clause-answered c).After-judge-verdict)
 
 pub returns-clause-noted : goal.returns-clause-noted
 returns-clause-noted c =
     let j = c.judge-verdict.ensures in
     let a = c.args in
     let new = evaluated _ _ _ _ _ _ (passes (goal.at.returns-clause-noted c).In-Accepted) c.fill.ensures (omega arith) in
-    let read = c.show.ensures.is _ _ (bits a.shares.now) (bits a.tape.now) _ c.reach_stops.ensures new in  ((
-      sym (ap answer_of c.in-Accepted.is) ∙ j.answers (sheets (goal.at.returns-clause-noted c).After-judge-verdict) (shorter (goal.at.returns-clause-noted c).After-judge-verdict),
-      (
-        j.noted,
-        (
-          holds _ _ _ _ _ _ (passes (goal.at.returns-clause-noted c).In-Accepted) (λ (k : Circuit). bytes (values_of k.wires (bits a.shares.now) (bits a.tape.now))) a.values.now new,
-          (holds _ _ _ _ _ _ (passes (goal.at.returns-clause-noted c).In-Accepted) (λ (k : Circuit). reading_of k.wires a.probes.now (bits a.shares.now) (bits a.tape.now)) a.reading.now read, λ h. equal_counts _ _ h _),
-        ),
-      ),
-    )).1
+    let read = c.show.ensures.is _ _ (bits a.shares.now) (bits a.tape.now) _ c.reach_stops.ensures new in  j.noted
 
 pub returns-clause-valued : goal.returns-clause-valued
 returns-clause-valued c =
     let j = c.judge-verdict.ensures in
     let a = c.args in
     let new = evaluated _ _ _ _ _ _ (passes (goal.at.returns-clause-valued c).In-Accepted) c.fill.ensures (omega arith) in
-    let read = c.show.ensures.is _ _ (bits a.shares.now) (bits a.tape.now) _ c.reach_stops.ensures new in  ((
-      sym (ap answer_of c.in-Accepted.is) ∙ j.answers (sheets (goal.at.returns-clause-valued c).After-judge-verdict) (shorter (goal.at.returns-clause-valued c).After-judge-verdict),
-      (
-        j.noted,
-        (
-          holds _ _ _ _ _ _ (passes (goal.at.returns-clause-valued c).In-Accepted) (λ (k : Circuit). bytes (values_of k.wires (bits a.shares.now) (bits a.tape.now))) a.values.now new,
-          (holds _ _ _ _ _ _ (passes (goal.at.returns-clause-valued c).In-Accepted) (λ (k : Circuit). reading_of k.wires a.probes.now (bits a.shares.now) (bits a.tape.now)) a.reading.now read, λ h. equal_counts _ _ h _),
-        ),
-      ),
-    )).2
+    let read = c.show.ensures.is _ _ (bits a.shares.now) (bits a.tape.now) _ c.reach_stops.ensures new in  holds _ _ _ _ _ _ (passes (goal.at.returns-clause-valued c).In-Accepted) (λ (k : Circuit). bytes (values_of k.wires (bits a.shares.now) (bits a.tape.now))) a.values.now new
 
 pub returns-clause-shown : goal.returns-clause-shown
 returns-clause-shown c =
     let j = c.judge-verdict.ensures in
     let a = c.args in
     let new = evaluated _ _ _ _ _ _ (passes (goal.at.returns-clause-shown c).In-Accepted) c.fill.ensures (omega arith) in
-    let read = c.show.ensures.is _ _ (bits a.shares.now) (bits a.tape.now) _ c.reach_stops.ensures new in  ((
-      sym (ap answer_of c.in-Accepted.is) ∙ j.answers (sheets (goal.at.returns-clause-shown c).After-judge-verdict) (shorter (goal.at.returns-clause-shown c).After-judge-verdict),
-      (
-        j.noted,
-        (
-          holds _ _ _ _ _ _ (passes (goal.at.returns-clause-shown c).In-Accepted) (λ (k : Circuit). bytes (values_of k.wires (bits a.shares.now) (bits a.tape.now))) a.values.now new,
-          (holds _ _ _ _ _ _ (passes (goal.at.returns-clause-shown c).In-Accepted) (λ (k : Circuit). reading_of k.wires a.probes.now (bits a.shares.now) (bits a.tape.now)) a.reading.now read, λ h. equal_counts _ _ h _),
-        ),
-      ),
-    )).3
+    let read = c.show.ensures.is _ _ (bits a.shares.now) (bits a.tape.now) _ c.reach_stops.ensures new in  holds _ _ _ _ _ _ (passes (goal.at.returns-clause-shown c).In-Accepted) (λ (k : Circuit). reading_of k.wires a.probes.now (bits a.shares.now) (bits a.tape.now)) a.reading.now read
 
 pub returns-clause-secret : goal.returns-clause-secret
 returns-clause-secret c =
     let j = c.judge-verdict.ensures in
     let a = c.args in
     let new = evaluated _ _ _ _ _ _ (passes (goal.at.returns-clause-secret c).In-Accepted) c.fill.ensures (omega arith) in
-    let read = c.show.ensures.is _ _ (bits a.shares.now) (bits a.tape.now) _ c.reach_stops.ensures new in  ((
-      sym (ap answer_of c.in-Accepted.is) ∙ j.answers (sheets (goal.at.returns-clause-secret c).After-judge-verdict) (shorter (goal.at.returns-clause-secret c).After-judge-verdict),
-      (
-        j.noted,
-        (
-          holds _ _ _ _ _ _ (passes (goal.at.returns-clause-secret c).In-Accepted) (λ (k : Circuit). bytes (values_of k.wires (bits a.shares.now) (bits a.tape.now))) a.values.now new,
-          (holds _ _ _ _ _ _ (passes (goal.at.returns-clause-secret c).In-Accepted) (λ (k : Circuit). reading_of k.wires a.probes.now (bits a.shares.now) (bits a.tape.now)) a.reading.now read, λ h. equal_counts _ _ h _),
-        ),
-      ),
-    )).4
+    let read = c.show.ensures.is _ _ (bits a.shares.now) (bits a.tape.now) _ c.reach_stops.ensures new in  λ h. equal_counts _ _ h _

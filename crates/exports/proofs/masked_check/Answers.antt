@@ -6,4 +6,4 @@ pub returns-clause-answered : goal.returns-clause-answered
 returns-clause-answered c = moved c.check-verdict.ensures.answered c.put.ensures
 
 pub returns-clause-noted : goal.returns-clause-noted
-returns-clause-noted c = c.check-verdict.ensures.noted.0
+returns-clause-noted c = c.check-verdict.ensures.noted

@@ -32,7 +32,7 @@ promised : (c : After-check-verdict) {j : Judgement} {told : Answer} → sharing
     → (told ≡ sharings_answer (table c) (notes c))
     × ((c.check-verdict.new.notes ≡ notes_after (circuit_of (table c) (notes c)) (notes c))
     × (sharings_rule (table c) (notes c) ≡ pass → IsPlainOf (table c) (circuit_of (table c) (notes c)) (whole_of (table c)).plain))
-promised c e tells = (tells ∙ sym (ap (answer (circuit_of (table c) (notes c))) e), (c.check-verdict.ensures.noted.0, plain_where (table c) (notes c)))
+promised c e tells = (tells ∙ sym (ap (answer (circuit_of (table c) (notes c))) e), (c.check-verdict.ensures.noted, plain_where (table c) (notes c)))
 
 passes : (v : In-Accepted) → (checked (table (view.up-After-check-verdict _ _ _ _ v.before.before.before.before)) (length (notes (view.up-After-check-verdict _ _ _ _ v.before.before.before.before)))).judgement ≡ pass
 passes v = (answer-pass (circuit_of (table (view.up-After-check-verdict _ _ _ _ v.before.before.before.before)) (notes (view.up-After-check-verdict _ _ _ _ v.before.before.before.before))) _ (sym (ap answer_of v.in-Accepted.is) ∙ v.check-verdict.ensures.answered)).0
@@ -51,29 +51,29 @@ pub returns-in_default-clause-answered : goal.returns-in_default-clause-answered
 returns-in_default-clause-answered c = let e = ap answer_of c.in_default.is in  (promised (goal.at.returns-in_default-clause-answered c).After-check-verdict (refuses (table (goal.at.returns-in_default-clause-answered c).After-check-verdict) (notes (goal.at.returns-in_default-clause-answered c).After-check-verdict) (answer-refused (circuit_of (table (goal.at.returns-in_default-clause-answered c).After-check-verdict) (notes (goal.at.returns-in_default-clause-answered c).After-check-verdict)) _ (sym e ∙ c.check-verdict.ensures.answered))) e).0
 
 pub returns-in_default-clause-noted : goal.returns-in_default-clause-noted
-returns-in_default-clause-noted c = let e = ap answer_of c.in_default.is in  (promised (goal.at.returns-in_default-clause-noted c).After-check-verdict (refuses (table (goal.at.returns-in_default-clause-noted c).After-check-verdict) (notes (goal.at.returns-in_default-clause-noted c).After-check-verdict) (answer-refused (circuit_of (table (goal.at.returns-in_default-clause-noted c).After-check-verdict) (notes (goal.at.returns-in_default-clause-noted c).After-check-verdict)) _ (sym e ∙ c.check-verdict.ensures.answered))) e).1
+returns-in_default-clause-noted c = let e = ap answer_of c.in_default.is in  (promised (goal.at.returns-in_default-clause-noted c).After-check-verdict (refuses (table (goal.at.returns-in_default-clause-noted c).After-check-verdict) (notes (goal.at.returns-in_default-clause-noted c).After-check-verdict) (answer-refused (circuit_of (table (goal.at.returns-in_default-clause-noted c).After-check-verdict) (notes (goal.at.returns-in_default-clause-noted c).After-check-verdict)) _ (sym e ∙ c.check-verdict.ensures.answered))) e).1.0
 
 pub returns-in_default-clause-plain : goal.returns-in_default-clause-plain
-returns-in_default-clause-plain c = let e = ap answer_of c.in_default.is in  (promised (goal.at.returns-in_default-clause-plain c).After-check-verdict (refuses (table (goal.at.returns-in_default-clause-plain c).After-check-verdict) (notes (goal.at.returns-in_default-clause-plain c).After-check-verdict) (answer-refused (circuit_of (table (goal.at.returns-in_default-clause-plain c).After-check-verdict) (notes (goal.at.returns-in_default-clause-plain c).After-check-verdict)) _ (sym e ∙ c.check-verdict.ensures.answered))) e).2
+returns-in_default-clause-plain c = let e = ap answer_of c.in_default.is in  (promised (goal.at.returns-in_default-clause-plain c).After-check-verdict (refuses (table (goal.at.returns-in_default-clause-plain c).After-check-verdict) (notes (goal.at.returns-in_default-clause-plain c).After-check-verdict) (answer-refused (circuit_of (table (goal.at.returns-in_default-clause-plain c).After-check-verdict) (notes (goal.at.returns-in_default-clause-plain c).After-check-verdict)) _ (sym e ∙ c.check-verdict.ensures.answered))) e).1.1
 
 pub first_misfit-frame-requires : goal.first_misfit-frame-requires
 first_misfit-frame-requires c = 
-    (least-notes (accepts (goal.at.first_misfit-frame-requires c).In-Accepted), subst (λ ns. Labels ns (circuit_in (table (goal.at.first_misfit-frame-requires c).After-check-verdict))) (sym c.check-verdict.ensures.noted.0) (labels-noted (table (goal.at.first_misfit-frame-requires c).After-check-verdict) (notes (goal.at.first_misfit-frame-requires c).After-check-verdict) (accepts (goal.at.first_misfit-frame-requires c).In-Accepted)))
+    (least-notes (accepts (goal.at.first_misfit-frame-requires c).In-Accepted), subst (λ ns. Labels ns (circuit_in (table (goal.at.first_misfit-frame-requires c).After-check-verdict))) (sym c.check-verdict.ensures.noted) (labels-noted (table (goal.at.first_misfit-frame-requires c).After-check-verdict) (notes (goal.at.first_misfit-frame-requires c).After-check-verdict) (accepts (goal.at.first_misfit-frame-requires c).In-Accepted)))
 
 pub returns-then-frame-ne0-clause-answered : goal.returns-then-frame-ne0-clause-answered
 returns-then-frame-ne0-clause-answered c = (promised (goal.at.returns-then-frame-ne0-clause-answered c).After-check-verdict (judged (goal.at.returns-then-frame-ne0-clause-answered c).After-first_misfit-frame (named-misfit _ (some c.first_misfit-frame.result c.if-frame-ne0.true))) refl).0
 
 pub returns-then-frame-ne0-clause-noted : goal.returns-then-frame-ne0-clause-noted
-returns-then-frame-ne0-clause-noted c = (promised (goal.at.returns-then-frame-ne0-clause-noted c).After-check-verdict (judged (goal.at.returns-then-frame-ne0-clause-noted c).After-first_misfit-frame (named-misfit _ (some c.first_misfit-frame.result c.if-frame-ne0.true))) refl).1
+returns-then-frame-ne0-clause-noted c = (promised (goal.at.returns-then-frame-ne0-clause-noted c).After-check-verdict (judged (goal.at.returns-then-frame-ne0-clause-noted c).After-first_misfit-frame (named-misfit _ (some c.first_misfit-frame.result c.if-frame-ne0.true))) refl).1.0
 
 pub returns-then-frame-ne0-clause-plain : goal.returns-then-frame-ne0-clause-plain
-returns-then-frame-ne0-clause-plain c = (promised (goal.at.returns-then-frame-ne0-clause-plain c).After-check-verdict (judged (goal.at.returns-then-frame-ne0-clause-plain c).After-first_misfit-frame (named-misfit _ (some c.first_misfit-frame.result c.if-frame-ne0.true))) refl).2
+returns-then-frame-ne0-clause-plain c = (promised (goal.at.returns-then-frame-ne0-clause-plain c).After-check-verdict (judged (goal.at.returns-then-frame-ne0-clause-plain c).After-first_misfit-frame (named-misfit _ (some c.first_misfit-frame.result c.if-frame-ne0.true))) refl).1.1
 
 pub returns-clause-answered : goal.returns-clause-answered
 returns-clause-answered c = (promised (goal.at.returns-clause-answered c).After-check-verdict (judged (goal.at.returns-clause-answered c).After-first_misfit-frame (ap misfit c.if-frame-ne0.false)) (c.check-verdict.ensures.answered ∙ ap (answer (circuit_of (table (goal.at.returns-clause-answered c).After-check-verdict) (notes (goal.at.returns-clause-answered c).After-check-verdict))) (passes (goal.at.returns-clause-answered c).In-Accepted))).0
 
 pub returns-clause-noted : goal.returns-clause-noted
-returns-clause-noted c = (promised (goal.at.returns-clause-noted c).After-check-verdict (judged (goal.at.returns-clause-noted c).After-first_misfit-frame (ap misfit c.if-frame-ne0.false)) (c.check-verdict.ensures.answered ∙ ap (answer (circuit_of (table (goal.at.returns-clause-noted c).After-check-verdict) (notes (goal.at.returns-clause-noted c).After-check-verdict))) (passes (goal.at.returns-clause-noted c).In-Accepted))).1
+returns-clause-noted c = (promised (goal.at.returns-clause-noted c).After-check-verdict (judged (goal.at.returns-clause-noted c).After-first_misfit-frame (ap misfit c.if-frame-ne0.false)) (c.check-verdict.ensures.answered ∙ ap (answer (circuit_of (table (goal.at.returns-clause-noted c).After-check-verdict) (notes (goal.at.returns-clause-noted c).After-check-verdict))) (passes (goal.at.returns-clause-noted c).In-Accepted))).1.0
 
 pub returns-clause-plain : goal.returns-clause-plain
-returns-clause-plain c = (promised (goal.at.returns-clause-plain c).After-check-verdict (judged (goal.at.returns-clause-plain c).After-first_misfit-frame (ap misfit c.if-frame-ne0.false)) (c.check-verdict.ensures.answered ∙ ap (answer (circuit_of (table (goal.at.returns-clause-plain c).After-check-verdict) (notes (goal.at.returns-clause-plain c).After-check-verdict))) (passes (goal.at.returns-clause-plain c).In-Accepted))).2
+returns-clause-plain c = (promised (goal.at.returns-clause-plain c).After-check-verdict (judged (goal.at.returns-clause-plain c).After-first_misfit-frame (ap misfit c.if-frame-ne0.false)) (c.check-verdict.ensures.answered ∙ ap (answer (circuit_of (table (goal.at.returns-clause-plain c).After-check-verdict) (notes (goal.at.returns-clause-plain c).After-check-verdict))) (passes (goal.at.returns-clause-plain c).In-Accepted))).1.1

@@ -67,7 +67,7 @@ read_frames-requires c =
     (c.requires, subst (Begun a.text.now (set (set a.table.now 0 0) 1 c.value-d.result) c.value-d.result) (sym c.limit-room.ensures) b, refl, refl)
 
 pub shape_of-table : goal.shape_of-table
-shape_of-table c = c.read_frames.auto.block.1.1.1.0 ∙ sized (goal.at.shape_of-table c).After-value-d
+shape_of-table c = c.read_frames.auto.table ∙ sized (goal.at.shape_of-table c).After-value-d
 
 pub returns-clause-answered : goal.returns-clause-answered
 returns-clause-answered c =

@@ -44,7 +44,7 @@ abbrev ends_in : After-split-lines → List ℕ
 ends_in c = c.split-lines.new.ends
 
 sized : (c : After-split-lines) → (length (block_in c) ≡ block_words) × (length (ends_in c) ≡ block_words)
-sized c = (c.split-lines.auto.ends.1.1.0 ∙ c.loop-at.invariant.1, c.split-lines.auto.ends.1.1.1.0 ∙ c.loop-at.invariant.2)
+sized c = (c.split-lines.auto.block ∙ c.loop-at.invariant.1, c.split-lines.auto.ends ∙ c.loop-at.invariant.2)
 
 lined : (c : After-split-lines) → Lines (ends_in c) c.split-lines.result
 lined c = let s = c.split-lines.ensures in record {

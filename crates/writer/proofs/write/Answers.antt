@@ -44,7 +44,7 @@ promised : (c : After-check-verdict) {j : Judgement} {told : TextAnswer} {new : 
 promised c e tells wrote = (
   tells ∙ sym (ap (answer (text_of (table c))) e),
   (
-    c.check-verdict.ensures.noted.0,
+    c.check-verdict.ensures.noted,
     (
       wrote ∙ sym (ap (λ (j : Judgement). written j (text_of (table c)) (text c)) e),
       (λ h. reads_back (small c) (sound (table c) _ h), only_text (table c)),
@@ -66,22 +66,22 @@ returns-in_default-clause-answered c =
 pub returns-in_default-clause-noted : goal.returns-in_default-clause-noted
 returns-in_default-clause-noted c =
     let e = c.in_default.is in  (promised (goal.at.returns-in_default-clause-noted c).After-check-verdict (refuses (table (goal.at.returns-in_default-clause-noted c).After-check-verdict) (notes (goal.at.returns-in_default-clause-noted c).After-check-verdict) (text (goal.at.returns-in_default-clause-noted c).After-check-verdict) (answer-refused (circuit_of (table (goal.at.returns-in_default-clause-noted c).After-check-verdict) (notes (goal.at.returns-in_default-clause-noted c).After-check-verdict)) _ (sym (ap answer_of e) ∙ c.check-verdict.ensures.answered)))
-    (c.refused.ensures ∙ ap (λ v. refusal_in (answer_of v)) e) refl).1
+    (c.refused.ensures ∙ ap (λ v. refusal_in (answer_of v)) e) refl).1.0
 
 pub returns-in_default-clause-written : goal.returns-in_default-clause-written
 returns-in_default-clause-written c =
     let e = c.in_default.is in  (promised (goal.at.returns-in_default-clause-written c).After-check-verdict (refuses (table (goal.at.returns-in_default-clause-written c).After-check-verdict) (notes (goal.at.returns-in_default-clause-written c).After-check-verdict) (text (goal.at.returns-in_default-clause-written c).After-check-verdict) (answer-refused (circuit_of (table (goal.at.returns-in_default-clause-written c).After-check-verdict) (notes (goal.at.returns-in_default-clause-written c).After-check-verdict)) _ (sym (ap answer_of e) ∙ c.check-verdict.ensures.answered)))
-    (c.refused.ensures ∙ ap (λ v. refusal_in (answer_of v)) e) refl).2
+    (c.refused.ensures ∙ ap (λ v. refusal_in (answer_of v)) e) refl).1.1.0
 
 pub returns-in_default-clause-reads_back : goal.returns-in_default-clause-reads_back
 returns-in_default-clause-reads_back c =
     let e = c.in_default.is in  (promised (goal.at.returns-in_default-clause-reads_back c).After-check-verdict (refuses (table (goal.at.returns-in_default-clause-reads_back c).After-check-verdict) (notes (goal.at.returns-in_default-clause-reads_back c).After-check-verdict) (text (goal.at.returns-in_default-clause-reads_back c).After-check-verdict) (answer-refused (circuit_of (table (goal.at.returns-in_default-clause-reads_back c).After-check-verdict) (notes (goal.at.returns-in_default-clause-reads_back c).After-check-verdict)) _ (sym (ap answer_of e) ∙ c.check-verdict.ensures.answered)))
-    (c.refused.ensures ∙ ap (λ v. refusal_in (answer_of v)) e) refl).3
+    (c.refused.ensures ∙ ap (λ v. refusal_in (answer_of v)) e) refl).1.1.1.0
 
 pub returns-in_default-clause-only_text : goal.returns-in_default-clause-only_text
 returns-in_default-clause-only_text c =
     let e = c.in_default.is in  (promised (goal.at.returns-in_default-clause-only_text c).After-check-verdict (refuses (table (goal.at.returns-in_default-clause-only_text c).After-check-verdict) (notes (goal.at.returns-in_default-clause-only_text c).After-check-verdict) (text (goal.at.returns-in_default-clause-only_text c).After-check-verdict) (answer-refused (circuit_of (table (goal.at.returns-in_default-clause-only_text c).After-check-verdict) (notes (goal.at.returns-in_default-clause-only_text c).After-check-verdict)) _ (sym (ap answer_of e) ∙ c.check-verdict.ensures.answered)))
-    (c.refused.ensures ∙ ap (λ v. refusal_in (answer_of v)) e) refl).4
+    (c.refused.ensures ∙ ap (λ v. refusal_in (answer_of v)) e) refl).1.1.1.1
 
 pub overflow_mul-bytes : goal.overflow_mul-bytes
 overflow_mul-bytes c = omega (arith, (accepts (goal.at.overflow_mul-bytes c).In-Accepted).short)
@@ -90,16 +90,16 @@ pub returns-then-text-bytes-clause-answered : goal.returns-then-text-bytes-claus
 returns-then-text-bytes-clause-answered c = (promised (goal.at.returns-then-text-bytes-clause-answered c).After-check-verdict (short (table (goal.at.returns-then-text-bytes-clause-answered c).After-check-verdict) (notes (goal.at.returns-then-text-bytes-clause-answered c).After-check-verdict) (text (goal.at.returns-then-text-bytes-clause-answered c).After-check-verdict) (passes (goal.at.returns-then-text-bytes-clause-answered c).In-Accepted) c.if-text-bytes.true) refl refl).0
 
 pub returns-then-text-bytes-clause-noted : goal.returns-then-text-bytes-clause-noted
-returns-then-text-bytes-clause-noted c = (promised (goal.at.returns-then-text-bytes-clause-noted c).After-check-verdict (short (table (goal.at.returns-then-text-bytes-clause-noted c).After-check-verdict) (notes (goal.at.returns-then-text-bytes-clause-noted c).After-check-verdict) (text (goal.at.returns-then-text-bytes-clause-noted c).After-check-verdict) (passes (goal.at.returns-then-text-bytes-clause-noted c).In-Accepted) c.if-text-bytes.true) refl refl).1
+returns-then-text-bytes-clause-noted c = (promised (goal.at.returns-then-text-bytes-clause-noted c).After-check-verdict (short (table (goal.at.returns-then-text-bytes-clause-noted c).After-check-verdict) (notes (goal.at.returns-then-text-bytes-clause-noted c).After-check-verdict) (text (goal.at.returns-then-text-bytes-clause-noted c).After-check-verdict) (passes (goal.at.returns-then-text-bytes-clause-noted c).In-Accepted) c.if-text-bytes.true) refl refl).1.0
 
 pub returns-then-text-bytes-clause-written : goal.returns-then-text-bytes-clause-written
-returns-then-text-bytes-clause-written c = (promised (goal.at.returns-then-text-bytes-clause-written c).After-check-verdict (short (table (goal.at.returns-then-text-bytes-clause-written c).After-check-verdict) (notes (goal.at.returns-then-text-bytes-clause-written c).After-check-verdict) (text (goal.at.returns-then-text-bytes-clause-written c).After-check-verdict) (passes (goal.at.returns-then-text-bytes-clause-written c).In-Accepted) c.if-text-bytes.true) refl refl).2
+returns-then-text-bytes-clause-written c = (promised (goal.at.returns-then-text-bytes-clause-written c).After-check-verdict (short (table (goal.at.returns-then-text-bytes-clause-written c).After-check-verdict) (notes (goal.at.returns-then-text-bytes-clause-written c).After-check-verdict) (text (goal.at.returns-then-text-bytes-clause-written c).After-check-verdict) (passes (goal.at.returns-then-text-bytes-clause-written c).In-Accepted) c.if-text-bytes.true) refl refl).1.1.0
 
 pub returns-then-text-bytes-clause-reads_back : goal.returns-then-text-bytes-clause-reads_back
-returns-then-text-bytes-clause-reads_back c = (promised (goal.at.returns-then-text-bytes-clause-reads_back c).After-check-verdict (short (table (goal.at.returns-then-text-bytes-clause-reads_back c).After-check-verdict) (notes (goal.at.returns-then-text-bytes-clause-reads_back c).After-check-verdict) (text (goal.at.returns-then-text-bytes-clause-reads_back c).After-check-verdict) (passes (goal.at.returns-then-text-bytes-clause-reads_back c).In-Accepted) c.if-text-bytes.true) refl refl).3
+returns-then-text-bytes-clause-reads_back c = (promised (goal.at.returns-then-text-bytes-clause-reads_back c).After-check-verdict (short (table (goal.at.returns-then-text-bytes-clause-reads_back c).After-check-verdict) (notes (goal.at.returns-then-text-bytes-clause-reads_back c).After-check-verdict) (text (goal.at.returns-then-text-bytes-clause-reads_back c).After-check-verdict) (passes (goal.at.returns-then-text-bytes-clause-reads_back c).In-Accepted) c.if-text-bytes.true) refl refl).1.1.1.0
 
 pub returns-then-text-bytes-clause-only_text : goal.returns-then-text-bytes-clause-only_text
-returns-then-text-bytes-clause-only_text c = (promised (goal.at.returns-then-text-bytes-clause-only_text c).After-check-verdict (short (table (goal.at.returns-then-text-bytes-clause-only_text c).After-check-verdict) (notes (goal.at.returns-then-text-bytes-clause-only_text c).After-check-verdict) (text (goal.at.returns-then-text-bytes-clause-only_text c).After-check-verdict) (passes (goal.at.returns-then-text-bytes-clause-only_text c).In-Accepted) c.if-text-bytes.true) refl refl).4
+returns-then-text-bytes-clause-only_text c = (promised (goal.at.returns-then-text-bytes-clause-only_text c).After-check-verdict (short (table (goal.at.returns-then-text-bytes-clause-only_text c).After-check-verdict) (notes (goal.at.returns-then-text-bytes-clause-only_text c).After-check-verdict) (text (goal.at.returns-then-text-bytes-clause-only_text c).After-check-verdict) (passes (goal.at.returns-then-text-bytes-clause-only_text c).In-Accepted) c.if-text-bytes.true) refl refl).1.1.1.1
 
 pub write_text-requires : goal.write_text-requires
 write_text-requires c = (least-notes (accepts (goal.at.write_text-requires c).In-Accepted), omega arith)
@@ -108,13 +108,13 @@ pub returns-clause-answered : goal.returns-clause-answered
 returns-clause-answered c = (promised (goal.at.returns-clause-answered c).After-check-verdict (fits (table (goal.at.returns-clause-answered c).After-check-verdict) (notes (goal.at.returns-clause-answered c).After-check-verdict) (text (goal.at.returns-clause-answered c).After-check-verdict) (passes (goal.at.returns-clause-answered c).In-Accepted) (omega arith)) (ap accepted (sym (text_length (table (goal.at.returns-clause-answered c).After-check-verdict)))) c.write_text.ensures).0
 
 pub returns-clause-noted : goal.returns-clause-noted
-returns-clause-noted c = (promised (goal.at.returns-clause-noted c).After-check-verdict (fits (table (goal.at.returns-clause-noted c).After-check-verdict) (notes (goal.at.returns-clause-noted c).After-check-verdict) (text (goal.at.returns-clause-noted c).After-check-verdict) (passes (goal.at.returns-clause-noted c).In-Accepted) (omega arith)) (ap accepted (sym (text_length (table (goal.at.returns-clause-noted c).After-check-verdict)))) c.write_text.ensures).1
+returns-clause-noted c = (promised (goal.at.returns-clause-noted c).After-check-verdict (fits (table (goal.at.returns-clause-noted c).After-check-verdict) (notes (goal.at.returns-clause-noted c).After-check-verdict) (text (goal.at.returns-clause-noted c).After-check-verdict) (passes (goal.at.returns-clause-noted c).In-Accepted) (omega arith)) (ap accepted (sym (text_length (table (goal.at.returns-clause-noted c).After-check-verdict)))) c.write_text.ensures).1.0
 
 pub returns-clause-written : goal.returns-clause-written
-returns-clause-written c = (promised (goal.at.returns-clause-written c).After-check-verdict (fits (table (goal.at.returns-clause-written c).After-check-verdict) (notes (goal.at.returns-clause-written c).After-check-verdict) (text (goal.at.returns-clause-written c).After-check-verdict) (passes (goal.at.returns-clause-written c).In-Accepted) (omega arith)) (ap accepted (sym (text_length (table (goal.at.returns-clause-written c).After-check-verdict)))) c.write_text.ensures).2
+returns-clause-written c = (promised (goal.at.returns-clause-written c).After-check-verdict (fits (table (goal.at.returns-clause-written c).After-check-verdict) (notes (goal.at.returns-clause-written c).After-check-verdict) (text (goal.at.returns-clause-written c).After-check-verdict) (passes (goal.at.returns-clause-written c).In-Accepted) (omega arith)) (ap accepted (sym (text_length (table (goal.at.returns-clause-written c).After-check-verdict)))) c.write_text.ensures).1.1.0
 
 pub returns-clause-reads_back : goal.returns-clause-reads_back
-returns-clause-reads_back c = (promised (goal.at.returns-clause-reads_back c).After-check-verdict (fits (table (goal.at.returns-clause-reads_back c).After-check-verdict) (notes (goal.at.returns-clause-reads_back c).After-check-verdict) (text (goal.at.returns-clause-reads_back c).After-check-verdict) (passes (goal.at.returns-clause-reads_back c).In-Accepted) (omega arith)) (ap accepted (sym (text_length (table (goal.at.returns-clause-reads_back c).After-check-verdict)))) c.write_text.ensures).3
+returns-clause-reads_back c = (promised (goal.at.returns-clause-reads_back c).After-check-verdict (fits (table (goal.at.returns-clause-reads_back c).After-check-verdict) (notes (goal.at.returns-clause-reads_back c).After-check-verdict) (text (goal.at.returns-clause-reads_back c).After-check-verdict) (passes (goal.at.returns-clause-reads_back c).In-Accepted) (omega arith)) (ap accepted (sym (text_length (table (goal.at.returns-clause-reads_back c).After-check-verdict)))) c.write_text.ensures).1.1.1.0
 
 pub returns-clause-only_text : goal.returns-clause-only_text
-returns-clause-only_text c = (promised (goal.at.returns-clause-only_text c).After-check-verdict (fits (table (goal.at.returns-clause-only_text c).After-check-verdict) (notes (goal.at.returns-clause-only_text c).After-check-verdict) (text (goal.at.returns-clause-only_text c).After-check-verdict) (passes (goal.at.returns-clause-only_text c).In-Accepted) (omega arith)) (ap accepted (sym (text_length (table (goal.at.returns-clause-only_text c).After-check-verdict)))) c.write_text.ensures).4
+returns-clause-only_text c = (promised (goal.at.returns-clause-only_text c).After-check-verdict (fits (table (goal.at.returns-clause-only_text c).After-check-verdict) (notes (goal.at.returns-clause-only_text c).After-check-verdict) (text (goal.at.returns-clause-only_text c).After-check-verdict) (passes (goal.at.returns-clause-only_text c).In-Accepted) (omega arith)) (ap accepted (sym (text_length (table (goal.at.returns-clause-only_text c).After-check-verdict)))) c.write_text.ensures).1.1.1.1

@@ -9,11 +9,11 @@ draws-requires c = omega (arith, pairs_twice c.args.d)
 
 pub share_products-requires : goal.share_products-requires
 share_products-requires c = let p = c.requires in
-    (p.0, p.1, p.2, p.3, omega (arith, p.4, c.draws.auto.0), omega (arith, p.5, c.draws.auto.1.0))
+    (p.0, p.1, p.2, p.3, omega (arith, p.4, c.draws.auto.values), omega (arith, p.5, c.draws.auto.bank))
 
 pub cross_all-requires : goal.cross_all-requires
 cross_all-requires c = let p = c.requires in
-    (p.0, p.1, p.2, p.3, omega (arith, p.4, c.draws.auto.0, c.share_products.auto.0), omega (arith, p.5, c.draws.auto.1.0, c.share_products.auto.1.0))
+    (p.0, p.1, p.2, p.3, omega (arith, p.4, c.draws.auto.values, c.share_products.auto.values), omega (arith, p.5, c.draws.auto.bank, c.share_products.auto.bank))
 
 pub returns : goal.returns
 returns c = 

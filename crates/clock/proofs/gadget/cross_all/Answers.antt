@@ -40,18 +40,18 @@ cross_row-lower-requires c = let p = c.requires in (p.0, c.loop-i-test.true, ome
 
 pub cross_row-sum-requires : goal.cross_row-sum-requires
 cross_row-sum-requires c = let p = c.requires in
-    (p.0, c.loop-i-test.true, omega arith, p.1, p.3, omega (arith, rooms (goal.at.cross_row-sum-requires c).In-loop-i, c.cross_row-lower.auto.0), omega (arith, rooms (goal.at.cross_row-sum-requires c).In-loop-i, c.cross_row-lower.auto.1.0), (λ j l u e. omega arith), omega arith)
+    (p.0, c.loop-i-test.true, omega arith, p.1, p.3, omega (arith, rooms (goal.at.cross_row-sum-requires c).In-loop-i, c.cross_row-lower.auto.values), omega (arith, rooms (goal.at.cross_row-sum-requires c).In-loop-i, c.cross_row-lower.auto.bank), (λ j l u e. omega arith), omega arith)
 
 pub out_at-requires : goal.out_at-requires
 out_at-requires c = (c.requires.0, c.loop-i-test.true)
 
 pub bounds-values-out_at : goal.bounds-values-out_at
-bounds-values-out_at c = omega (arith, c.out_at.ensures.0, rooms (goal.at.bounds-values-out_at c).In-loop-i, c.cross_row-sum.auto.0, c.cross_row-lower.auto.0)
+bounds-values-out_at c = omega (arith, c.out_at.ensures.0, rooms (goal.at.bounds-values-out_at c).In-loop-i, c.cross_row-sum.auto.values, c.cross_row-lower.auto.values)
 
 pub loop-i-preserved : goal.loop-i-preserved
 loop-i-preserved c =
     rows_turn c.loop-i.invariant c.loop-i-test.true (rooms (goal.at.loop-i-preserved c).In-loop-i).early (rooms (goal.at.loop-i-preserved c).In-loop-i).room _ _ _ c.word_a.ensures (ap (λ n. n + 2) c.product_at.ensures.0) c.out_at.ensures.0 c.cross_row-lower.ensures c.cross_row-sum.ensures
-    (c.cross_row-sum.auto.0 ∙ c.cross_row-lower.auto.0) (c.cross_row-sum.auto.1.0 ∙ c.cross_row-lower.auto.1.0)
+    (c.cross_row-sum.auto.values ∙ c.cross_row-lower.auto.values) (c.cross_row-sum.auto.bank ∙ c.cross_row-lower.auto.bank)
 
 pub shape_of-values : goal.shape_of-values
 shape_of-values c = c.loop-i.invariant.sized

@@ -56,7 +56,7 @@ cross-sum-requires c = omega (arith, c.cross_at.ensures.0, (site (goal.at.cross-
 pub loop-j-preserved : goal.loop-j-preserved
 loop-j-preserved c =
     let p = c.requires in
-    row_turn c.loop-j.invariant p.0.2 p.1 p.2 p.7 p.4 c.loop-j-test.true _ _ _ c.cross_at.ensures.0 c.pair_at-pair.ensures.0 c.word_b.ensures c.cross-sum.ensures c.cross-sum.auto.0 c.cross-sum.auto.1.0
+    row_turn c.loop-j.invariant p.0.2 p.1 p.2 p.7 p.4 c.loop-j-test.true _ _ _ c.cross_at.ensures.0 c.pair_at-pair.ensures.0 c.word_b.ensures c.cross-sum.ensures c.cross-sum.auto.values c.cross-sum.auto.bank
 
 pub shape_of-values : goal.shape_of-values
 shape_of-values c = c.loop-j.invariant.sized

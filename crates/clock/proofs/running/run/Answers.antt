@@ -9,7 +9,7 @@ copy-requires c = omega (arith, c.requires.0.0.roomy, c.requires.0.1)
 pub run_frames-requires : goal.run_frames-requires
 run_frames-requires c = 
     let e = c.requires.0.0 in
-    (record { accepted = e.accepted; shared = e.shared; drawn = e.drawn; roomy = omega (arith, e.roomy, c.copy.auto.0) }, c.requires.0.1)
+    (record { accepted = e.accepted; shared = e.shared; drawn = e.drawn; roomy = omega (arith, e.roomy, c.copy.auto.values) }, c.requires.0.1)
 
 pub returns : goal.returns
 returns c = 

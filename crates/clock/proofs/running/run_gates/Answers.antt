@@ -59,10 +59,10 @@ run_gate-requires c =
     (_, _, (told (goal.at.run_gate-requires c).In-Next).early, omega (arith, room_in t.walked same (told (goal.at.run_gate-requires c).In-Next), t.sized), held_room t same (told (goal.at.run_gate-requires c).In-Next))
 
 pub shape_of-values-then-not-run_gate : goal.shape_of-values-then-not-run_gate
-shape_of-values-then-not-run_gate c = c.run_gate.auto.0 ∙ (sized (goal.at.shape_of-values-then-not-run_gate c).At-loop-frame).0
+shape_of-values-then-not-run_gate c = c.run_gate.auto.values ∙ (sized (goal.at.shape_of-values-then-not-run_gate c).At-loop-frame).0
 
 pub shape_of-bank-then-not-run_gate : goal.shape_of-bank-then-not-run_gate
-shape_of-bank-then-not-run_gate c = c.run_gate.auto.1.0 ∙ (sized (goal.at.shape_of-bank-then-not-run_gate c).At-loop-frame).1
+shape_of-bank-then-not-run_gate c = c.run_gate.auto.bank ∙ (sized (goal.at.shape_of-bank-then-not-run_gate c).At-loop-frame).1
 
 pub returns-then-not-run_gate : goal.returns-then-not-run_gate
 returns-then-not-run_gate c = let no = not-true c.run_gate.result (ap not c.if-not-run_gate.true) in rw (c.run_gate.ensures.left no, c.run_gate.ensures.held_left no) c.loop-frame.invariant

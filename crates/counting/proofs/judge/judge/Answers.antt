@@ -41,7 +41,7 @@ Comes c j = let a = c.args in first_rules a.table.now a.notes.now a.secrets.now 
 
 judged : (c : After-check-verdict) {r : Verdict} {j : Judgement} → answer_of r ≡ answer (k c) j → Comes c j → InputsAre r (k c).inputs
     → let a = c.args in Judged a.table.now a.notes.now a.secrets.now a.probes.now a.room c.check-verdict.new.notes r
-judged c e h n = record { answers = e ∙ sym (ap (answer (k c)) h); noted = c.check-verdict.ensures.noted.0; inputs = n }
+judged c e h n = record { answers = e ∙ sym (ap (answer (k c)) h); noted = c.check-verdict.ensures.noted; inputs = n }
 
 -- a refusal of the call's own
 refuses : (c : After-check-verdict) {r : Verdict} {rule word : ℕ} → answer_of r ≡ refused rule 0 word → Comes c (refuse rule 0 word)
@@ -59,7 +59,7 @@ record Numbers (v : In-Accepted) : Type 0 where
 numbers : (v : In-Accepted) → Numbers v
 numbers v =
     let (p, wires, randoms) = answer-pass (k (view.up-After-check-verdict _ _ _ _ v.before.before.before.before)) _ (sym (ap answer_of v.in-Accepted.is) ∙ v.check-verdict.ensures.answered) in
-    record { passes = p; of = taken _ _ p; of' = small _ _ _ _ (taken _ _ p); wires = wires; randoms = randoms; inputs = subst (λ (r : Verdict). InputsAre r (k (view.up-After-check-verdict _ _ _ _ v.before.before.before.before)).inputs) v.in-Accepted.is v.check-verdict.ensures.noted.1 }
+    record { passes = p; of = taken _ _ p; of' = small _ _ _ _ (taken _ _ p); wires = wires; randoms = randoms; inputs = subst (λ (r : Verdict). InputsAre r (k (view.up-After-check-verdict _ _ _ _ v.before.before.before.before)).inputs) v.in-Accepted.is v.check-verdict.ensures.inputs }
 
 -- what is left from each rule on
 abbrev left24 : After-check-verdict → Judgement
@@ -108,7 +108,7 @@ pub returns-in_default : goal.returns-in_default
 returns-in_default c =
     
     let a = c.args in
-    record { answers = ap answer_of c.in_default.is ∙ checker_refuses a.table.now a.notes.now a.secrets.now a.probes.now a.room (sym (ap answer_of c.in_default.is) ∙ c.check-verdict.ensures.answered); noted = c.check-verdict.ensures.noted.0; inputs = c.check-verdict.ensures.noted.1 }
+    record { answers = ap answer_of c.in_default.is ∙ checker_refuses a.table.now a.notes.now a.secrets.now a.probes.now a.room (sym (ap answer_of c.in_default.is) ∙ c.check-verdict.ensures.answered); noted = c.check-verdict.ensures.noted; inputs = c.check-verdict.ensures.inputs }
 
 pub overflow_mul-inputs : goal.overflow_mul-inputs
 overflow_mul-inputs c = omega (arith, (numbers (goal.at.overflow_mul-inputs c).In-Accepted).inputs, (numbers (goal.at.overflow_mul-inputs c).In-Accepted).of'.inputs)

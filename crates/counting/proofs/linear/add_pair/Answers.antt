@@ -14,10 +14,10 @@ pub add_two-requires-2 : goal.add_two-requires-2
 add_two-requires-2 c = let p = c.requires.1 in (p.inside, p.other, p.few (omega (arith, c.if-other-n.false)))
 
 pub shape_of-first : goal.shape_of-first
-shape_of-first c = c.add_two.auto.0
+shape_of-first c = c.add_two.auto.tally
 
 pub shape_of-second : goal.shape_of-second
-shape_of-second c = c.add_two-2.auto.0
+shape_of-second c = c.add_two-2.auto.tally
 
 pub returns : goal.returns
 returns c = rw (lt-leb _ _ c.if-other-n.false) (c.add_two.ensures, c.add_two-2.ensures)

@@ -27,7 +27,7 @@ prepared c =
       countable = set-countable n.numbered a.secrets.now n.sized n.bit;
       planned = c.plan_pairs-plan.ensures;
       read_in = n.read_in;
-      room = omega (arith, n.wires_are, room, c.prepare-outputs.auto.1.1.1.1.1.1.0);
+      room = omega (arith, n.wires_are, room, c.prepare-outputs.auto.sums);
       sized = n.sized ∙ omega (arith, m);
       bit = n.bit;
       terms_sized = sized;
@@ -95,8 +95,8 @@ write_list-requires c =
     let k = c.power-combinations.ensures.0 in
     let (one, other) = c.tally_both.ensures a.table.now a.secrets.now (prepared (goal.at.write_list-requires c).After-prepare-outputs) in (
       omega (arith, k, most),
-      omega (arith, k, first.room, c.tally_both.auto.1.1.1.1.1.1.1.0),
-      omega (arith, k, second.room, c.tally_both.auto.1.1.1.1.1.1.1.1.0),
+      omega (arith, k, first.room, c.tally_both.auto.first),
+      omega (arith, k, second.room, c.tally_both.auto.second),
       omega (arith, k, most, n.room),
       c.power-pairs.ensures.0,
       free_few (goal.at.write_list-requires c).After-plan_pairs-plan,
@@ -105,13 +105,13 @@ write_list-requires c =
     )
 
 pub shape_of-sums : goal.shape_of-sums
-shape_of-sums c = c.prepare-outputs.auto.1.1.1.1.1.1.0
+shape_of-sums c = c.prepare-outputs.auto.sums
 
 pub shape_of-one : goal.shape_of-one
-shape_of-one c = c.tally_both.auto.1.1.1.1.1.1.1.0
+shape_of-one c = c.tally_both.auto.first
 
 pub shape_of-other : goal.shape_of-other
-shape_of-other c = c.tally_both.auto.1.1.1.1.1.1.1.1.0
+shape_of-other c = c.tally_both.auto.second
 
 pub returns : goal.returns
 returns c =

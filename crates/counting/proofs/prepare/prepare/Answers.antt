@@ -85,4 +85,4 @@ returns c =
       ← sharing_is c.requires.0 c.requires.1 c.requires.3 free lasts c.complete.ensures,
       ← tape_is c.requires.0 c.requires.1 c.requires.3 free lasts c.complete.ensures,
     )
-    (c.expand.ensures, c.expand.auto.1.1.1.1.1.1.0 ∙ ap length c.requires.7)
+    (c.expand.ensures, c.expand.auto.terms ∙ ap length c.requires.7)

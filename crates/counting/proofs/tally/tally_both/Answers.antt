@@ -14,10 +14,10 @@ fold-requires c = let (r, e, sv, y, z) = c.requires in let p = r.prepared in let
     ((sizes (p.countable false) p.planned).few, readable p, foldable p sv false one, foldable p sv true other)
 
 pub shape_of-first : goal.shape_of-first
-shape_of-first c = c.fold.auto.1.1.1.1.1.0 ∙ c.tally_some.auto.1.1.1.1.1.1.1.0
+shape_of-first c = c.fold.auto.first ∙ c.tally_some.auto.first
 
 pub shape_of-second : goal.shape_of-second
-shape_of-second c = c.fold.auto.1.1.1.1.1.1.0 ∙ c.tally_some.auto.1.1.1.1.1.1.1.1.0
+shape_of-second c = c.fold.auto.second ∙ c.tally_some.auto.second
 
 pub returns : goal.returns
 returns c = let (r, e, sv, y, z) = c.requires in λ table secrets p. let (one, other) = c.tally_some.ensures table secrets p in let (folds, others) = c.fold.ensures in

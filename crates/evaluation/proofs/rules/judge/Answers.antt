@@ -41,7 +41,7 @@ Comes c j = let a = c.args in (sheets : List (List ℕ)) → Shortest a.room she
 
 judged : (c : After-check-verdict) {r : Verdict} {j : Judgement} → answer_of r ≡ answer (k c) j → Comes c j
     → let a = c.args in Judged a.table.now a.notes.now a.shares.now a.tape.now a.probes.now a.room c.check-verdict.new.notes r
-judged c e h = record { answers = λ sheets s. e ∙ sym (ap (answer (k c)) (h sheets s)); noted = c.check-verdict.ensures.noted.0 }
+judged c e h = record { answers = λ sheets s. e ∙ sym (ap (answer (k c)) (h sheets s)); noted = c.check-verdict.ensures.noted }
 
 record Numbers (v : In-Accepted) : Type 0 where
   passes : (checked v.args.table.now (length v.args.notes.now)).judgement ≡ pass
@@ -54,7 +54,7 @@ numbers : (v : In-Accepted) → Numbers v
 numbers v =
     let (p, wires, randoms) = answer-pass (k (view.up-After-check-verdict _ _ _ _ v.before.before.before.before)) _ (sym (ap answer_of v.in-Accepted.is) ∙ v.check-verdict.ensures.answered) in
     let t = taken _ _ p in
-    record { passes = p; of = t; wires = wires; randoms = randoms; shares = ap₂ (λ x y. x * y) (subst (λ (r : Verdict). InputsAre r (k (view.up-After-check-verdict _ _ _ _ v.before.before.before.before)).inputs) v.in-Accepted.is v.check-verdict.ensures.noted.1) t.d_is }
+    record { passes = p; of = t; wires = wires; randoms = randoms; shares = ap₂ (λ x y. x * y) (subst (λ (r : Verdict). InputsAre r (k (view.up-After-check-verdict _ _ _ _ v.before.before.before.before)).inputs) v.in-Accepted.is v.check-verdict.ensures.inputs) t.d_is }
 
 -- what is left from each rule on
 abbrev left19 : After-check-verdict → Judgement
@@ -107,7 +107,7 @@ by_probe c sheets s =
 pub returns-in_default : goal.returns-in_default
 returns-in_default c =
     
-    record { answers = λ sheets h. ap answer_of c.in_default.is ∙ refused-first _ _ (shares (goal.at.returns-in_default c).After-check-verdict) (tape (goal.at.returns-in_default c).After-check-verdict) sheets (probes (goal.at.returns-in_default c).After-check-verdict) (sym (ap answer_of c.in_default.is) ∙ c.check-verdict.ensures.answered); noted = c.check-verdict.ensures.noted.0 }
+    record { answers = λ sheets h. ap answer_of c.in_default.is ∙ refused-first _ _ (shares (goal.at.returns-in_default c).After-check-verdict) (tape (goal.at.returns-in_default c).After-check-verdict) sheets (probes (goal.at.returns-in_default c).After-check-verdict) (sym (ap answer_of c.in_default.is) ∙ c.check-verdict.ensures.answered); noted = c.check-verdict.ensures.noted }
 
 pub bounds-table-1 : goal.bounds-table-1
 bounds-table-1 c = omega (arith, headed (numbers (goal.at.bounds-table-1 c).In-Accepted).of.accepted)

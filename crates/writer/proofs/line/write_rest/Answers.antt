@@ -12,7 +12,7 @@ pub loop-i-preserved : goal.loop-i-preserved
 loop-i-preserved c =
     let a = c.args in (
       omega arith,
-      c.write_word.auto.1.1.0 ∙ c.loop-i.invariant.1,
+      c.write_word.auto.text ∙ c.loop-i.invariant.1,
       c.loop-i.invariant.2 ∙ words_turn c.loop-i.text a.table.now c.loop-i.i a.to (omega arith) (omega arith) c.write_word.ensures,
     )
 
