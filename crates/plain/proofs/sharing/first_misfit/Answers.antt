@@ -12,7 +12,7 @@ use Rattle.frames.specs.Walk.{step_at}
 use Rattle.gadgets.proofs.Walking.{headed, second_word, given_bits}
 use Rattle.plain.proofs.Walked.{WholeTo, whole_start, Turn, Further, Meets, turn}
 use Rattle.plain.proofs.sharing.first_misfit.Goals as goal
-use Rattle.plain.proofs.sharing.first_misfit.Goals.{After-fits, After-frames_further-further, After-step-step, At-loop-frame, Else-not-fits, In-Next}
+use Rattle.plain.proofs.sharing.first_misfit.Goals.{After-frames_further-further, After-step-step, At-loop-frame, Else-not-fits, In-Next}
 use Rattle.plain.proofs.sharing.first_misfit.Lts.View as view
 use mathlib.Core.Bool.{not}
 
@@ -31,9 +31,6 @@ found c e = turn (walked (view.up-At-loop-frame _ _ _ _ _ c.before.before)) c.re
 met : (c : In-Next) → Turn (walked (view.up-At-loop-frame _ _ _ _ _ c.before.before.before)) c.requires.1 (nth c.args.table.now 1) c.in-Next.frame c.in-Next.shape c.in-Next.next
 met c = found (view.up-After-step-step _ _ _ _ _ c.before.before) c.in-Next.is
 
-abbrev behind : tie.After-fits2 → After-frames_further-further
-behind c = c.before
-
 few : (c : After-frames_further-further) → c.frames_further-further.result ≤ 8
 few c = let a = c.requires.0 in subst (λ (r : ℕ). r ≤ 8) (sym c.frames_further-further.ensures) (least (eqb c.in-Next.shape.wires 1) (second_word a) a.most)
   where
@@ -41,15 +38,15 @@ few c = let a = c.requires.0 in subst (λ (r : ℕ). r ≤ 8) (sym c.frames_furt
     least true e l = omega arith
     least false e l = omega arith
 
-fitted : (c : Else-not-fits) → c.fits2.result ≡ true
-fitted c = not-false c.fits2.result (ap not c.if-not-fits.false)
+fitted : (c : Else-not-fits) → c.fits.result ≡ true
+fitted c = not-false c.fits.result (ap not c.if-not-fits.false)
 
 abbrev end_of : Else-not-fits → ℕ
-end_of c = c.in-Next.next.at + (behind (view.up-After-fits _ _ _ _ _ c.before.before)).frames-further.result * (1 + c.in-Next.shape.words)
+end_of c = c.in-Next.next.at + c.frames_further-further.result * (1 + c.in-Next.shape.words)
 
-went : (c : Else-not-fits) → Further (walked (view.up-At-loop-frame _ _ _ _ _ c.before.before.before.before.before.before)) c.requires.1 (end_of c) (behind (view.up-After-fits _ _ _ _ _ c.before.before)).frames-further.result
+went : (c : Else-not-fits) → Further (walked (view.up-At-loop-frame _ _ _ _ _ c.before.before.before.before.before.before)) c.requires.1 (end_of c) c.frames_further-further.result
 went c = subst (λ (r : ℕ). Further (walked (view.up-At-loop-frame _ _ _ _ _ c.before.before.before.before.before.before)) c.requires.1 (c.in-Next.next.at + r * (1 + c.in-Next.shape.words)) r)
-    (sym (behind (view.up-After-fits _ _ _ _ _ c.before.before)).frames-further.ensures) ((met (view.up-In-Next _ _ _ _ _ c.before.before.before.before)).right (sym c.fits2.ensures ∙ fitted c))
+    (sym c.frames_further-further.ensures) ((met (view.up-In-Next _ _ _ _ _ c.before.before.before.before)).right (sym c.fits.ensures ∙ fitted c))
 
 pub bounds-table-1 : goal.bounds-table-1
 bounds-table-1 c = omega (arith, headed c.requires.0)
@@ -71,7 +68,7 @@ fits-requires c = let t = met (goal.at.fits-requires c).In-Next in let a = c.req
     (omega (arith, t.inside), omega (arith, second_word a, a.most), omega (arith, second_word a, a.least), t.rows)
 
 pub returns-then-not-fits : goal.returns-then-not-fits
-returns-then-not-fits c = (met (meeting (behind (goal.at.returns-then-not-fits c).After-fits))).wrong (sym c.fits2.ensures ∙ not-true c.fits2.result (ap not c.if-not-fits.true))
+returns-then-not-fits c = (met (goal.at.returns-then-not-fits c).In-Next).wrong (sym c.fits.ensures ∙ not-true c.fits.result (ap not c.if-not-fits.true))
 
 pub overflow_add-end : goal.overflow_add-end
 overflow_add-end c = omega (arith, (met (goal.at.overflow_add-end c).In-Next).inside)
