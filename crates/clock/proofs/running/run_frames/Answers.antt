@@ -72,7 +72,7 @@ pub shape_of-bank-in_default : goal.shape_of-bank-in_default
 shape_of-bank-in_default c = c.loop-frame.invariant.1.held_sized
 
 pub returns-in_default : goal.returns-in_default
-returns-in_default c = let f = c.loop-frame.invariant.1 in clocking_done f (walked_end f.walked _ (sym (answer (goal.at.returns-in_default c).After-step-step)) c.in_default.in_default-own.keys2)
+returns-in_default c = let f = c.loop-frame.invariant.1 in clocking_done f (walked_end f.walked _ (sym (answer (goal.at.returns-in_default c).After-step-step)) c.in_default.not-Next)
 
 pub run_gate-requires : goal.run_gate-requires
 run_gate-requires c = let f = c.loop-frame.invariant.1 in (_, _, (met (goal.at.run_gate-requires c).In-Next).early, omega (arith, room_in f.walked (same (goal.at.run_gate-requires c).In-Next) (met (goal.at.run_gate-requires c).In-Next), f.sized), held_room f (same (goal.at.run_gate-requires c).In-Next) (met (goal.at.run_gate-requires c).In-Next))
@@ -94,8 +94,8 @@ run_frame-requires c =
     let f = c.loop-frame.invariant.1 in
     let m = met (goal.at.run_frame-requires c).In-Next in (
       m.small,
-      omega (arith, room_in f.walked (same (goal.at.run_frame-requires c).In-Next) m, f.sized, c.run_gate.kept.0),
-      omega (arith, held_room f (same (goal.at.run_frame-requires c).In-Next) m, c.run_gate.kept.1.0),
+      omega (arith, room_in f.walked (same (goal.at.run_frame-requires c).In-Next) m, f.sized, c.run_gate.auto.values),
+      omega (arith, held_room f (same (goal.at.run_frame-requires c).In-Next) m, c.run_gate.auto.bank),
       rw (words (goal.at.run_frame-requires c).After-operands-ops) m.early,
       m.supplied _ _ _ (counts (goal.at.run_frame-requires c).In-Next).shares (counts (goal.at.run_frame-requires c).In-Next).randoms,
       bits (goal.at.run_frame-requires c).In-Next,

@@ -13,8 +13,8 @@ use Rattle.counting.proofs.linear.fold.Goals.{After-power-count, After-slice_kno
 
 -- a turn
 folds : (c : After-slice_known-in-loop-i-2-1) → let a = c.args in let f = c.fold_bit-doubles in
-    FoldedTo (λ j. lane_bit j a.factors) (shift_in a.sums.now a.read.now a.found) a.free a.found a.first.now f.new.1.1.1.1.1.0 (c.loop-i.doubles + f.result) (c.loop-i.i + 1)
-    × FoldedTo (λ j. lane_bit j a.factors) (shift_in a.sums.now a.read.now a.found) a.free a.found a.second.now f.new.1.1.1.1.1.1.0 (c.loop-i.doubles + f.result) (c.loop-i.i + 1) × (f.result ≤ 1)
+    FoldedTo (λ j. lane_bit j a.factors) (shift_in a.sums.now a.read.now a.found) a.free a.found a.first.now f.new.first (c.loop-i.doubles + f.result) (c.loop-i.i + 1)
+    × FoldedTo (λ j. lane_bit j a.factors) (shift_in a.sums.now a.read.now a.found) a.free a.found a.second.now f.new.second (c.loop-i.doubles + f.result) (c.loop-i.i + 1) × (f.result ≤ 1)
 folds c =
     let a = c.args in
     let (i, j) = c.loop-i.invariant in

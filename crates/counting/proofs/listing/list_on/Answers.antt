@@ -53,7 +53,7 @@ enumerated : (c : After-divide-enumeration) → Enumerates c.plan_pairs-plan.res
 enumerated c = let (same, d) = c.divide-enumeration.ensures in enumerates _ same c.count_free.ensures d
 
 surveyed : (c : After-divide-enumeration) → let a = c.args in
-    Surveyed c.prepare-outputs.last.1.1.1.1.1.1.0 c.prepare-outputs.last.1.1.1.1.1.1.1.0 a.read.now c.prepare-outputs.result a.extent.found c.divide-enumeration.result.factors
+    Surveyed c.prepare-outputs.new.sums c.prepare-outputs.new.terms a.read.now c.prepare-outputs.result a.extent.found c.divide-enumeration.result.factors
 surveyed c = surveyed_by c.divide-enumeration.ensures.0 c.find_varied-factors.ensures
 
 pub plan_pairs-plan-requires : goal.plan_pairs-plan-requires
