@@ -24,30 +24,17 @@ passes : (v : In-Accepted) → let a = v.args in
     Passed a.table.now a.notes.now a.shares.now a.tape.now (sheets (view.up-After-judge-verdict _ _ _ _ v.before.before.before.before)) a.probes.now v.smaller-room.result v.in-Accepted.wires
 passes v = passed v.judge-verdict.ensures (sheets (view.up-After-judge-verdict _ _ _ _ v.before.before.before.before)) (shorter (view.up-After-judge-verdict _ _ _ _ v.before.before.before.before)) v.in-Accepted.is
 
-pub returns-in_default-clause-answered : goal.returns-in_default-clause-answered
-returns-in_default-clause-answered c =
+pub returns-in_default : goal.returns-in_default
+returns-in_default c =
     let j = c.judge-verdict.ensures in
-    let same = left j (sheets (goal.at.returns-in_default-clause-answered c).After-judge-verdict) (shorter (goal.at.returns-in_default-clause-answered c).After-judge-verdict) c.in_default.is in  j.answers (sheets (goal.at.returns-in_default-clause-answered c).After-judge-verdict) (shorter (goal.at.returns-in_default-clause-answered c).After-judge-verdict)
-
-pub returns-in_default-clause-noted : goal.returns-in_default-clause-noted
-returns-in_default-clause-noted c =
-    let j = c.judge-verdict.ensures in
-    let same = left j (sheets (goal.at.returns-in_default-clause-noted c).After-judge-verdict) (shorter (goal.at.returns-in_default-clause-noted c).After-judge-verdict) c.in_default.is in  j.noted
-
-pub returns-in_default-clause-valued : goal.returns-in_default-clause-valued
-returns-in_default-clause-valued c =
-    let j = c.judge-verdict.ensures in
-    let same = left j (sheets (goal.at.returns-in_default-clause-valued c).After-judge-verdict) (shorter (goal.at.returns-in_default-clause-valued c).After-judge-verdict) c.in_default.is in  same _ _
-
-pub returns-in_default-clause-shown : goal.returns-in_default-clause-shown
-returns-in_default-clause-shown c =
-    let j = c.judge-verdict.ensures in
-    let same = left j (sheets (goal.at.returns-in_default-clause-shown c).After-judge-verdict) (shorter (goal.at.returns-in_default-clause-shown c).After-judge-verdict) c.in_default.is in  same _ _
-
-pub returns-in_default-clause-secret : goal.returns-in_default-clause-secret
-returns-in_default-clause-secret c =
-    let j = c.judge-verdict.ensures in
-    let same = left j (sheets (goal.at.returns-in_default-clause-secret c).After-judge-verdict) (shorter (goal.at.returns-in_default-clause-secret c).After-judge-verdict) c.in_default.is in  λ h. equal_counts _ _ h _
+    let same = left j (sheets (goal.at.returns-in_default c).After-judge-verdict) (shorter (goal.at.returns-in_default c).After-judge-verdict) c.in_default.is in
+    record {
+      answered = j.answers (sheets (goal.at.returns-in_default c).After-judge-verdict) (shorter (goal.at.returns-in_default c).After-judge-verdict);
+      noted = j.noted;
+      valued = same _ _;
+      shown = same _ _;
+      secret = λ h. equal_counts _ _ h _;
+    }
 
 pub fill-requires : goal.fill-requires
 fill-requires c = evaluable _ _ _ _ _ _ (passes (goal.at.fill-requires c).In-Accepted) (omega arith)
@@ -60,37 +47,16 @@ show-requires c =
     let p = passes (goal.at.show-requires c).In-Accepted in
     (p.few, omega (arith, p.roomy), omega (arith, p.roomy), λ x m. omega (arith, c.reach_stops.ensures.made x m, p.wires_are))
 
-pub returns-clause-answered : goal.returns-clause-answered
-returns-clause-answered c =
+pub returns : goal.returns
+returns c =
     let j = c.judge-verdict.ensures in
     let a = c.args in
-    let new = evaluated _ _ _ _ _ _ (passes (goal.at.returns-clause-answered c).In-Accepted) c.fill.ensures (omega arith) in
-    let read = c.show.ensures.is _ _ (bits a.shares.now) (bits a.tape.now) _ c.reach_stops.ensures new in  sym (ap answer_of c.in-Accepted.is) ∙ j.answers (sheets (goal.at.returns-clause-answered c).After-judge-verdict) (shorter (goal.at.returns-clause-answered c).After-judge-verdict)
-
-pub returns-clause-noted : goal.returns-clause-noted
-returns-clause-noted c =
-    let j = c.judge-verdict.ensures in
-    let a = c.args in
-    let new = evaluated _ _ _ _ _ _ (passes (goal.at.returns-clause-noted c).In-Accepted) c.fill.ensures (omega arith) in
-    let read = c.show.ensures.is _ _ (bits a.shares.now) (bits a.tape.now) _ c.reach_stops.ensures new in  j.noted
-
-pub returns-clause-valued : goal.returns-clause-valued
-returns-clause-valued c =
-    let j = c.judge-verdict.ensures in
-    let a = c.args in
-    let new = evaluated _ _ _ _ _ _ (passes (goal.at.returns-clause-valued c).In-Accepted) c.fill.ensures (omega arith) in
-    let read = c.show.ensures.is _ _ (bits a.shares.now) (bits a.tape.now) _ c.reach_stops.ensures new in  holds _ _ _ _ _ _ (passes (goal.at.returns-clause-valued c).In-Accepted) (λ (k : Circuit). bytes (values_of k.wires (bits a.shares.now) (bits a.tape.now))) a.values.now new
-
-pub returns-clause-shown : goal.returns-clause-shown
-returns-clause-shown c =
-    let j = c.judge-verdict.ensures in
-    let a = c.args in
-    let new = evaluated _ _ _ _ _ _ (passes (goal.at.returns-clause-shown c).In-Accepted) c.fill.ensures (omega arith) in
-    let read = c.show.ensures.is _ _ (bits a.shares.now) (bits a.tape.now) _ c.reach_stops.ensures new in  holds _ _ _ _ _ _ (passes (goal.at.returns-clause-shown c).In-Accepted) (λ (k : Circuit). reading_of k.wires a.probes.now (bits a.shares.now) (bits a.tape.now)) a.reading.now read
-
-pub returns-clause-secret : goal.returns-clause-secret
-returns-clause-secret c =
-    let j = c.judge-verdict.ensures in
-    let a = c.args in
-    let new = evaluated _ _ _ _ _ _ (passes (goal.at.returns-clause-secret c).In-Accepted) c.fill.ensures (omega arith) in
-    let read = c.show.ensures.is _ _ (bits a.shares.now) (bits a.tape.now) _ c.reach_stops.ensures new in  λ h. equal_counts _ _ h _
+    let new = evaluated _ _ _ _ _ _ (passes (goal.at.returns c).In-Accepted) c.fill.ensures (omega arith) in
+    let read = c.show.ensures.is _ _ (bits a.shares.now) (bits a.tape.now) _ c.reach_stops.ensures new in
+    record {
+      answered = sym (ap answer_of c.in-Accepted.is) ∙ j.answers (sheets (goal.at.returns c).After-judge-verdict) (shorter (goal.at.returns c).After-judge-verdict);
+      noted = j.noted;
+      valued = holds _ _ _ _ _ _ (passes (goal.at.returns c).In-Accepted) (λ (k : Circuit). bytes (values_of k.wires (bits a.shares.now) (bits a.tape.now))) a.values.now new;
+      shown = holds _ _ _ _ _ _ (passes (goal.at.returns c).In-Accepted) (λ (k : Circuit). reading_of k.wires a.probes.now (bits a.shares.now) (bits a.tape.now)) a.reading.now read;
+      secret = λ h. equal_counts _ _ h _;
+    }

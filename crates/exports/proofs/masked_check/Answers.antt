@@ -3,7 +3,4 @@ use Rattle.exports.proofs.Telling.{moved}
 use Rattle.exports.proofs.masked_check.Goals as goal
 
 pub returns-clause-answered : goal.returns-clause-answered
-returns-clause-answered c = moved c.check-verdict.ensures.answered c.put.ensures
-
-pub returns-clause-noted : goal.returns-clause-noted
-returns-clause-noted c = c.check-verdict.ensures.noted
+returns-clause-answered c = moved c.check-verdict.ensures.answered c.put.ensures.answered

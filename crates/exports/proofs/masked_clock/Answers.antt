@@ -3,13 +3,4 @@ use Rattle.exports.proofs.Telling.{moved}
 use Rattle.exports.proofs.masked_clock.Goals as goal
 
 pub returns-clause-answered : goal.returns-clause-answered
-returns-clause-answered c = let e = c.step-verdict.ensures in  moved e.0 c.put.ensures
-
-pub returns-clause-noted : goal.returns-clause-noted
-returns-clause-noted c = let e = c.step-verdict.ensures in  e.1.0
-
-pub returns-clause-valued : goal.returns-clause-valued
-returns-clause-valued c = let e = c.step-verdict.ensures in  e.1.1.0
-
-pub returns-clause-banked : goal.returns-clause-banked
-returns-clause-banked c = let e = c.step-verdict.ensures in  e.1.1.1.0
+returns-clause-answered c = moved c.step-verdict.ensures.answered c.put.ensures.answered

@@ -3,13 +3,4 @@ use Rattle.exports.proofs.Telling.{moved}
 use Rattle.exports.proofs.masked_read_probes.Goals as goal
 
 pub returns-clause-answered : goal.returns-clause-answered
-returns-clause-answered c = let e = c.read_probes-verdict.ensures in  moved e.0 c.put.ensures
-
-pub returns-clause-noted : goal.returns-clause-noted
-returns-clause-noted c = let e = c.read_probes-verdict.ensures in  e.1.0
-
-pub returns-clause-valued : goal.returns-clause-valued
-returns-clause-valued c = let e = c.read_probes-verdict.ensures in  e.1.1.0
-
-pub returns-clause-shown : goal.returns-clause-shown
-returns-clause-shown c = let e = c.read_probes-verdict.ensures in  e.1.1.1.0
+returns-clause-answered c = moved c.read_probes-verdict.ensures.answered c.put.ensures.answered

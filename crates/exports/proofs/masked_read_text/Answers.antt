@@ -3,7 +3,4 @@ use Rattle.exports.proofs.Telling.{text_moved}
 use Rattle.exports.proofs.masked_read_text.Goals as goal
 
 pub returns-clause-answered : goal.returns-clause-answered
-returns-clause-answered c = text_moved c.read-verdict.ensures.answered c.put_text.ensures
-
-pub returns-clause-stored : goal.returns-clause-stored
-returns-clause-stored c = c.read-verdict.ensures.stored
+returns-clause-answered c = text_moved c.read-verdict.ensures.answered c.put_text.ensures.answered

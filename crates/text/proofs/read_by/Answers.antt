@@ -37,19 +37,16 @@ sized c = simp length-set
 pub head_rule-broken-requires : goal.head_rule-broken-requires
 head_rule-broken-requires c = (c.requires, rw c.limit-room.ensures (limit-most (length c.args.table.now)))
 
-pub returns-then-broken-ne0-clause-answered : goal.returns-then-broken-ne0-clause-answered
-returns-then-broken-ne0-clause-answered c =
+pub returns-then-broken-ne0 : goal.returns-then-broken-ne0
+returns-then-broken-ne0 c =
     let r = c.head_rule-broken.result in
     let a = c.args in
-    let broken = sym (rule_broken r 0 (head_word r) c.if-broken-ne0.true) ∙ judged (goal.at.returns-then-broken-ne0-clause-answered c).After-head_rule-broken in
-    let e = head_refused a.text.now (length a.table.now) r (head_word r) broken in  rw (e, c.head_word.ensures)
-
-pub returns-then-broken-ne0-clause-stored : goal.returns-then-broken-ne0-clause-stored
-returns-then-broken-ne0-clause-stored c =
-    let r = c.head_rule-broken.result in
-    let a = c.args in
-    let broken = sym (rule_broken r 0 (head_word r) c.if-broken-ne0.true) ∙ judged (goal.at.returns-then-broken-ne0-clause-stored c).After-head_rule-broken in
-    let e = head_refused a.text.now (length a.table.now) r (head_word r) broken in  rw e
+    let broken = sym (rule_broken r 0 (head_word r) c.if-broken-ne0.true) ∙ judged (goal.at.returns-then-broken-ne0 c).After-head_rule-broken in
+    let e = head_refused a.text.now (length a.table.now) r (head_word r) broken in
+    record {
+      answered = rw (e, c.head_word.ensures);
+      stored = rw e;
+    }
 
 pub value-d-requires : goal.value-d-requires
 value-d-requires c = let a = c.args in (c.requires, head_word_lem a.text.now a.table.now (length a.table.now) (passes (goal.at.value-d-requires c).Else-broken-ne0))
@@ -69,13 +66,12 @@ read_frames-requires c =
 pub shape_of-table : goal.shape_of-table
 shape_of-table c = c.read_frames.auto.table ∙ sized (goal.at.shape_of-table c).After-value-d
 
-pub returns-clause-answered : goal.returns-clause-answered
-returns-clause-answered c =
+pub returns : goal.returns
+returns c =
     let a = c.args in
-    let t = a.table.now in  c.read_frames.ensures.answered ∙ ap (text_answer_of a.text.now) (sized (goal.at.returns-clause-answered c).After-value-d)
-
-pub returns-clause-stored : goal.returns-clause-stored
-returns-clause-stored c =
-    let a = c.args in
-    let t = a.table.now in  c.read_frames.ensures.stored t (sym (drop-set-lt 2 (set t 0 0) 1 c.value-d.result (omega arith) ∙ drop-set-lt 2 t 0 0 (omega arith)))
-          ∙ ap (λ (n : ℕ). table_after (read_text a.text.now n) t) (sized (goal.at.returns-clause-stored c).After-value-d)
+    let t = a.table.now in
+    record {
+      answered = c.read_frames.ensures.answered ∙ ap (text_answer_of a.text.now) (sized (goal.at.returns c).After-value-d);
+      stored = c.read_frames.ensures.stored t (sym (drop-set-lt 2 (set t 0 0) 1 c.value-d.result (omega arith) ∙ drop-set-lt 2 t 0 0 (omega arith)))
+          ∙ ap (λ (n : ℕ). table_after (read_text a.text.now n) t) (sized (goal.at.returns c).After-value-d);
+    }

@@ -127,8 +127,8 @@ shape_of-block-then-taken-eq0 c = (sized (goal.at.shape_of-block-then-taken-eq0 
 pub shape_of-ends-then-taken-eq0 : goal.shape_of-ends-then-taken-eq0
 shape_of-ends-then-taken-eq0 c = (sized (goal.at.shape_of-ends-then-taken-eq0 c).After-split-lines).1 ∙ sym c.requires.3
 
-pub returns-then-taken-eq0-clause-answered : goal.returns-then-taken-eq0-clause-answered
-returns-then-taken-eq0-clause-answered c =
+pub returns-then-taken-eq0 : goal.returns-then-taken-eq0
+returns-then-taken-eq0 c =
     let p = c.loop-at.invariant.0 in
     let q = c.requires.1.limit in
     let m = c.lengths-lengths.ensures in
@@ -141,23 +141,11 @@ returns-then-taken-eq0-clause-answered c =
     ∙ ap (λ (x : ℕ). frame_by_count x d c.loop-at.line c.loop-at.stored (value_in bytes) (count_from 1 bytes)) q
     ∙ same-frame room d c.loop-at.line c.loop-at.stored (value_in bytes) (count_from 1 bytes) in
     let z : r ≡ 0 → ⊥ = λ e. never p q m c.split-lines.ensures c.taken-taken.ensures c.if-taken-eq0.true (sym j ∙ ap (λ (x : ℕ). ruled x c.loop-at.line 0) e) in
-    let e = refused p c.loop-at-test.true r 0 (sym (rule_broken r c.loop-at.line 0 z) ∙ j) in  rw e
-
-pub returns-then-taken-eq0-clause-stored : goal.returns-then-taken-eq0-clause-stored
-returns-then-taken-eq0-clause-stored c =
-    let p = c.loop-at.invariant.0 in
-    let q = c.requires.1.limit in
-    let m = c.lengths-lengths.ensures in
-    let r = c.frame_rule.result in
-    let d = c.args.d in
-    let room = length c.args.table.now in
-    let bytes = drop c.loop-at.at c.args.text.now in
-    let j : ruled r c.loop-at.line 0 ≡ judgement p
-    = c.frame_rule.ensures d c.loop-at.line m
-    ∙ ap (λ (x : ℕ). frame_by_count x d c.loop-at.line c.loop-at.stored (value_in bytes) (count_from 1 bytes)) q
-    ∙ same-frame room d c.loop-at.line c.loop-at.stored (value_in bytes) (count_from 1 bytes) in
-    let z : r ≡ 0 → ⊥ = λ e. never p q m c.split-lines.ensures c.taken-taken.ensures c.if-taken-eq0.true (sym j ∙ ap (λ (x : ℕ). ruled x c.loop-at.line 0) e) in
-    let e = refused p c.loop-at-test.true r 0 (sym (rule_broken r c.loop-at.line 0 z) ∙ j) in  closes (goal.at.returns-then-taken-eq0-clause-stored c).At-loop-at (refuse r c.loop-at.line 0) e
+    let e = refused p c.loop-at-test.true r 0 (sym (rule_broken r c.loop-at.line 0 z) ∙ j) in
+    record {
+      answered = rw e;
+      stored = closes (goal.at.returns-then-taken-eq0 c).At-loop-at (refuse r c.loop-at.line 0) e;
+    }
 
 pub offset_bounds-ends-taken : goal.offset_bounds-ends-taken
 offset_bounds-ends-taken c = omega (arith, numbers (goal.at.offset_bounds-ends-taken c).After-taken-taken)
@@ -207,10 +195,10 @@ shape_of-block c = c.loop-at.invariant.1 ∙ sym c.requires.2
 pub shape_of-ends : goal.shape_of-ends
 shape_of-ends c = c.loop-at.invariant.2 ∙ sym c.requires.3
 
-pub returns-clause-answered : goal.returns-clause-answered
-returns-clause-answered c =
-    let e = ended c.loop-at.invariant.0 c.loop-at-test.false in  rw (e, length-take-le c.loop-at.stored c.loop-at.table (stored_in (goal.at.returns-clause-answered c).At-loop-at))
-
-pub returns-clause-stored : goal.returns-clause-stored
-returns-clause-stored c =
-    let e = ended c.loop-at.invariant.0 c.loop-at-test.false in  closes (goal.at.returns-clause-stored c).At-loop-at pass e
+pub returns : goal.returns
+returns c =
+    let e = ended c.loop-at.invariant.0 c.loop-at-test.false in
+    record {
+      answered = rw (e, length-take-le c.loop-at.stored c.loop-at.table (stored_in (goal.at.returns c).At-loop-at));
+      stored = closes (goal.at.returns c).At-loop-at pass e;
+    }
