@@ -1,5 +1,5 @@
--- `judge::main` is safe and ends: the line is within its buffer.
-use mathlib.Core.Path.{sym}
+-- The line is within its buffer.
+use Rattle.std.proofs.Common.{sym}
 use lib.Seq.{length-take-le}
 use Rattle.judge.proofs.Lengths.{line-inside}
 use Rattle.judge.proofs.main.Goals as goal
