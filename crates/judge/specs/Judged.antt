@@ -2,7 +2,7 @@
 use Rattle.std.specs.Prelude.{List, ℕ}
 use Rattle.circuit.specs.Rules.{Judgement, pass, refuse}
 use Rattle.circuit.specs.Answer.{Answer, refused, verdict_of}
-use Rattle.text.specs.Reader.{Read, read_text}
+use Rattle.text.specs.Reader.{read_text}
 
 -- the reader's refusal, its line given as the frame, or else the checker's verdict on the words found
 abbrev pub on_reading : Judgement → (found : List ℕ) (notes : ℕ) → Answer

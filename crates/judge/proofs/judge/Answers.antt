@@ -1,9 +1,8 @@
 -- Where the reader accepts, the checker is asked on the words found; else the reader's refusal is the answer.
-use mathlib.Core.Path.{sym, ◌∙◌}
+use mathlib.Core.Path.{◌∙◌}
 use Prim.Native.Nat.{ℕ}
 use native.Mathlib.Omega.{arith}
 use lib.ListN.{length}
-use lib.Seq.{length-take-le}
 use Rattle.judge.proofs.Judging.{stopped, Counted, counted}
 use Rattle.judge.proofs.judge.Goals as goal
 use Rattle.judge.proofs.judge.Goals.{In-Accepted}
@@ -21,9 +20,6 @@ found c =
 
 pub slice_bounds-check-end : goal.slice_bounds-check-end
 slice_bounds-check-end c = omega (arith, (found (goal.at.slice_bounds-check-end c).In-Accepted).inside)
-
-pub slice_bounds-check-end-in-Accepted : goal.slice_bounds-check-end-in-Accepted
-slice_bounds-check-end-in-Accepted c = sym (length-take-le _ _ (omega (arith, (found (goal.at.slice_bounds-check-end-in-Accepted c).In-Accepted).inside)))
 
 pub returns-in-Accepted : goal.returns-in-Accepted
 returns-in-Accepted c = c.check.ensures.answered ∙ (found (goal.at.returns-in-Accepted c).In-Accepted).asked _

@@ -1,5 +1,5 @@
 -- What a write took stands behind what was written before.
-use Rattle.std.proofs.Common.{◌+◌, List, ℕ, ◌++◌, rules, take, sym, ap, ◌∙◌, subst}
+use Rattle.std.proofs.Common.{List, ℕ, ◌++◌, rules, take, sym, ap, ◌∙◌, subst}
 use lib.Seq.{take-add}
 use Rattle.std.proofs.lemmas.List.{take_rest}
 use Rattle.std.specs.Io.KnownBytes.{Appends}

@@ -1,7 +1,6 @@
 -- The last digit stands behind what the call of itself wrote.
-use Rattle.std.proofs.Common.{◌≡◌, refl, sym, ap, ◌∙◌, ℕ, ◌+◌, arith, length}
-use Rattle.judge.specs.Printed.{decimal}
-use Rattle.judge.proofs.Numbers.{one-digit, length_last, tenth_less, Front, front}
+use Rattle.std.proofs.Common.{ap, arith, length}
+use Rattle.judge.proofs.Numbers.{one-digit, length_last, tenth_less, front}
 use Rattle.judge.proofs.line.+put_number.Goals as goal
 
 pub bounds-out-at : goal.bounds-out-at

@@ -1,14 +1,10 @@
 -- `judge::line::put_bytes` meets its contract. The loop's invariant: what is stored in all is what is still to be stored from here on.
-use mathlib.Core.Path.{◌≡◌, refl, sym, ap, ◌∙◌}
-use Prim.Native.Nat.{ℕ, ◌+◌, ◌-◌}
+use mathlib.Core.Path.{◌≡◌, sym, ap, ◌∙◌}
+use Prim.Native.Nat.{ℕ, ◌+◌}
 use native.Mathlib.Omega.{arith}
 use lib.ListN.{length, length-set}
-use lib.Seq.{sets}
 use Rattle.judge.proofs.Runs.{run_turn, run-done}
 use Rattle.judge.proofs.line.put_bytes.Goals as goal
-
-pub loop-i-init : goal.loop-i-init
-loop-i-init c = (omega arith, refl, ap (λ (k : ℕ). sets c.args.out.now k c.args.bytes.now) (omega arith))
 
 pub loop-i-preserved : goal.loop-i-preserved
 loop-i-preserved c =
