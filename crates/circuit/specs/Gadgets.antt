@@ -1,8 +1,8 @@
 -- Document 01, "Inside the gadgets": the parts of AND and REF, in its order, with its equations.
-use Rattle.std.specs.Prelude.{cond, not, List, [], ◌∷◌, ◌++◌, map, ℕ, zero, suc, ◌+◌, ltb, eqb}
+use Rattle.std.specs.Prelude.{cond, not, List, [], ◌∷◌, ◌++◌, map, ℕ, suc, ◌+◌, ltb, eqb}
 use Rattle.std.proofs.Math.Decide.{ℕ_discrete}
 use Rattle.circuit.specs.Lists.{range, filter, concat_map}
-use Rattle.circuit.specs.Wires.{Gate, random, reg, sum, product, and_not, Place, named, inner, Wire, ◌placed◌}
+use Rattle.circuit.specs.Wires.{Gate, random, reg, sum, product, and_not, named, inner, Wire, ◌placed◌}
 
 -- the labels 0 to d−1; those above i; those other than i
 abbrev pub labels : ℕ → List ℕ

@@ -2,7 +2,7 @@
 use Rattle.std.specs.Prelude.{Bool, true, false, ◌&&◌, List, [], ◌∷◌, ℕ, zero, suc, ◌+◌, leb, ltb, eqb, length, take, drop}
 use Rattle.circuit.specs.Limits.{table_limit, wire_limit, notes_room, stage_limit, fewest_shares, most_shares}
 use Rattle.circuit.specs.Lists.{nth}
-use Rattle.circuit.specs.Kinds.{Kind, kind_of, WordRule, share_count, label, value, stage, random, like, share, before, registered, shape, words}
+use Rattle.circuit.specs.Kinds.{kind_of, WordRule, share_count, label, value, stage, random, like, share, before, registered, shape, words}
 use Rattle.circuit.specs.Circuit.{Circuit, size, empty, look_up, is_named, label_shown, stage_shown, is_registered, new_stage, extend}
 
 -- nothing is broken; or the number of the first rule broken, the frame and the word

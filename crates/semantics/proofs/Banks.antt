@@ -11,7 +11,7 @@ use Rattle.circuit.specs.Limits.{wire_limit}
 use Rattle.circuit.specs.Lists.{nth, overwrite}
 use Rattle.circuit.specs.Wires.{Wire}
 use Rattle.circuit.specs.Circuit.{Circuit, is_set}
-use Rattle.circuit.specs.Rules.{Judgement, pass, refuse, ◌then◌, checked}
+use Rattle.circuit.specs.Rules.{Judgement, pass, refuse, checked}
 use Rattle.circuit.specs.Answer.{answer}
 use Rattle.circuit.proofs.Base.{cases}
 use Rattle.circuit.proofs.Judging.{then_pass, need_then}

@@ -7,7 +7,7 @@ use native.Mathlib.Omega.{arith}
 use Rattle.circuit.specs.Limits.{fewest_shares}
 use Rattle.circuit.specs.Lists.{nth}
 use Rattle.circuit.specs.Wires.{Gate, input, constant, random, reg, inverse, sum, product, and_not, named, inner, Wire, ◌placed◌}
-use Rattle.circuit.specs.Gadgets.{Part, r, R, c, s, S, others, sorted, gate, delay, in_and, in_ref, index}
+use Rattle.circuit.specs.Gadgets.{Part, r, R, c, S, others, sorted, gate, delay, in_and, in_ref, index}
 use Rattle.circuit.specs.Kinds.{Kind, AND, REF}
 use Rattle.circuit.specs.Circuit.{Circuit, size, empty, place, stage_shown, stage_of, new_stage, made, extend, wire_at, look_up}
 use Rattle.circuit.specs.Rules.{checked}

@@ -3,7 +3,7 @@ use Rattle.std.specs.Prelude.{◌≡◌, List, [], ◌∷◌, ◌++◌, ℕ, suc
 use Rattle.circuit.specs.Limits.{wire_limit}
 use Rattle.circuit.specs.Lists.{overwrite}
 use Rattle.circuit.specs.Circuit.{Circuit, size}
-use Rattle.circuit.specs.Rules.{Judgement, pass, refuse, need, ◌then◌, Checked, checked}
+use Rattle.circuit.specs.Rules.{Judgement, pass, refuse, need, ◌then◌, checked}
 use Rattle.circuit.specs.Answer.{Answer, answer, notes_after}
 use Rattle.semantics.specs.Values.{bits, bytes, values_of}
 use Rattle.semantics.specs.Probes.{reading_of}

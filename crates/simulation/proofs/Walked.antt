@@ -1,14 +1,11 @@
 -- A walk over an accepted table, behind so many wires, shares and random bits: the frame that it meets has its room and its bits.
 use mathlib.Core.Path.{◌≡◌, refl, sym, ap, ap₂, ◌∙◌}
-use mathlib.Core.List.{List, [], ◌∷◌}
-use mathlib.Core.Logic.{⊎_elim}
+use mathlib.Core.List.{List, []}
 use Prim.Native.Nat.{ℕ, ◌+◌, ◌*◌, ◌≤◌}
 use native.Mathlib.Nat.{mul-le-mul_right}
 use native.Mathlib.Omega.{arith}
 use lib.ListN.{length, take}
 use lib.Seq.{take_at}
-use denote.Enum.Declared.{tag_of}
-use types.Run.{OneOf}
 use Rattle.circuit.specs.Lists.{nth}
 use Rattle.circuit.specs.Circuit.{Circuit, size, empty}
 use Rattle.circuit.specs.Composition.{build}
@@ -19,7 +16,6 @@ use Rattle.frames.specs.declared.walk.Walk.{Walk}
 use Rattle.frames.specs.declared.kinds.Shape.{Shape as ShapeCode}
 use Rattle.frames.specs.declared.walk.Step.{Step}
 use Rattle.frames.specs.declared.walk.Step.TheVariants as step
-use Rattle.frames.specs.contracts.walk.Step.{the_type}
 use Rattle.frames.specs.Walk.{step_at}
 use Rattle.gadgets.specs.Internal.Frames.{frame_wires}
 use Rattle.gadgets.specs.Internal.Accepting.{AcceptedTable, circuit_in}

@@ -2,7 +2,7 @@
 -- a frame or answers.
 use mathlib.Core.List.{List}
 use mathlib.Core.Path.{◌≡◌, sym, ap, ◌∙◌}
-use Prim.Native.Nat.{ℕ, ◌-◌}
+use Prim.Native.Nat.{ℕ}
 use native.Mathlib.Omega.{arith}
 use lib.ListN.{length}
 use Rattle.circuit.specs.Kinds.{pairs}
@@ -30,7 +30,7 @@ given c =
 answered : (c : After-step-step) → c.step-step.result ≡ step_at (table (view.up-At-loop-rule _ _ _ _ _ _ c.before.before)) c.loop-rule.walk.d c.loop-rule.walk.at
 answered c = right_step (table (view.up-At-loop-rule _ _ _ _ _ _ c.before.before)) c.random_bits-randoms.result c.loop-rule.walk.d c.loop-rule.walk.at c.step-step.ensures (given (view.up-At-loop-rule _ _ _ _ _ _ c.before.before))
 
-met : (c : After-operands-ops) → 
+met : (c : After-operands-ops) →
     step.Next c.in-Next.frame c.in-Next.shape c.in-Next.next ≡ step_at (table (view.up-At-loop-rule _ _ _ _ _ _ c.before.before.before.before)) c.loop-rule.walk.d c.loop-rule.walk.at
 met c = sym c.in-Next.is ∙ answered (view.up-After-step-step _ _ _ _ _ _ c.before.before.before)
 
@@ -71,11 +71,11 @@ pub loop-rule-smaller : goal.loop-rule-smaller
 loop-rule-smaller c = less_left c.loop-rule.invariant (met (goal.at.loop-rule-smaller c).After-operands-ops) c.operands-ops.result.now c.operands-ops.ensures
 
 pub loop-rule-preserved : goal.loop-rule-preserved
-loop-rule-preserved c = 
+loop-rule-preserved c =
     turn c.loop-rule.invariant (met (goal.at.loop-rule-preserved c).After-operands-ops) c.operands-ops.result.now c.operands-ops.ensures _ c.add-added.result c.add-added.ensures _ c.in-Next-added.is
 
 pub shape_of-notes-in-Refused-added : goal.shape_of-notes-in-Refused-added
-shape_of-notes-in-Refused-added c = 
+shape_of-notes-in-Refused-added c =
     let w = c.loop-rule.invariant in
     ap length (broken_kept w (met (goal.at.shape_of-notes-in-Refused-added c).After-operands-ops) c.operands-ops.result.now c.operands-ops.ensures _ c.add-added.result c.add-added.ensures _ c.in-Refused-added.is) ∙ kept w
 

@@ -2,9 +2,7 @@
 -- a frame or answers.
 use Prim.Native.Nat.{◌-◌}
 use lib.ListN.{length}
-use Rattle.frames.specs.declared.walk.Step.TheVariants as step
 use Rattle.checker.proofs.Checking.{Walking}
-use Rattle.checker.proofs.Ways.{turn}
 use Rattle.checker.proofs.check_frames.Given as goal
 
 abbrev pub invariant-loop-rule : goal.invariant-loop-rule

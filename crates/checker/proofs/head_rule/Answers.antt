@@ -1,5 +1,4 @@
 -- The tests in the order of rules 1 to 4: each way out has passed those before it.
-use borrow.Author.Rules.{rules}
 use borrow.Author.Tests.{le-leb, lt-leb, eq-eqb, ne_eqb}
 use Rattle.checker.proofs.head_rule.Goals as goal
 

@@ -1,6 +1,5 @@
 -- The first place where rules 18 and 19 are broken.
-use Rattle.std.specs.Prelude.{◌≡◌, cond, List, ℕ, ◌+◌, ◌≤◌, ◌<◌, ltb, length}
-use Rattle.circuit.specs.Lists.{nth}
+use Rattle.std.specs.Prelude.{◌≡◌, cond, List, ℕ, ◌+◌, ltb, length}
 use Rattle.circuit.specs.Circuit.{Circuit, size}
 use Rattle.circuit.specs.Rules.{Judgement, pass, refuse}
 use Rattle.semantics.specs.Calls.{bytes_rule, probes_rule}

@@ -51,7 +51,6 @@ lined c = let s = c.split-lines.ensures in record {
   few = omega (arith, s.few, s.most);
   rising = λ g h. (s.whole g h).rising;
   bounded = λ g h. omega (arith, (s.whole g h).bounded, s.most);
-
 }
 
 -- the numbers of the lines that are taken

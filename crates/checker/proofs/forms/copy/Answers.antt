@@ -20,6 +20,5 @@ pub returns-in-Inner : goal.returns-in-Inner
 returns-in-Inner c = rw (← c.look_up-found.ensures, c.in-Inner.is) (record { spot_is = refl; notes_are = refl })
 
 pub returns-in-Named : goal.returns-in-Named
-returns-in-Named c = 
-    
+returns-in-Named c =
     rw (named (goal.at.returns-in-Named c).In-Named, like_self c.in-Named.label c.in-Named.stage c.in-Named.registered) c.put_one.ensures

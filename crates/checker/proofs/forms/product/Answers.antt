@@ -34,11 +34,11 @@ pub returns-then-a-ne0 : goal.returns-then-a-ne0
 returns-then-a-ne0 c = rw (eq-eqb _ _ c.if-ops-used.false, ← c.stage_shown-stage.ensures.0, ← a_row (goal.at.returns-then-a-ne0 c).After-row_rule-a) (refused-first c.row_rule-a.result _ c.if-a-ne0.true)
 
 pub returns-then-b-ne0 : goal.returns-then-b-ne0
-returns-then-b-ne0 c = 
+returns-then-b-ne0 c =
     rw (eq-eqb _ _ c.if-ops-used.false, ← c.stage_shown-stage.ensures.0, ← a_row (goal.at.returns-then-b-ne0 c).After-row_rule-a, ← b_row (goal.at.returns-then-b-ne0 c).After-row_rule-b)
     (passed_first c.row_rule-a.result c.row_rule-b.result c.if-a-ne0.false (refused c.row_rule-b.result c.if-b-ne0.true))
 
 pub returns : goal.returns
-returns c = 
+returns c =
     rw (eq-eqb _ _ c.if-ops-used.false, ← c.stage_shown-stage.ensures.0, ← a_row (goal.at.returns c).After-row_rule-a, ← b_row (goal.at.returns c).After-row_rule-b)
     (passed_first c.row_rule-a.result c.row_rule-b.result c.if-a-ne0.false (passed c.row_rule-b.result c.if-b-ne0.false c.put_gadget.ensures))

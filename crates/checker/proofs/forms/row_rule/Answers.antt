@@ -1,6 +1,6 @@
 -- The loop's invariant: what the whole row breaks first is what the wires from i on break first.
 use mathlib.Core.Path.{◌≡◌, sym, ap, ◌∙◌}
-use Prim.Native.Nat.{◌+◌, ◌-◌}
+use Prim.Native.Nat.{◌+◌}
 use native.Mathlib.Omega.{arith}
 use lib.ListN.{drop, drop_of_length-le}
 use borrow.Author.Rules.{rules}

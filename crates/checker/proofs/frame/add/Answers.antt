@@ -79,7 +79,7 @@ pub row-broken-requires : goal.row-broken-requires
 row-broken-requires c = (c.requires.0.wires, omega (arith, c.requires.0.room), omega (arith, c.requires.1.most, asked c.requires.1 c.in-Row.is))
 
 pub grown-requires-in-Row : goal.grown-requires-in-Row
-grown-requires-in-Row c = 
+grown-requires-in-Row c =
     fits c.requires.1 c.in-Row.is c.row-broken.ensures (row-spot (goal.at.grown-requires-in-Row c).Start c.stage_shown-stage.ensures.0) (ap (λ t. wires_at 0 0 t false) c.stage_shown-stage.ensures.0) c.requires.0
 
 pub returns-in-ShareCount : goal.returns-in-ShareCount
@@ -104,5 +104,5 @@ pub returns-in-Refresh : goal.returns-in-Refresh
 returns-in-Refresh c = adds c.requires.1 c.in-Refresh.is c.refresh-broken.ensures refl (made_after (goal.at.returns-in-Refresh c).Start true c.less-in-Refresh.ensures) c.grown-in-Refresh.ensures refl
 
 pub returns-in-Row : goal.returns-in-Row
-returns-in-Row c = 
+returns-in-Row c =
     adds c.requires.1 c.in-Row.is c.row-broken.ensures (row-spot (goal.at.returns-in-Row c).Start c.stage_shown-stage.ensures.0) (ap (λ t. wires_at 0 0 t false) c.stage_shown-stage.ensures.0) c.grown-in-Row.ensures c.with_output.ensures

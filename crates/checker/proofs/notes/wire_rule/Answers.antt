@@ -1,13 +1,12 @@
 -- By what the look_up finds; of a named wire the tests stand in the order of the rules.
 use mathlib.Core.Path.{◌≡◌, sym, ◌∙◌}
-use borrow.Author.Rules.{rules}
 use borrow.Author.Tests.{eq-eqb, ne_eqb}
 use Rattle.checker.specs.declared.notes.Found.TheVariants.{Named}
 use Rattle.checker.specs.Internal.Notes.{noted}
 use Rattle.checker.proofs.notes.wire_rule.Goals as goal
 use Rattle.checker.proofs.notes.wire_rule.Goals.{In-Named}
 
-named : (c : In-Named) → let a = c.args in 
+named : (c : In-Named) → let a = c.args in
     noted a.notes.now a.wires a.wire ≡ Named c.in-Named.own c.in-Named.at c.in-Named.registered
 named c = sym c.look_up-found.ensures ∙ c.in-Named.is
 

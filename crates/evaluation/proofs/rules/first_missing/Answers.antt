@@ -1,5 +1,4 @@
 -- The loop's invariant: every probe before i keeps rule 19.
-use Prim.Native.Nat.{◌-◌}
 use native.Mathlib.Omega.{arith}
 use borrow.Author.Tests.{lt-ltb, le-ltb}
 use borrow.Author.Rules.{rules}

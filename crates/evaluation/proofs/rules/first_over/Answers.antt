@@ -1,5 +1,4 @@
 -- No byte over 1 is first, or the first is searched for: every byte before i keeps rule 18.
-use Prim.Native.Nat.{◌-◌}
 use native.Mathlib.Omega.{arith}
 use borrow.Author.Tests.{le-leb, lt-leb}
 use Rattle.semantics.specs.Calls.{bytes_rule}

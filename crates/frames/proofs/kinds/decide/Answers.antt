@@ -1,7 +1,7 @@
 -- Each arm is the kind table's line of its word; d(d−1) as the code computes it is the table's.
 use mathlib.Core.Logic.{⊎_elim}
 use mathlib.Core.Path.{◌≡◌, refl, sym, ap, ap₂, ◌∙◌}
-use Prim.Native.Nat.{ℕ, ◌+◌, ◌*◌, ◌-◌, ◌<◌}
+use Prim.Native.Nat.{ℕ, ◌+◌, ◌*◌, ◌<◌}
 use native.Mathlib.Omega.{arith}
 use Rattle.circuit.specs.Kinds.{HEAD, IN, CON, XOR, NOT, REG, AND, REF, OUT, kind_of, shape}
 use Rattle.frames.specs.Walk.{kind_line}
@@ -48,11 +48,11 @@ returns-in-2-clause-formed c = rw c.in-2.is ((decided {d = c.args.d} CON c.kind_
 
 pub returns-in_default-clause-shaped : goal.returns-in_default-clause-shaped
 unfolding kind_of shape
-returns-in_default-clause-shaped c = let h = c.in_default.in_default-own.rest in let e : c.args.word ≡ 0 = omega (arith, c.if-word-lt3.true, h.0, h.1) in  rw e ((decided {d = c.args.d} HEAD c.kind_line-in_default.ensures refl)).0
+returns-in_default-clause-shaped c = let h = c.in_default.in_default-own.rest in let e : c.args.word ≡ 0 = omega (arith, c.if-word-lt3.true, h.0, h.1) in rw e ((decided {d = c.args.d} HEAD c.kind_line-in_default.ensures refl)).0
 
 pub returns-in_default-clause-formed : goal.returns-in_default-clause-formed
 unfolding kind_of shape
-returns-in_default-clause-formed c = let h = c.in_default.in_default-own.rest in let e : c.args.word ≡ 0 = omega (arith, c.if-word-lt3.true, h.0, h.1) in  rw e ((decided {d = c.args.d} HEAD c.kind_line-in_default.ensures refl)).1
+returns-in_default-clause-formed c = let h = c.in_default.in_default-own.rest in let e : c.args.word ≡ 0 = omega (arith, c.if-word-lt3.true, h.0, h.1) in rw e ((decided {d = c.args.d} HEAD c.kind_line-in_default.ensures refl)).1
 
 pub returns-then-word-eq3-clause-shaped : goal.returns-then-word-eq3-clause-shaped
 unfolding kind_of shape
@@ -92,19 +92,19 @@ overflow_add-ordered c = omega (arith, square (goal.at.overflow_add-ordered c).S
 
 pub returns-in-6-clause-shaped : goal.returns-in-6-clause-shaped
 unfolding kind_of shape
-returns-in-6-clause-shaped c = let d = c.args.d in let e = ordered d in  rw c.in-6.is ((decided {d = c.args.d} AND (c.kind_line-in-6.ensures ∙ same_line And Product (sym (words-AND d)) (ap (λ n. 7 * n + 4 * d) e) refl) refl)).0
+returns-in-6-clause-shaped c = let d = c.args.d in let e = ordered d in rw c.in-6.is ((decided {d = c.args.d} AND (c.kind_line-in-6.ensures ∙ same_line And Product (sym (words-AND d)) (ap (λ n. 7 * n + 4 * d) e) refl) refl)).0
 
 pub returns-in-6-clause-formed : goal.returns-in-6-clause-formed
 unfolding kind_of shape
-returns-in-6-clause-formed c = let d = c.args.d in let e = ordered d in  rw c.in-6.is ((decided {d = c.args.d} AND (c.kind_line-in-6.ensures ∙ same_line And Product (sym (words-AND d)) (ap (λ n. 7 * n + 4 * d) e) refl) refl)).1
+returns-in-6-clause-formed c = let d = c.args.d in let e = ordered d in rw c.in-6.is ((decided {d = c.args.d} AND (c.kind_line-in-6.ensures ∙ same_line And Product (sym (words-AND d)) (ap (λ n. 7 * n + 4 * d) e) refl) refl)).1
 
 pub returns-in-7-clause-shaped : goal.returns-in-7-clause-shaped
 unfolding kind_of shape
-returns-in-7-clause-shaped c = let d = c.args.d in  rw c.in-7.is ((decided {d = c.args.d} REF (c.kind_line-in-7.ensures ∙ same_line Ref Refresh (sym (words-REF d)) refl refl) refl)).0
+returns-in-7-clause-shaped c = let d = c.args.d in rw c.in-7.is ((decided {d = c.args.d} REF (c.kind_line-in-7.ensures ∙ same_line Ref Refresh (sym (words-REF d)) refl refl) refl)).0
 
 pub returns-in-7-clause-formed : goal.returns-in-7-clause-formed
 unfolding kind_of shape
-returns-in-7-clause-formed c = let d = c.args.d in  rw c.in-7.is ((decided {d = c.args.d} REF (c.kind_line-in-7.ensures ∙ same_line Ref Refresh (sym (words-REF d)) refl refl) refl)).1
+returns-in-7-clause-formed c = let d = c.args.d in rw c.in-7.is ((decided {d = c.args.d} REF (c.kind_line-in-7.ensures ∙ same_line Ref Refresh (sym (words-REF d)) refl refl) refl)).1
 
 pub returns-in-8-clause-shaped : goal.returns-in-8-clause-shaped
 unfolding kind_of shape
@@ -116,8 +116,8 @@ returns-in-8-clause-formed c = rw c.in-8.is ((decided {d = c.args.d} OUT (c.kind
 
 pub returns-in_default-word-clause-shaped : goal.returns-in_default-word-clause-shaped
 unfolding kind_of shape
-returns-in_default-word-clause-shaped c = let h = c.in_default-word.in_default-word-own.rest in  rw (no_kind c.args.word (omega (arith, c.if-word-lt6.false, h.0.0, h.0.1, h.1))) ((decided {d = c.args.d} HEAD c.kind_line-in_default-word.ensures refl)).0
+returns-in_default-word-clause-shaped c = let h = c.in_default-word.in_default-word-own.rest in rw (no_kind c.args.word (omega (arith, c.if-word-lt6.false, h.0.0, h.0.1, h.1))) ((decided {d = c.args.d} HEAD c.kind_line-in_default-word.ensures refl)).0
 
 pub returns-in_default-word-clause-formed : goal.returns-in_default-word-clause-formed
 unfolding kind_of shape
-returns-in_default-word-clause-formed c = let h = c.in_default-word.in_default-word-own.rest in  rw (no_kind c.args.word (omega (arith, c.if-word-lt6.false, h.0.0, h.0.1, h.1))) ((decided {d = c.args.d} HEAD c.kind_line-in_default-word.ensures refl)).1
+returns-in_default-word-clause-formed c = let h = c.in_default-word.in_default-word-own.rest in rw (no_kind c.args.word (omega (arith, c.if-word-lt6.false, h.0.0, h.0.1, h.1))) ((decided {d = c.args.d} HEAD c.kind_line-in_default-word.ensures refl)).1

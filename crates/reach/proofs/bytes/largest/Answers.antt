@@ -1,5 +1,4 @@
 -- The loop's invariant: no byte passed is over the largest.
-use Prim.Native.Nat.{◌-◌}
 use native.Mathlib.Omega.{arith}
 use Rattle.reach.proofs.Highest.{highest_turn}
 use Rattle.reach.proofs.bytes.largest.Goals as goal

@@ -1,6 +1,6 @@
 -- The loop's invariant: the frames before the place are listed.
 use mathlib.Core.Path.{refl, ◌∙◌}
-use Prim.Native.Nat.{◌-◌, ◌<◌}
+use Prim.Native.Nat.{◌<◌}
 use native.Mathlib.Omega.{arith}
 use lib.ListN.{length, length-set}
 use Rattle.reach.proofs.Listed.{listed_start, first-few, listed_end}

@@ -1,6 +1,6 @@
 -- The loop's invariant: the frames before the place are listed, and there stands a frame of the row's kind.
 use mathlib.Core.Path.{◌≡◌, refl, sym, ap, ◌∙◌}
-use Prim.Native.Nat.{◌+◌, ◌-◌, ◌<◌}
+use Prim.Native.Nat.{◌+◌, ◌<◌}
 use native.Mathlib.Omega.{arith}
 use lib.ListN.{length, set, length-set}
 use Rattle.circuit.specs.Lists.{nth}
@@ -96,5 +96,5 @@ pub loop-first-smaller : goal.loop-first-smaller
 loop-first-smaller c = omega (arith, (bounds (goal.at.loop-first-smaller c).At-loop-first).past, (bounds (goal.at.loop-first-smaller c).At-loop-first).most)
 
 pub loop-first-preserved : goal.loop-first-preserved
-loop-first-preserved c = 
+loop-first-preserved c =
     (next (goal.at.loop-first-preserved c).At-loop-first, c.if-limit-first.false, c.if-table-at.false, omega (arith, (bounds (goal.at.loop-first-preserved c).At-loop-first).past, c.loop-first.invariant.3), (kept (goal.at.loop-first-preserved c).At-loop-first).0, (kept (goal.at.loop-first-preserved c).At-loop-first).1)

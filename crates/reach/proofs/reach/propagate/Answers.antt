@@ -1,5 +1,4 @@
 -- A wire without a mark hands none on.
-use Prim.Native.Nat.{◌-◌}
 use lib.ListN.{length-set}
 use borrow.Author.Tests.{lt-ltb, le-ltb}
 use Rattle.circuit.specs.Lists.{nth}

@@ -1,5 +1,5 @@
 -- The loop's invariant: the marks of the outputs from i on are moved on.
-use Prim.Native.Nat.{◌-◌, ◌≤◌}
+use Prim.Native.Nat.{◌≤◌}
 use Rattle.gadgets.specs.Internal.Places.{out_at}
 use Rattle.gadgets.specs.Internal.Gates.{OutGates}
 use Rattle.reach.specs.Internal.Marks.{Moves}

@@ -21,7 +21,7 @@ pub product_at-at-requires : goal.product_at-at-requires
 product_at-at-requires c = (c.requires.0, omega (arith, below (goal.at.product_at-at-requires c).In-loop-i))
 
 pub propagate-requires : goal.propagate-requires
-propagate-requires c = 
+propagate-requires c =
     omega (arith, share (goal.at.propagate-requires c).In-loop-i, c.requires.1, c.requires.3 (c.loop-i.i - 1) (below (goal.at.propagate-requires c).In-loop-i), c.loop-i.invariant.1.size, c.word_a-a.ensures, c.product_at-at.ensures.0)
 
 pub loop-i-preserved : goal.loop-i-preserved

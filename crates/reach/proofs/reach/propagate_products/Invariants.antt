@@ -1,5 +1,5 @@
 -- The loop's invariant: the marks of the shares from i on are moved on.
-use Prim.Native.Nat.{◌-◌, ◌≤◌}
+use Prim.Native.Nat.{◌≤◌}
 use Rattle.gadgets.specs.Internal.Places.{word_a, word_b, product_at}
 use Rattle.gadgets.specs.Internal.Gates.{ProductsGates}
 use Rattle.reach.specs.Internal.Marks.{Moves}

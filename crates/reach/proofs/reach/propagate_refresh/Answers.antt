@@ -10,7 +10,7 @@ pub loop-i-init : goal.loop-i-init
 loop-i-init c = let a = c.args in (omega arith, held_moved a.d a.first (word_a a.ops.now) a.marks.now)
 
 pub propagate_sum-requires : goal.propagate_sum-requires
-propagate_sum-requires c = let l = c.loop-i in 
+propagate_sum-requires c = let l = c.loop-i in
     omega (arith, c.requires, c.requires.3 (l.i - 1) (omega arith), c.word_a-a.ensures, l.invariant.1.size)
 
 pub loop-i-preserved : goal.loop-i-preserved

@@ -1,5 +1,5 @@
 -- The loop's invariant: the marks of the sums from i on are moved on.
-use Prim.Native.Nat.{◌+◌, ◌-◌, ◌*◌, ◌≤◌}
+use Prim.Native.Nat.{◌+◌, ◌*◌, ◌≤◌}
 use Rattle.circuit.specs.Kinds.{pairs}
 use Rattle.gadgets.specs.Internal.Places.{word_a, sum_at}
 use Rattle.gadgets.specs.Internal.Gates.{RefGates}

@@ -1,5 +1,5 @@
 -- The loop's invariant: the marks of the share i and each from j on are moved on.
-use Prim.Native.Nat.{◌-◌, ◌≤◌}
+use Prim.Native.Nat.{◌≤◌}
 use Rattle.gadgets.specs.Internal.Places.{word_a, word_b, cross_at}
 use Rattle.gadgets.specs.Internal.Gates.{CrossRowGates}
 use Rattle.reach.specs.Internal.Marks.{Moves}

@@ -1,6 +1,5 @@
 -- The loop's invariant: marking all probes comes to marking those that are left.
 use mathlib.Core.Path.{refl, sym, ◌∙◌}
-use Prim.Native.Nat.{◌-◌}
 use native.Mathlib.Omega.{arith}
 use lib.ListN.{length-set}
 use Rattle.reach.proofs.Marked.{nth_in}

@@ -1,5 +1,4 @@
 -- The loop's invariant: the probes so far are at most the highest, and that is below every number that all probes are below.
-use Prim.Native.Nat.{◌-◌}
 use native.Mathlib.Omega.{arith}
 use Rattle.circuit.proofs.Base.{below_more}
 use Rattle.reach.proofs.Marked.{nth_in}

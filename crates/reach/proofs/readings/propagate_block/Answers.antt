@@ -28,7 +28,7 @@ answer c =
     let table = c.args.table.now in
     right_step table c.random_bits-randoms.result (nth table 1) (nth c.args.starts.now (c.loop-i.i - 1)) c.step-step.ensures (given (view.up-At-loop-i _ _ _ _ _ c.before.before.before.before))
 
-met : (c : In-Next) → let a = c.args in 
+met : (c : In-Next) → let a = c.args in
     step_at a.table.now (nth a.table.now 1) (nth a.starts.now (c.loop-i.i - 1)) ≡ Next c.in-Next.frame c.in-Next.shape c.in-Next.walk
 met c = sym (answer (view.up-After-step-step _ _ _ _ _ c.before.before)) ∙ c.in-Next.is
 

@@ -1,5 +1,5 @@
 -- The loop's invariant: the frames from the i-th on have moved their marks on.
-use Prim.Native.Nat.{◌-◌, ◌≤◌}
+use Prim.Native.Nat.{◌≤◌}
 use Rattle.circuit.specs.Lists.{nth}
 use Rattle.reach.specs.Internal.Marks.{Moves, GatesOf}
 use Rattle.reach.proofs.readings.propagate_block.Given as goal

@@ -44,14 +44,14 @@ pub shape_of-marks-in-Xor : goal.shape_of-marks-in-Xor
 shape_of-marks-in-Xor c = c.propagate_gate.auto.marks
 
 pub returns-in-Xor : goal.returns-in-Xor
-returns-in-Xor c = 
+returns-in-Xor c =
     rw (c.in-Gate.is, c.in-Xor.is, c.propagate_gate.ensures) (λ from. moves_gate _ (sum _) _ refl (λ g h. h))
 
 pub shape_of-marks-in-Not : goal.shape_of-marks-in-Not
 shape_of-marks-in-Not c = c.propagate_gate-in-Not.auto.marks
 
 pub returns-in-Not : goal.returns-in-Not
-returns-in-Not c = 
+returns-in-Not c =
     rw (c.in-Gate.is, c.in-Not.is, c.propagate_gate-in-Not.ensures) (λ from. twice_moved _ _ _ (λ g h. h))
 
 pub returns-in-Reg : goal.returns-in-Reg

@@ -1,5 +1,4 @@
 -- The loops' invariant: writing all bytes comes to writing those from wire x on. From `wires` on no wire is marked, so each is 2.
-use Prim.Native.Nat.{◌-◌}
 use native.Mathlib.Omega.{arith}
 use Rattle.reach.proofs.Showing.{ShownTo, shown_start, shown-next, shown_end, unmarked}
 use Rattle.reach.proofs.readings.show.Goals as goal

@@ -1,6 +1,6 @@
 -- The loop's invariant: the values of the frames before the walk's place are filled in.
 use mathlib.Core.Path.{◌≡◌, refl, sym, ap, ◌∙◌}
-use Prim.Native.Nat.{◌+◌, ◌*◌, ◌-◌, ◌≤◌}
+use Prim.Native.Nat.{◌+◌, ◌*◌, ◌≤◌}
 use native.Mathlib.Omega.{arith}
 use lib.ListN.{length}
 use Rattle.circuit.specs.Limits.{wire_limit}
@@ -28,7 +28,7 @@ answer c =
     let table = c.args.table.now in
     right_step table c.random_bits-randoms.result c.loop-frame.walk.d c.loop-frame.walk.at c.step-step.ensures (given (view.up-At-loop-frame _ _ _ _ _ c.before.before)) ∙ ap (λ n. step_at table n c.loop-frame.walk.at) c.loop-frame.invariant.0
 
-met : (c : In-Next) → let f = c.loop-frame.invariant.1.walked in 
+met : (c : In-Next) → let f = c.loop-frame.invariant.1.walked in
     Met f.evaluable.accepted f.between (nth c.args.table.now 1) c.loop-frame.first c.loop-frame.from c.in-Next.frame c.in-Next.shape c.in-Next.next
 met c = walked-answers c.loop-frame.invariant.1.walked (sym (answer (view.up-After-step-step _ _ _ _ _ c.before.before)) ∙ c.in-Next.is)
 
@@ -52,7 +52,7 @@ counts c =
     let f = c.loop-frame.invariant.1.walked in
     record { wires = (met c).few; shares = inputs_in f (same c) (met c); randoms = draws_in f (same c) (met c) }
 
-gated : (c : Then-write_gate) → let a = c.args in 
+gated : (c : Then-write_gate) → let a = c.args in
     FilledTo a.table.now a.shares.now a.tape.now a.values.now c.write_gate.new.values c.in-Next.next.at (c.loop-frame.first + c.in-Next.shape.wires) c.loop-frame.from c.loop-frame.used
 gated c =
     let e = c.write_gate.ensures in
@@ -63,7 +63,7 @@ words : (c : After-operands-ops) → let table = c.args.table.now in
     c.operands-ops.result.now ≡ operands_at table (nth table 1) c.loop-frame.walk.at
 words c = c.operands-ops.ensures ∙ ap (λ n. operands_at c.args.table.now n c.loop-frame.walk.at) c.loop-frame.invariant.0
 
-frame-behind : (c : After-write_frame) → let a = c.args in 
+frame-behind : (c : After-write_frame) → let a = c.args in
     FilledTo a.table.now a.shares.now a.tape.now a.values.now c.write_frame.new.values c.in-Next.next.at (c.loop-frame.first + c.in-Next.shape.wires) (c.loop-frame.from + nth a.table.now 1 * c.in-Next.shape.inputs) (c.loop-frame.used + c.in-Next.shape.randoms)
 frame-behind c =
     let e = c.write_gate.ensures.left c.if-write_gate.false in

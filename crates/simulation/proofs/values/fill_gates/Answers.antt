@@ -1,7 +1,7 @@
 -- The loop's invariant: from the first place to this one the gates are filled in, whatever the shares and random bits are.
 use mathlib.Core.Path.{◌≡◌, refl, sym, ap, ◌∙◌}
 use mathlib.Core.List.{List}
-use Prim.Native.Nat.{ℕ, ◌-◌}
+use Prim.Native.Nat.{ℕ}
 use native.Mathlib.Omega.{arith}
 use borrow.Author.Tests.{not-true, not-false}
 use Rattle.circuit.specs.Lists.{nth}

@@ -1,7 +1,7 @@
 -- The loop's invariant: `Cut`, and both arrays keep their length.
 use mathlib.Core.Path.{◌≡◌, sym, subst, ◌∙◌}
 use mathlib.Core.Bool.{true, false}
-use Prim.Native.Nat.{ℕ, ◌+◌, ◌*◌, ◌-◌, ◌≤◌, ◌<◌}
+use Prim.Native.Nat.{ℕ, ◌+◌, ◌*◌, ◌≤◌, ◌<◌}
 use native.Mathlib.Omega.{arith}
 use lib.Dec.{ltb}
 use lib.ListN.{length, get_or, set, drop, length-set}
@@ -41,7 +41,7 @@ few : (c : In-loop-k) → (c.loop-k.k < block_words) × (c.loop-k.lines < block_
 few c = let m = c.most_words-most.ensures in let l = c.loop-k.invariant.1 in (omega arith, omega (arith, l.few))
 
 -- the mark tells whether the line ends
-marked : (c : After-number) → 
+marked : (c : After-number) →
     c.word_at-word.result.mark ≡ feed_of (get_or c.args.text.now (place (view.up-In-loop-k _ _ _ _ _ c.before.before.before.before.before) + 4) 0)
 marked c = coded_mark c.word_at-word.ensures (is (view.up-Else-not-is_whole _ _ _ _ _ c.before.before))
 

@@ -48,7 +48,7 @@ pub returns-then-text-eq0 : goal.returns-then-text-eq0
 returns-then-text-eq0 c = rw c.if-text-eq0.true
 
 pub returns-then-end-eq0 : goal.returns-then-end-eq0
-returns-then-end-eq0 c = 
+returns-then-end-eq0 c =
     let z : count (goal.at.returns-then-end-eq0 c).Start ≡ 0 = behind-none 0 (count (goal.at.returns-then-end-eq0 c).Start) (sym c.end-end.ensures ∙ c.if-end-eq0.true) in
     rw (lt-ltb 0 (length c.args.text.now) (omega arith), z)
 

@@ -3,7 +3,6 @@ use mathlib.Core.Path.{◌≡◌, refl, sym, ap, ◌∙◌}
 use Prim.Native.Nat.{ℕ, ◌-◌, ◌≤◌, ◌<◌}
 use native.Mathlib.Omega.{arith}
 use lib.ListN.{get_or}
-use borrow.Author.Rules.{rules}
 use Rattle.text.specs.Internal.Blocks.{start_of, line_number, number_of}
 use Rattle.circuit.proofs.Base.{below_more}
 use Rattle.text.proofs.Blocks.{start_next, number_fits}

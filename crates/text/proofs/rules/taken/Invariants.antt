@@ -1,7 +1,6 @@
 -- The loop's invariant: the lines before this one break none of the rules, and so lie in the room.
 use mathlib.Core.Path.{◌≡◌}
 use Prim.Native.Nat.{ℕ, ◌-◌, ◌≤◌, ◌<◌}
-use borrow.Author.Rules.{rules}
 use Rattle.text.specs.Internal.Blocks.{start_of, number_of}
 use Rattle.text.proofs.rules.taken.Given as goal
 

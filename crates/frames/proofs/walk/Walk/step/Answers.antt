@@ -50,7 +50,7 @@ pub returns-then-word-gt8 : goal.returns-then-word-gt8
 returns-then-word-gt8 c = rw (lt-ltb _ _ c.if-table-at.false, le-leb _ _ c.if-word-lt1.false, lt-leb _ _ c.if-word-gt8.true)
 
 pub overflow_add-end : goal.overflow_add-end
-overflow_add-end c = 
+overflow_add-end c =
     omega (arith, (whole (goal.at.overflow_add-end c).After-frame_of-framed c.in-Whole.is).0, ap (λ s. s.words) (decided (goal.at.overflow_add-end c).After-frame_of-framed), length-drop (c.args.self.at + 1) c.args.table.now)
 
 pub returns-in-Short : goal.returns-in-Short
