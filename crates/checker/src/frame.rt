@@ -93,11 +93,13 @@ pub(crate) fn add(tally: Tally, shape: Shape, d: u16, ops: &[u16], notes: &mut [
             grown(broken, tally, 1, 0, 0, span)
         }
         Form::Product => {
-            let broken = forms::product(less(shape.wires, n), n, tally.randoms, ops, wires, notes);
+            let inner = less(shape.wires, n);
+            let broken = forms::product(inner, n, tally.randoms, ops, wires, notes);
             grown(broken, tally, shape.wires, shape.randoms, 0, span)
         }
         Form::Refresh => {
-            let broken = forms::refresh(less(shape.wires, n), n, tally.randoms, ops, wires, notes);
+            let inner = less(shape.wires, n);
+            let broken = forms::refresh(inner, n, tally.randoms, ops, wires, notes);
             grown(broken, tally, shape.wires, shape.randoms, 0, span)
         }
         Form::Row => {

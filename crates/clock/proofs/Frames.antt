@@ -14,7 +14,7 @@ use Rattle.frames.specs.declared.walk.Frame.TheVariants as frame
 use Rattle.simulation.specs.Internal.Filling.{Values, Fills, Copied}
 use Rattle.clock.specs.Internal.Running.{Clock, Runs}
 use Rattle.clock.specs.Internal.Parts.{Framed}
-use Rattle.clock.proofs.Wires.{met, fill, runs_none, runs-at}
+use Rattle.clock.proofs.Wires.{met, fill, runs_none, runs_at}
 
 -- wires that are filled in, none of them a register
 filled_runs : {G : Clock → Type 0} {E : Values → Type 0} {from to : ℕ} {values new bank : List ℕ} → from ≤ to → Fills E from to values new
@@ -39,14 +39,14 @@ module _ {d first from used : ℕ} {ops shares tape : List ℕ} where
   pub con_runs : {l b t : ℕ} {values new bank : List ℕ} → Fills (λ v. v first ≡ cond (is_set b) 1 0) first (first + 1) values new → Runs (Framed (frame.Gate (gate.Con l b t)) d first from used ops shares tape) first (first + 1) values bank new bank
   con_runs f = filled_runs (omega arith) f (λ k g. (g.within, met k first (omega (arith, g.within)) g.gates refl, one k first (ap is_register g.gates)))
 
-  pub xor-runs : {x y : ℕ} {values new bank : List ℕ} → Fills (λ v. v first ≡ bit_xor (v x) (v y)) first (first + 1) values new → Runs (Framed (frame.Gate (gate.Xor x y)) d first from used ops shares tape) first (first + 1) values bank new bank
-  xor-runs {x} {y} f = filled_runs (omega arith) f (λ k g. (g.within, met k first (omega (arith, g.within)) g.gates refl ∙ ap (bit_xor (k.shows x)) (xor_zero_r (k.shows y)), one k first (ap is_register g.gates)))
+  pub xor_runs : {x y : ℕ} {values new bank : List ℕ} → Fills (λ v. v first ≡ bit_xor (v x) (v y)) first (first + 1) values new → Runs (Framed (frame.Gate (gate.Xor x y)) d first from used ops shares tape) first (first + 1) values bank new bank
+  xor_runs {x} {y} f = filled_runs (omega arith) f (λ k g. (g.within, met k first (omega (arith, g.within)) g.gates refl ∙ ap (bit_xor (k.shows x)) (xor_zero_r (k.shows y)), one k first (ap is_register g.gates)))
 
-  pub not-runs : {x : ℕ} {values new bank : List ℕ} → Fills (λ v. v first ≡ bit_xor 1 (v x)) first (first + 1) values new → Runs (Framed (frame.Gate (gate.Not x)) d first from used ops shares tape) first (first + 1) values bank new bank
-  not-runs f = filled_runs (omega arith) f (λ k g. (g.within, met k first (omega (arith, g.within)) g.gates refl, one k first (ap is_register g.gates)))
+  pub not_runs : {x : ℕ} {values new bank : List ℕ} → Fills (λ v. v first ≡ bit_xor 1 (v x)) first (first + 1) values new → Runs (Framed (frame.Gate (gate.Not x)) d first from used ops shares tape) first (first + 1) values bank new bank
+  not_runs f = filled_runs (omega arith) f (λ k g. (g.within, met k first (omega (arith, g.within)) g.gates refl, one k first (ap is_register g.gates)))
 
-  pub out-runs : {values bank : List ℕ} → Runs (Framed (frame.Gate gate.Out) d first from used ops shares tape) first (first + 0) values bank values bank
-  out-runs {values} {bank} = runs-at refl (omega arith) (runs_none first values bank)
+  pub out_runs : {values bank : List ℕ} → Runs (Framed (frame.Gate gate.Out) d first from used ops shares tape) first (first + 0) values bank values bank
+  out_runs {values} {bank} = runs_at refl (omega arith) (runs_none first values bank)
 
-  pub reg-runs : {x : ℕ} {values bank new_bank : List ℕ} → Runs (λ k. (first + 1 ≤ k.size) × (k.gate first ≡ reg x)) first (first + 1) values bank values new_bank → Runs (Framed (frame.Gate (gate.Reg x)) d first from used ops shares tape) first (first + 1) values bank values new_bank
-  reg-runs r = record { on = λ k g u. r.on k (g.within, g.gates) u; sized = refl; held_sized = r.held_sized }
+  pub reg_runs : {x : ℕ} {values bank new_bank : List ℕ} → Runs (λ k. (first + 1 ≤ k.size) × (k.gate first ≡ reg x)) first (first + 1) values bank values new_bank → Runs (Framed (frame.Gate (gate.Reg x)) d first from used ops shares tape) first (first + 1) values bank values new_bank
+  reg_runs r = record { on = λ k g u. r.on k (g.within, g.gates) u; sized = refl; held_sized = r.held_sized }

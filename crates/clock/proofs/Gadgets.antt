@@ -15,7 +15,7 @@ use Rattle.circuit.proofs.Sizes.{pairs_twice}
 use Rattle.semantics.specs.Clock.{is_register}
 use Rattle.frames.specs.declared.walk.Frame.TheVariants as frame
 use Rattle.gadgets.specs.Internal.Places.{word_a, word_b, product_at, cross_start, out_at, mask_at, sum_at, held_at}
-use Rattle.simulation.specs.Internal.Gadgets.{MaskFills}
+use Rattle.simulation.specs.Internal.Filling.{Fills, DrawnMasked}
 use Rattle.simulation.proofs.Adding.{word_sum-map}
 use Rattle.simulation.proofs.Ranks.{pairs-rank, masks_rank}
 use Rattle.clock.specs.Internal.Running.{Clock, Runs}
@@ -27,12 +27,12 @@ random-shows : (k : Clock) (x n : ℕ) → x < k.size → k.gate x ≡ random �
 random-shows k x n l e r = met k x l e refl ∙ ap (nth k.tape) r
 
 -- AND: r and R, then B, m and M, then the rows and the outputs. It takes no shares
-pub and-runs : (d first used randoms : ℕ) (ops tape : List ℕ) → randoms ≡ pairs d → {values bank one one_bank two two_bank new new_bank : List ℕ}
+pub and_runs : (d first used randoms : ℕ) (ops tape : List ℕ) → randoms ≡ pairs d → {values bank one one_bank two two_bank new new_bank : List ℕ}
     → Runs (Draws tape used first randoms) first (first + 2 * randoms) values bank one one_bank
     → Runs (Products d first (word_a ops) (word_b d ops)) (product_at d first 0) (product_at d first d) one one_bank two two_bank
     → Runs (Rows d first (word_a ops) (word_b d ops)) (first + cross_start d 0) (out_at d first d) two two_bank new new_bank
     → (from : ℕ) (shares : List ℕ) → Runs (Framed frame.And d first from used ops shares tape) first (first + (7 * (d * (d - 1)) + 4 * d)) values bank new new_bank
-and-runs d first used randoms ops tape same draws products rows from shares =
+and_runs d first used randoms ops tape same draws products rows from shares =
     let twice = pairs_twice d in
     record {
       on = λ k g u.
@@ -48,7 +48,7 @@ and-runs d first used randoms ops tape same draws products rows from shares =
     }
 
 -- REF: its random bits and its sums are filled in, then its outputs
-pub ref_runs : (d first used : ℕ) (ops tape : List ℕ) {values bank two new_bank : List ℕ} → MaskFills d first ops tape used values two
+pub ref_runs : (d first used : ℕ) (ops tape : List ℕ) {values bank two new_bank : List ℕ} → Fills (DrawnMasked d first (word_a ops) tape used) first (first + pairs d + d) values two
     → Runs (Holds d first) (held_at d first 0) (held_at d first d) two bank two new_bank
     → (from : ℕ) (shares : List ℕ) → Runs (Framed frame.Ref d first from used ops shares tape) first (first + (pairs d + 2 * d)) values bank two new_bank
 ref_runs d first used ops tape masks holds from shares = record {

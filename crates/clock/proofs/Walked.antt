@@ -1,5 +1,5 @@
 -- A clock over an accepted table, frame by frame: it has come to the first wire behind the walk's place.
-use mathlib.Core.Path.{◌≡◌, refl, sym, ap, subst, subst₂, ◌∙◌}
+use mathlib.Core.Path.{◌≡◌, refl, sym, ap, subst, ◌∙◌}
 use mathlib.Core.Bool.{Bool, true, cond}
 use mathlib.Core.List.{List, []}
 use Prim.Native.Nat.{ℕ, ◌+◌, ◌*◌, ◌≤◌}
@@ -18,16 +18,15 @@ use Rattle.frames.specs.declared.walk.Walk.{Walk}
 use Rattle.frames.specs.declared.kinds.Shape.{Shape as ShapeCode}
 use Rattle.frames.specs.Walk.{operands_at}
 use Rattle.gadgets.specs.Internal.Accepting.{AcceptedTable, circuit_in}
-use Rattle.gadgets.specs.Internal.Gates.{FrameGates}
 use Rattle.gadgets.specs.Internal.Frames.{frame_wires}
 use Rattle.gadgets.proofs.Walking.{whole, whole_ordered, Met}
 use Rattle.simulation.specs.Internal.Evaluating.{Bits}
+use Rattle.simulation.specs.Internal.Walked.{WalkedTo}
 use Rattle.simulation.proofs.Walked.{walked_start, rank_is, frame-within, walked_next, walked_all}
 use Rattle.simulation.proofs.Single.{written_over, all_known}
 use Rattle.clock.specs.Internal.Running.{held, Clock, Upto, Runs}
 use Rattle.clock.specs.Internal.Parts.{Framed}
 use Rattle.clock.specs.Internal.Whole.{Ready, AllBits, Clocked}
-use Rattle.clock.specs.Internal.Clocking.{ClockOf, ClockingTo, GateRun}
 use Rattle.clock.proofs.Wires.{upto_at}
 use Rattle.clock.proofs.Shown.{word_value_lem, showing, meets, register_shows}
 
@@ -47,32 +46,27 @@ module _ {table : List ℕ} (a : AcceptedTable table) {shares tape values : List
     bank = bank;
   }
 
-  pub clock_of_lem : ClockOf table shares tape values bank clock_of
-  clock_of_lem = record {
-    size_is = sym (ap size a.circuit_is);
-    gates_are = ap (λ (k : Circuit). gate_at k.wires) (sym a.circuit_is);
-    ranks_are = ap {B = ℕ → ℕ} (λ (k : Circuit) x. randoms_in (take x k.wires)) (sym a.circuit_is);
-    shares_are = refl;
-    tape_is = refl;
-    values_are = refl;
-    bank_is = refl;
+  pub clock_start : Upto clock_of 0 values bank
+  clock_start = record {
+    below = λ x l. absurd (omega arith);
     registers = λ x l r. sym (register_shows (whole a).wires (whole_ordered a) values shares tape x l r (b.shown_bits x (omega (arith, ap size a.circuit_is)) (subst (λ (k : Circuit). is_register (gate_at k.wires x) ≡ true) (sym a.circuit_is) r)));
+    above = λ x l. refl;
+    held_below = λ x l. absurd (omega arith);
+    held_above = λ x l. refl;
+    sized = refl;
+    held_sized = refl;
   }
 
--- no wire yet
-clock_start : {table shares tape values bank : List ℕ} {k : Clock} → ClockOf table shares tape values bank k → Upto k 0 values bank
-clock_start c = record {
-  below = λ x l. absurd (omega arith);
-  registers = c.registers;
-  above = λ x l. ap (λ vs. nth vs x) (sym c.values_are);
-  held_below = λ x l. absurd (omega arith);
-  held_above = λ x l. ap (λ vs. nth vs x) (sym c.bank_is);
-  sized = ap length (sym c.values_are);
-  held_sized = ap length (sym c.bank_is);
-}
+-- the clock as far as the walk has come
+pub record ClockingTo (table shares tape values₀ bank₀ values bank : List ℕ) (place w from used : ℕ) : Type 0 where
+  pub walked : WalkedTo table shares tape (length values₀) place w from used
+  pub few : size (circuit_in table) ≤ length bank₀
+  pub on : (b : AllBits table shares tape values₀) → Upto (clock_of walked.evaluable.accepted bank₀ b) w values bank
+  pub sized : length values ≡ length values₀
+  pub held_sized : length bank ≡ length bank₀
 
 pub clocking_start : {table shares tape values bank : List ℕ} → Ready table shares tape values bank → ClockingTo table shares tape values bank values bank 2 0 0 0
-clocking_start r = record { walked = walked_start r.0; few = r.1; on = λ k. clock_start; sized = refl; held_sized = refl }
+clocking_start r = record { walked = walked_start r.0; few = r.1; on = clock_start r.0.accepted _; sized = refl; held_sized = refl }
 
 module _ {table shares tape values₀ bank₀ values bank : List ℕ} {place w from used : ℕ} (t : ClockingTo table shares tape values₀ bank₀ values bank place w from used) where
   abbrev a : AcceptedTable table
@@ -83,46 +77,24 @@ module _ {table shares tape values₀ bank₀ values bank : List ℕ} {place w f
     pub held_room : w + frame_wires fr d ≤ length bank
     held_room = omega (arith, frame-within t.walked same m, ap size a.circuit_is, t.few, t.held_sized)
 
-    framed : {k : Clock} → ClockOf table shares tape values₀ bank₀ k → Framed fr d w from used (operands_at table d place) shares tape k
-    framed c = record {
-      within = omega (arith, frame-within t.walked same m, ap size a.circuit_is, c.size_is);
-      gates = subst (FrameGates fr d w from (operands_at table d place)) (ap (λ (k : Circuit). gate_at k.wires) (sym a.circuit_is) ∙ sym c.gates_are) m.gates;
-      drawn = ap (λ (rank : ℕ → ℕ). rank w) c.ranks_are ∙ ap (λ (k : Circuit). randoms_in (take w k.wires)) a.circuit_is ∙ rank_is t.walked;
-      shares_are = c.shares_are;
-      tape_is = c.tape_is;
-    }
+    framed : (b : AllBits table shares tape values₀) → Framed fr d w from used (operands_at table d place) shares tape (clock_of a bank₀ b)
+    framed b = record { within = frame-within t.walked same m; gates = m.gates; drawn = rank_is t.walked; shares_are = refl; tape_is = refl }
 
-    clocking_next : {new new_bank : List ℕ} → Runs (Framed fr d w from used (operands_at table d place) shares tape) w (w + frame_wires fr d) values bank new new_bank
+    pub clocking_next : {new new_bank : List ℕ} → Runs (Framed fr d w from used (operands_at table d place) shares tape) w (w + frame_wires fr d) values bank new new_bank
         → ClockingTo table shares tape values₀ bank₀ new new_bank wk.at (w + sh.wires) (from + d * sh.inputs) (used + sh.randoms)
     clocking_next r = record {
       walked = walked_next t.walked same m;
       few = t.few;
-      on = λ k c. upto_at (ap (λ n. w + n) m.as_many) (r.on k (framed c) (t.on k c));
+      on = λ b. upto_at (ap (λ n. w + n) m.as_many) (r.on (clock_of a bank₀ b) (framed b) (t.on b));
       sized = r.sized ∙ t.sized;
       held_sized = r.held_sized ∙ t.held_sized;
     }
 
-    pub frame-next : {mid mid_bank new new_bank : List ℕ} → mid ≡ values → mid_bank ≡ bank → Runs (Framed fr d w from used (operands_at table d place) shares tape) w (w + frame_wires fr d) mid mid_bank new new_bank
-        → ClockingTo table shares tape values₀ bank₀ new new_bank wk.at (w + sh.wires) (from + d * sh.inputs) (used + sh.randoms)
-    frame-next e h r = clocking_next (rw (e, h) at r)
-
-    -- a frame of one wire takes neither shares nor random bits
-    pub clocking_kept : sh.wires ≤ 1 → {new new_bank : List ℕ} {place' w' : ℕ} → ClockingTo table shares tape values₀ bank₀ new new_bank place' w' (from + d * sh.inputs) (used + sh.randoms)
-        → ClockingTo table shares tape values₀ bank₀ new new_bank place' w' from used
-    clocking_kept h {new} {new_bank} {place'} {w'} g =
-        let (i, r) = m.few_takes h in
-        let none : from + d * sh.inputs ≡ from = ap (λ n. from + d * n) i ∙ omega arith in
-        let bare : used + sh.randoms ≡ used = omega (arith, r) in
-        subst₂ (λ (k l : ℕ). ClockingTo table shares tape values₀ bank₀ new new_bank place' w' k l) none bare g
-
-    pub gate-next : {new new_bank : List ℕ} {r : Bool} → GateRun fr w values bank new new_bank r → r ≡ true → ClockingTo table shares tape values₀ bank₀ new new_bank wk.at (w + sh.wires) from used
-    gate-next e is = clocking_kept (omega (arith, m.as_many, e.gate is d)) (clocking_next (e.runs is _ _ _ _ _ _))
-
   -- no frame is left
   pub clocking_done : t.walked.between.after ≡ [] → Clocked table shares tape values₀ values₀ bank₀ values bank
   clocking_done none = record {
-    valued = λ b. subst (λ (k : Circuit). values ≡ overwrite (bytes (shown_on k.wires values₀ shares tape)) values₀) (sym a.circuit_is) (shown b (t.on (clock_of a bank₀ b) (clock_of_lem a bank₀ b)));
-    banked = λ b. subst (λ (k : Circuit). bank ≡ overwrite (held_bytes k.wires (shown_on k.wires values₀ shares tape) bank₀) bank₀) (sym a.circuit_is) (kept b (t.on (clock_of a bank₀ b) (clock_of_lem a bank₀ b)));
+    valued = λ b. subst (λ (k : Circuit). values ≡ overwrite (bytes (shown_on k.wires values₀ shares tape)) values₀) (sym a.circuit_is) (shown b (t.on b));
+    banked = λ b. subst (λ (k : Circuit). bank ≡ overwrite (held_bytes k.wires (shown_on k.wires values₀ shares tape) bank₀) bank₀) (sym a.circuit_is) (kept b (t.on b));
   }
     where
       ws : List Wire

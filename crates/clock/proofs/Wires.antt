@@ -103,10 +103,10 @@ module _ {G : Clock → Type 0} where
   pub runs_none : (n : ℕ) (values bank : List ℕ) → Runs G n n values bank values bank
   runs_none n values bank = record { on = λ k g u. u; sized = refl; held_sized = refl }
 
-  pub runs-next : {from mid to : ℕ} {values bank one one_bank two two_bank : List ℕ} → Runs G from mid values bank one one_bank
+  pub runs_next : {from mid to : ℕ} {values bank one one_bank two two_bank : List ℕ} → Runs G from mid values bank one one_bank
       → ((k : Clock) → G k → Upto k mid one one_bank → Upto k to two two_bank) → length two ≡ length one → length two_bank ≡ length one_bank
       → Runs G from to values bank two two_bank
-  runs-next r f p q = record { on = λ k g u. f k g (r.on k g u); sized = p ∙ r.sized; held_sized = q ∙ r.held_sized }
+  runs_next r f p q = record { on = λ k g u. f k g (r.on k g u); sized = p ∙ r.sized; held_sized = q ∙ r.held_sized }
 
-  pub runs-at : {from from' to to' : ℕ} {values bank new new_bank : List ℕ} → from ≡ from' → to ≡ to' → Runs G from to values bank new new_bank → Runs G from' to' values bank new new_bank
-  runs-at {values = values} {bank} {new} {new_bank} p q r = subst₂ (λ a b. Runs G a b values bank new new_bank) p q r
+  pub runs_at : {from from' to to' : ℕ} {values bank new new_bank : List ℕ} → from ≡ from' → to ≡ to' → Runs G from to values bank new new_bank → Runs G from' to' values bank new new_bank
+  runs_at {values = values} {bank} {new} {new_bank} p q r = subst₂ (λ a b. Runs G a b values bank new new_bank) p q r

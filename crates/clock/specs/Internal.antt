@@ -4,5 +4,3 @@ pub mod Running
 pub mod Parts
 -- A whole clock
 pub mod Whole
--- A clock as far as the walk over the frames has come
-pub mod Clocking

@@ -1,6 +1,5 @@
 // One clock of an accepted table's wires, frame by frame.
-ghost use Rattle.std.specs.Prelude.{◌≡◌, cond, List, ℕ, ◌+◌, ◌≤◌, ◌<◌, leb, length};
-ghost use Rattle.circuit.specs.Lists.{nth};
+ghost use Rattle.std.specs.Prelude.{◌≡◌, cond, ◌+◌, ◌≤◌, ◌<◌, leb, length};
 ghost use Rattle.circuit.specs.Kinds.{pairs};
 ghost use Rattle.circuit.specs.Circuit.{size};
 ghost use Rattle.circuit.specs.Wires.{reg};
@@ -8,9 +7,7 @@ ghost use Rattle.gadgets.specs.Internal.Accepting.{circuit_in};
 ghost use Rattle.gadgets.specs.Internal.Frames.{frame_wires, Small, FrameEarly, FrameSupplied};
 ghost use Rattle.clock.specs.Internal.Running.{Runs};
 ghost use Rattle.clock.specs.Internal.Parts.{Framed};
-ghost use Rattle.clock.specs.Internal.Clocking.{GateRun, ClockingTo, GatesRun};
 ghost use Rattle.simulation.specs.Internal.Evaluating.{Bits};
-ghost use Rattle.simulation.specs.Internal.Walked.{Other};
 ghost use Rattle.clock.specs.Internal.Whole.{Ready, Clocked, RegisterFirst};
 
 use super::gadget;
@@ -20,7 +17,6 @@ use frames::walk::{Frame, Gate, Step, Walk};
 use reach::bytes::largest;
 use simulation::gadget::copy;
 use simulation::values;
-use simulation::values::{Before, Passed};
 
 // What a REG shows next.
 fn register(values: &[u8], bank: &mut [u8], first: usize, wire: u16)
@@ -31,105 +27,37 @@ fn register(values: &[u8], bank: &mut [u8], first: usize, wire: u16)
     bank[first] = values[x];
 }
 
-// The wire of an XOR, a NOT or a REG. The answer is whether the frame is one of these.
-fn run_gate(values: &mut [u8], bank: &mut [u8], frame: Frame, first: usize) -> bool
-    requires { (d : ℕ) × (ops : List ℕ) × FrameEarly frame d first ops × (first + frame_wires frame d ≤ length values.old) × (first + frame_wires frame d ≤ length bank.old) }
-    ensures { GateRun frame first values.old bank.old values.new bank.new result }
-{
-    match frame {
-        Frame::Gate(gate) => match gate {
-            Gate::Xor {
-                first: one,
-                second: other,
-            } => {
-                values::sum(values, first, one, other);
-                true
-            }
-            Gate::Not { wire } => {
-                values::inverse(values, first, wire);
-                true
-            }
-            Gate::Reg { wire } => {
-                register(values, bank, first, wire);
-                true
-            }
-            Gate::In { stage: _ } => false,
-            Gate::Con {
-                label: _,
-                value: _,
-                stage: _,
-            } => false,
-            Gate::Out => false,
-        },
-        Frame::And => false,
-        Frame::Ref => false,
-    }
-}
-
-// The wires of each XOR, NOT and REG from a walk's place up to the first frame of another kind. These take neither shares nor random
-// bits, and a loop of their own carries two numbers only.
-fn run_gates(
-    table: &[u16],
-    values: &mut [u8],
-    bank: &mut [u8],
-    start: Walk,
-    wires: usize,
-    randoms: u16,
-) -> Passed
-    requires { (start.d ≡ nth table.now 1) × (randoms ≡ pairs (nth table.now 1)) × ((shares tape shown held : List ℕ) × (from used : ℕ) × ClockingTo table.now shares tape shown held values.old bank.old start.at wires from used) }
-    ensures { (result.walk.d ≡ nth table.now 1) × GatesRun table.now values.old bank.old start.at wires values.new bank.new result.walk.at result.first }
-{
-    let mut walk = start;
-    let mut first = wires;
-    loop {
-        let step = walk.step(table, randoms);
-        let Step::Next {
-            frame,
-            shape,
-            walk: next,
-        } = step
-        else {
-            return Passed { walk, first };
-        };
-        if !run_gate(values, bank, frame, first) {
-            return Passed { walk, first };
-        }
-        first += shape.wires;
-        walk = next;
-    }
-}
-
-// The wires of another frame. A gadget takes so many random bits.
+// A frame's wires, behind so many wires, shares and random bits. A gadget takes so many random bits.
 fn run_frame(
     values: &mut [u8],
     bank: &mut [u8],
     frame: Frame,
     d: usize,
     randoms: u16,
-    before: Before,
+    first: usize,
+    from: usize,
+    used: usize,
     ops: &[u16],
     shares: &[u8],
     tape: &[u8],
 )
-    requires { Small before.first d × (before.first + frame_wires frame d ≤ length values.old) × (before.first + frame_wires frame d ≤ length bank.old) × FrameEarly frame d before.first ops.now × FrameSupplied frame d before.from before.used (length shares.now) (length tape.now) × (randoms ≡ pairs d) × Other frame }
-    ensures { Runs (Framed frame d before.first before.from before.used ops.now shares.now tape.now) before.first (before.first + frame_wires frame d) values.old bank.old values.new bank.new }
+    requires { Small first d × (first + frame_wires frame d ≤ length values.old) × (first + frame_wires frame d ≤ length bank.old) × FrameEarly frame d first ops.now × FrameSupplied frame d from used (length shares.now) (length tape.now) × (randoms ≡ pairs d) }
+    ensures { Runs (Framed frame d first from used ops.now shares.now tape.now) first (first + frame_wires frame d) values.old bank.old values.new bank.new }
 {
-    let first = before.first;
-    let used = before.used;
     match frame {
         Frame::Gate(gate) => match gate {
-            Gate::In { stage: _ } => copy(values, first, shares, before.from, d),
+            Gate::In { stage: _ } => copy(values, first, shares, from, d),
             Gate::Con {
                 label: _,
                 value,
                 stage: _,
             } => values::constant(values, first, value),
             Gate::Xor {
-                first: _,
-                second: _,
-            } => {}
-            Gate::Not { wire: _ } => {}
-            Gate::Reg { wire: _ } => {}
+                first: one,
+                second: other,
+            } => values::sum(values, first, one, other),
+            Gate::Not { wire } => values::inverse(values, first, wire),
+            Gate::Reg { wire } => register(values, bank, first, wire),
             Gate::Out => {}
         },
         Frame::And => gadget::and(values, bank, first, d, randoms as usize, ops, tape, used),
@@ -137,7 +65,7 @@ fn run_frame(
     }
 }
 
-// All frames; the gates behind a gate by a loop of their own. Before, the buffer of values holds what every register shows.
+// All frames. Before, the buffer of values holds what every register shows.
 fn run_frames(table: &[u16], shares: &[u8], tape: &[u8], values: &mut [u8], bank: &mut [u8])
     requires { Ready table.now shares.now tape.now values.old bank.old }
     ensures { Clocked table.now shares.now tape.now values.old values.old bank.old values.new bank.new }
@@ -151,26 +79,27 @@ fn run_frames(table: &[u16], shares: &[u8], tape: &[u8], values: &mut [u8], bank
     let mut used = 0;
     loop {
         let step = walk.step(table, randoms);
-        let Step::Next {
-            frame,
-            shape,
-            walk: next,
-        } = step
-        else {
-            return;
-        };
-        if run_gate(values, bank, frame, first) {
-            let passed = run_gates(table, values, bank, next, first + shape.wires, randoms);
-            walk = passed.walk;
-            first = passed.first;
-        } else {
-            let ops = walk.operands(table);
-            let before = Before { first, from, used };
-            run_frame(values, bank, frame, n, randoms, before, ops, shares, tape);
-            first += shape.wires;
-            from += n * shape.inputs;
-            used += shape.randoms;
-            walk = next;
+        match step {
+            Step::Next {
+                frame,
+                shape,
+                walk: next,
+            } => {
+                let ops = walk.operands(table);
+                run_frame(
+                    values, bank, frame, n, randoms, first, from, used, ops, shares, tape,
+                );
+                first += shape.wires;
+                from += n * shape.inputs;
+                used += shape.randoms;
+                walk = next;
+            }
+            Step::End => {
+                return;
+            }
+            Step::Refused { rule: _ } => {
+                return;
+            }
         }
     }
 }

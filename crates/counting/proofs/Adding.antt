@@ -12,7 +12,7 @@ use Rattle.circuit.specs.Lists.{nth}
 use Rattle.circuit.proofs.Base.{cases}
 use Rattle.gadgets.proofs.Stored.{nth-set}
 use Rattle.counting.specs.Internal.Pairs.{sum_to}
-use Rattle.counting.specs.Internal.Lanes.{gathered, Numbers, Adds}
+use Rattle.counting.specs.Internal.Lanes.{gathered, Adds}
 use Rattle.counting.proofs.Numbered.{sum_to_same}
 use Rattle.counting.proofs.Gathering.{gathered-same, gathered-first}
 
@@ -38,7 +38,7 @@ adds_more {f} {g} {m} {n} a b same = record {
   added = λ x l. omega (
     arith,
     a.added x l,
-    b.added x (omega (arith, a.sized)),
+    b.added x l,
     sum_more m n (λ t. cond (eqb (f t) x) 1 0),
     sum_to_same n (λ t. cond (eqb (g t) x) 1 0) (λ t. cond (eqb (f (m + t)) x) 1 0) (λ t h. ap (λ y. cond (eqb y x) 1 0) (same t h)),
   );
@@ -54,15 +54,15 @@ adds_one {m} old inside f e = record {
 }
 
 -- no number is counted more often than there are pairs
-pub adds-few : {f : ℕ → ℕ} {m : ℕ} {old new : List ℕ} → Adds f m old new → (n : ℕ) → nth new n ≤ nth old n + m
-adds-few {f} {m} {old} {new} a n = cases (ltb n (length old))
-    (λ b. omega (arith, a.added n (ltb-true n (length old) b), few_ones m (λ l. eqb (f l) n)))
-    (λ b. omega (arith, get_or-eq_default new 0 {n = n} (omega (arith, ltb-false n (length old) b, a.sized))))
+pub adds-few : {f : ℕ → ℕ} {m : ℕ} {old new : List ℕ} → Adds f m old new → length old ≡ 256 → (n : ℕ) → nth new n ≤ nth old n + m
+adds-few {f} {m} {old} {new} a w n = cases (ltb n 256)
+    (λ b. omega (arith, a.added n (ltb-true n 256 b), few_ones m (λ l. eqb (f l) n)))
+    (λ b. omega (arith, get_or-eq_default new 0 {n = n} (omega (arith, ltb-false n 256 b, a.sized))))
 
 -- so there is room for those that are left; and where none are left, all are counted
-pub adds-room : {f : ℕ → ℕ} {done lanes room : ℕ} {old new : List ℕ} → Adds f done old new → ((n : ℕ) → nth old n + lanes < room) → (count : ℕ) → done + count ≤ lanes
+pub adds-room : {f : ℕ → ℕ} {done lanes room : ℕ} {old new : List ℕ} → Adds f done old new → length old ≡ 256 → ((n : ℕ) → nth old n + lanes < room) → (count : ℕ) → done + count ≤ lanes
     → (n : ℕ) → nth new n + count < room
-adds-room a h count l n = omega (arith, adds-few a n, h n)
+adds-room a w h count l n = omega (arith, adds-few a w n, h n)
 
 pub adds-all : {f : ℕ → ℕ} {done lanes : ℕ} {old new : List ℕ} → Adds f done old new → done ≤ lanes → lanes ≤ done → Adds f lanes old new
 adds-all {f} {done} {lanes} {old} {new} a l m = let e : done ≡ lanes = omega arith in subst (λ n. Adds f n old new) e a
@@ -75,9 +75,9 @@ pub record AddedTo (numbers lanes : ℕ) (old new : List ℕ) (rest lane : ℕ) 
   pub added : (f : ℕ → ℕ) → ((l : ℕ) → f l < 256) → numbers ≡ gathered 8 f → Adds f lane old new
   pub few : (n : ℕ) → nth new n ≤ nth old n + lane
   pub sized : length new ≡ length old
-  pub named : Numbers numbers (length old)
+  pub wide : length old ≡ 256
 
-pub added_start : {numbers lanes : ℕ} {old : List ℕ} → lanes ≤ 8 → Numbers numbers (length old) → AddedTo numbers lanes old old numbers 0
+pub added_start : {numbers lanes : ℕ} {old : List ℕ} → lanes ≤ 8 → length old ≡ 256 → AddedTo numbers lanes old old numbers 0
 added_start h w = record {
   most = omega arith;
   all = h;
@@ -85,31 +85,30 @@ added_start h w = record {
   added = λ f s e. adds_none f _;
   few = λ n. omega arith;
   sized = refl;
-  named = w;
+  wide = w;
 }
 
 module _ {numbers lanes : ℕ} {old new : List ℕ} {rest lane : ℕ} (a : AddedTo numbers lanes old new rest lane) where
-  first : lane < lanes → (f : ℕ → ℕ) → ((l : ℕ) → f l < 256) → numbers ≡ gathered 8 f
-      → (rest % 256 ≡ f (lane + 0)) × (rest / 256 ≡ gathered (7 - lane) (λ l. f (lane + suc l)))
-  first h f s e =
-      let m : 8 - lane ≡ suc (7 - lane) = omega (arith, a.all) in
-      gathered-first (7 - lane) rest (λ l. f (lane + l)) (s (lane + 0)) (a.left f s e ∙ ap (λ n. gathered n (λ l. f (lane + l))) m)
-
-  -- the number of a lane is a place of the tally
-  pub added-inside : lane < lanes → rest % 256 < length new
-  added-inside h = let n = a.named in omega (arith, (first h n.of n.small n.are).0, n.inside (lane + 0), a.sized)
-
   pub added_next : lane < lanes → AddedTo numbers lanes old (set new (rest % 256) (nth new (rest % 256) + 1)) (rest / 256) (lane + 1)
   added_next h = record {
     most = omega arith;
     all = a.all;
-    left = λ f s e. (first h f s e).1 ∙ ap (λ m. gathered m (λ l. f (lane + suc l))) (omega (arith, a.all))
+    left = λ f s e. (first f s e).1 ∙ ap (λ m. gathered m (λ l. f (lane + suc l))) (omega (arith, a.all))
         ∙ gathered-same (8 - (lane + 1)) (λ l. f (lane + suc l)) (λ l. f (lane + 1 + l)) (λ l k. ap f (omega arith));
-    added = λ f s e. adds_more (a.added f s e) (adds_one new (added-inside h) (λ l. f (lane + l)) (first h f s e).0) (λ l k. refl);
-    few = λ n. nth-set new (rest % 256) (nth new (rest % 256) + 1) n (added-inside h) (λ same z. omega (arith, a.few n, ap (nth new) same)) (λ other z. omega (arith, a.few n));
+    added = λ f s e. adds_more (a.added f s e) (adds_one new inside (λ l. f (lane + l)) (first f s e).0) (λ l k. refl);
+    few = λ n. nth-set new (rest % 256) (nth new (rest % 256) + 1) n inside (λ same z. omega (arith, a.few n, ap (nth new) same)) (λ other z. omega (arith, a.few n));
     sized = length-set new (rest % 256) _ ∙ a.sized;
-    named = a.named;
+    wide = a.wide;
   }
+    where
+      inside : rest % 256 < length new
+      inside = omega (arith, a.sized, a.wide)
+
+      first : (f : ℕ → ℕ) → ((l : ℕ) → f l < 256) → numbers ≡ gathered 8 f
+          → (rest % 256 ≡ f (lane + 0)) × (rest / 256 ≡ gathered (7 - lane) (λ l. f (lane + suc l)))
+      first f s e =
+          let m : 8 - lane ≡ suc (7 - lane) = omega (arith, a.all) in
+          gathered-first (7 - lane) rest (λ l. f (lane + l)) (s (lane + 0)) (a.left f s e ∙ ap (λ n. gathered n (λ l. f (lane + l))) m)
 
   pub added_end : lanes ≤ lane → (f : ℕ → ℕ) → ((l : ℕ) → f l < 256) → numbers ≡ gathered 8 f → Adds f lanes old new
   added_end h f s g = adds-all (a.added f s g) a.most h

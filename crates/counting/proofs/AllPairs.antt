@@ -22,13 +22,12 @@ use Rattle.symbolic.specs.Internal.Sums.{added, term_word, Before}
 use Rattle.counting.specs.declared.tally.Plan.{Plan}
 use Rattle.counting.specs.Internal.Pairs.{free_of, values_with, number_with, shown_of}
 use Rattle.counting.specs.Internal.Lanes.{lane_bit}
-use Rattle.counting.specs.Internal.Linear.{folded, Surveys, Surveyed, varied_in, shift_in, Foldable, Folds}
+use Rattle.counting.specs.Internal.Linear.{folded, Surveys, Surveyed, varied_in, shift_in, ShiftsIn, Remade}
 use Rattle.counting.specs.Internal.Tallying.{set_of, Prepared, TalliedSome, Tallied}
 use Rattle.counting.proofs.Numbered.{pow_mono, sum-numbers}
 use Rattle.counting.proofs.Adding.{few_ones}
 use Rattle.counting.proofs.Batches.{sizes}
 use Rattle.counting.proofs.Placed.{sum-placed}
-use Rattle.counting.proofs.Gathering.{shown_lt}
 use Rattle.counting.proofs.Folding.{Shifted, some, fold_same, fold_all, shifted}
 use Rattle.counting.proofs.Flipped.{lane_lt, added-on, added_flipped, byte_flipped, number_flipped, at_apart, at-bit}
 use Rattle.counting.proofs.Solved.{Solution, solved, solution}
@@ -158,40 +157,36 @@ module _ {table secrets read sums terms : List ℕ} {outputs found : ℕ} {plan 
         ∙ ap (λ n. bit_xor n (shift_in sums read found x)) (sym (number_taken (at (values_with k set lo)) found read room))
 
   -- all pairs
-  abbrev wires : List ℕ
-  wires = take found read
+  module _ {shifts : List ℕ} (sh : ShiftsIn sums read found plan.free shifts) where
+    abbrev wires : List ℕ
+    wires = take found read
 
-  abbrev varied : ℕ → Bool
-  varied i = lane_bit i factors
+    abbrev varied : ℕ → Bool
+    varied i = lane_bit i factors
 
-  abbrev shift : ℕ → ℕ
-  shift = shift_in sums read found
+    all_shifted : Shifted varied (nth shifts) plan.free 0 (number_with k set wires)
+    all_shifted = shifted varied (nth shifts) (number_with k set wires) plan.free
+        (λ pre bs e linear. number_shifted pre bs e linear ∙ ap (bit_xor (number_with k set wires (pre ++ false ∷ bs))) (sym (sh.are (length pre) (omega arith)))) plan.free 0 [] refl (omega arith)
 
-  all_shifted : Shifted varied shift plan.free 0 (number_with k set wires)
-  all_shifted = shifted varied shift (number_with k set wires) plan.free (λ pre bs e linear. number_shifted pre bs e linear) plan.free 0 [] refl (omega arith)
-
-  module _ {tally : List ℕ} (t : TalliedSome table (set_of table second secrets) read found factors plan.free tally) where
-    counted-all : (n : ℕ) → n < 2 ^ found → folded varied shift plan.free 0 (nth tally) n ≡ shown_of k set wires n
-    counted-all n l =
+    counted-all : {tally : List ℕ} → TalliedSome table (set_of table second secrets) wires factors plan.free tally → (n : ℕ) → n < 2 ^ found → folded varied (nth shifts) plan.free 0 (nth tally) n ≡ shown_of k set wires n
+    counted-all {tally} t n l =
         let ones : List Bool → ℕ = λ bs. cond (eqb (number_with k set wires bs) n) 1 0 in
-        fold_same varied shift found (λ i. shown_lt (λ j. nth sums (nth read j)) found i) plan.free 0 (nth tally) (some varied shift plan.free 0 (number_with k set wires))
-        (λ m h. t.counts m (omega (arith, t.room)) ∙ sym (sum-placed (varied_in factors plan.free) (λ bs. cond (eqb (number_with k set wires bs) m) 1 0))) n l
-        ∙ sym (fold_all varied shift plan.free 0 (number_with k set wires) all_shifted n)
+        fold_same varied (nth shifts) found sh.low plan.free 0 (nth tally) (some varied (nth shifts) plan.free 0 (number_with k set wires))
+        (λ m h. t.counts m (omega (arith, pow_mono 8 found p.read_in.few)) ∙ sym (sum-placed (varied_in factors plan.free) (λ bs. cond (eqb (number_with k set wires bs) m) 1 0))) n l
+        ∙ sym (fold_all varied (nth shifts) plan.free 0 (number_with k set wires) all_shifted n)
         ∙ ap (λ m. sum_bits m ones) p.planned.free_is ∙ sum-numbers (free_bits k) ones
 
-    counted-few : (n : ℕ) → n < 2 ^ found → folded varied shift plan.free 0 (nth tally) n ≤ 65536
-    counted-few n l = omega (arith, counted-all n l, few_ones (2 ^ free_bits k) (λ u. eqb (number_with k set wires (free_of (free_bits k) u)) n), pow_mono 16 (free_bits k) (p.countable second).few)
+    pub counted-few : {tally : List ℕ} → TalliedSome table (set_of table second secrets) wires factors plan.free tally → (n : ℕ) → n < 2 ^ found → folded varied (nth shifts) plan.free 0 (nth tally) n ≤ 65536
+    counted-few {tally} t n l = omega (arith, counted-all t n l, few_ones (2 ^ free_bits k) (λ u. eqb (number_with k set wires (free_of (free_bits k) u)) n), pow_mono 16 (free_bits k) (p.countable second).few)
 
-    pub foldable : Foldable factors shift plan.free found tally
-    foldable = record { room = t.room; few = counted-few }
-
-    pub tallied_all : {new : List ℕ} → Folds factors shift plan.free found tally new → Tallied table (set_of table second secrets) wires new
-    tallied_all {new} r =
+    pub tallied_all : {tally new : List ℕ} → TalliedSome table (set_of table second secrets) wires factors plan.free tally → Remade (folded varied (nth shifts) plan.free 0 (nth tally)) (2 ^ found) tally new
+        → Tallied table (set_of table second secrets) wires new
+    tallied_all {tally} {new} t r =
         let sized : length wires ≡ found = length-take-le found read (omega (arith, p.read_in.few, p.read_in.sized)) in
         let below : (n : ℕ) → n < 2 ^ length wires → n < 2 ^ found = λ n l. rw (← sized) l in
         record {
-          counts = λ n l. r.are n (below n l) ∙ counted-all n (below n l);
+          counts = λ n l. r.are n (below n l) ∙ counted-all t n (below n l);
           few = λ n. cases (ltb n (2 ^ found))
-              (λ e. let l = ltb-true n (2 ^ found) e in omega (arith, r.are n l, counted-few n l))
+              (λ e. let l = ltb-true n (2 ^ found) e in omega (arith, r.are n l, counted-few t n l))
               (λ e. omega (arith, r.rest n (ltb-false n (2 ^ found) e), t.few n));
         }

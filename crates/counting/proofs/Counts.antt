@@ -17,7 +17,7 @@ use Rattle.counting.specs.Internal.Pairs.{shown_of}
 use Rattle.counting.specs.Internal.Listing.{four_of, list_of}
 use Rattle.counting.specs.Internal.Tallying.{Numbered, Countable, ReadIn, set_of, Tallied, ListsCounts}
 use Rattle.counting.proofs.Numbered.{pow_mono, by_place, combinations-length}
-use Rattle.counting.proofs.Shown.{count-shown}
+use Rattle.counting.proofs.Shown.{count_shown}
 use Rattle.counting.proofs.Batches.{some-shares}
 
 -- lists for the elements of a list
@@ -40,7 +40,7 @@ shown : {table secrets wires tally : List ℕ} → Countable table secrets → T
 shown {table} {secrets} {wires} k t probes e n l =
     let c = circuit_in table in
     subst (λ (ws : List ℕ). n < 2 ^ length ws → count_of c probes (bits secrets) (get_or (combinations (length ws)) n []) ≡ shown_of c (bits secrets) ws n) e
-    (count-shown c probes (bits secrets) (some-shares k.accepted) (length-map secrets is_set ∙ k.sized) n) l
+    (count_shown c probes (bits secrets) (some-shares k.accepted) (length-map secrets is_set ∙ k.sized) n) l
     ∙ sym (t.counts n l)
 
 module _ {table one other first second wires : List ℕ} (k : Countable table one) (l : Countable table other) (t : Tallied table one wires first) (u : Tallied table other wires second) (few : length wires ≤ 8) where
@@ -92,11 +92,11 @@ module _ {table : List ℕ} {inputs randoms : ℕ} (n : Numbered table inputs ra
   pub lists : {read first second : List ℕ} {found : ℕ} → ReadIn table read found → Tallied table (set_of table false secrets) (take found read) first → Tallied table (set_of table true secrets) (take found read) second
       → (old : List ℕ) {new : List ℕ} → 1024 ≤ length old → (count pairs : ℕ) → count ≡ 2 ^ found → pairs ≡ pair_count (circuit_in table) → new ≡ sets old 0 (list_of first second pairs 0 count)
       → ListsCounts table secrets inputs (take found read) old new
-  lists {read} {first} {second} {found} r t u old room count pairs count-is pairs-are f =
+  lists {read} {first} {second} {found} r t u old room count pairs count_is pairs-are f =
       let sized : length (take found read) ≡ found = length-take-le found read (omega (arith, r.few, r.sized)) in
       let c = circuit_in table in
       record {
         is = λ probes e. sheet-is (set-countable false) (set-countable true) t u (omega (arith, sized, r.few)) probes e old room
-            (f ∙ ap₂ (λ p m. sets old 0 (list_of first second p 0 m)) pairs-are (count-is ∙ ap (λ m. 2 ^ m) (sym sized)))
+            (f ∙ ap₂ (λ p m. sets old 0 (list_of first second p 0 m)) pairs-are (count_is ∙ ap (λ m. 2 ^ m) (sym sized)))
             ∙ ap (λ m. overwrite (count_list c probes (bits (take m secrets)) (bits (drop m secrets))) old) (sym n.inputs_are);
       }

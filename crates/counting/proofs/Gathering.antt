@@ -1,5 +1,5 @@
 -- Bits of eight pairs in a byte of each column, and the numbers that they make up.
-use mathlib.Core.Path.{◌≡◌, refl, sym, ap, ap₂, subst, ◌∙◌}
+use mathlib.Core.Path.{◌≡◌, refl, sym, ap, ap₂, ◌∙◌}
 use mathlib.Core.Bool.{Bool, true, false, ◌&&◌}
 use mathlib.Core.List.{List, [], ◌∷◌, ◌++◌, map, map-append}
 use Prim.Native.Nat.{ℕ, zero, suc, ◌+◌, ◌*◌, ◌/◌, ◌%◌, ◌^◌, ◌≤◌, ◌<◌}
@@ -100,17 +100,12 @@ number-next [] b = omega arith
 number-next (true ∷ bs) b = rw (length-append bs (b ∷ []), add-one (length bs), pow-suc 2 (length bs)) (omega (arith, number-next bs b))
 number-next (false ∷ bs) b = omega (arith, number-next bs b)
 
--- what pairs show is a combination of so many wires, a byte for eight
-pub shown_lt : (columns : ℕ → ℕ) (found l : ℕ) → shown_by columns found l < 2 ^ found
-shown_lt columns found l =
-    let bs = map (λ i. lane_bit l (columns i)) (range 0 found) in
-    let sized : length bs ≡ found = length-map (range 0 found) (λ i. lane_bit l (columns i)) ∙ range_length 0 found in
-    subst (λ (n : ℕ). number_of bs < 2 ^ n) sized (number_lt bs)
-
-pub shown-small : (columns : ℕ → ℕ) (found l : ℕ) → found ≤ 8 → shown_by columns found l < 256
-shown-small columns found l few = omega (arith, shown_lt columns found l, pow_mono 8 found few)
-
 -- what eight pairs show on one wire more
+pub shown-small : (columns : ℕ → ℕ) (found l : ℕ) → found ≤ 8 → shown_by columns found l < 256
+shown-small columns found l few =
+    let bs = map (λ i. lane_bit l (columns i)) (range 0 found) in
+    omega (arith, number_lt bs, pow_mono 8 (length bs) (omega (arith, length-map (range 0 found) (λ i. lane_bit l (columns i)), range_length 0 found)))
+
 pub shown-next : (columns : ℕ → ℕ) (i l : ℕ) → shown_by columns (i + 1) l ≡ 2 * shown_by columns i l + byte (lane_bit l (columns i))
 shown-next columns i l =
     let bit : ℕ → Bool = λ j. lane_bit l (columns j) in

@@ -27,50 +27,50 @@ use Rattle.counting.proofs.Preparing.{part, secrets_many}
 abbrev Low : List ℕ → Type 0
 Low xs = (i : ℕ) → nth xs i < 2 ^ 18
 
-low_append : (xs ys : List ℕ) → Low xs → Low ys → Low (xs ++ ys)
-low_append [] ys h k i = k i
-low_append (x ∷ xs) ys h k zero = h zero
-low_append (x ∷ xs) ys h k (suc i) = low_append xs ys (λ j. h (suc j)) k i
+low-append : (xs ys : List ℕ) → Low xs → Low ys → Low (xs ++ ys)
+low-append [] ys h k i = k i
+low-append (x ∷ xs) ys h k zero = h zero
+low-append (x ∷ xs) ys h k (suc i) = low-append xs ys (λ j. h (suc j)) k i
 
-low_take : (n : ℕ) (xs : List ℕ) → Low xs → Low (take n xs)
-low_take zero xs h i = omega arith
-low_take (suc n) [] h i = omega arith
-low_take (suc n) (x ∷ xs) h zero = h zero
-low_take (suc n) (x ∷ xs) h (suc i) = low_take n xs (λ j. h (suc j)) i
+low-take : (n : ℕ) (xs : List ℕ) → Low xs → Low (take n xs)
+low-take zero xs h i = omega arith
+low-take (suc n) [] h i = omega arith
+low-take (suc n) (x ∷ xs) h zero = h zero
+low-take (suc n) (x ∷ xs) h (suc i) = low-take n xs (λ j. h (suc j)) i
 
-low_drop : (n : ℕ) (xs : List ℕ) → Low xs → Low (drop n xs)
-low_drop n xs h i = rw (get_or-drop n xs i 0) (h (n + i))
+low-drop : (n : ℕ) (xs : List ℕ) → Low xs → Low (drop n xs)
+low-drop n xs h i = rw (get_or-drop n xs i 0) (h (n + i))
 
-low_shares : (x : ℕ) (ws : List ℕ) → x < 2 ^ 18 → Low ws → Low (shares_of x ws)
+low-shares : (x : ℕ) (ws : List ℕ) → x < 2 ^ 18 → Low ws → Low (shares_of x ws)
 unfolding shares_of
-low_shares x [] l h zero = l
-low_shares x [] l h (suc i) = omega arith
-low_shares x (w ∷ ws) l h zero = h zero
-low_shares x (w ∷ ws) l h (suc i) = low_shares (bit_xor x w) ws (xor_lt 18 x w l (h zero)) (λ j. h (suc j)) i
+low-shares x [] l h zero = l
+low-shares x [] l h (suc i) = omega arith
+low-shares x (w ∷ ws) l h zero = h zero
+low-shares x (w ∷ ws) l h (suc i) = low-shares (bit_xor x w) ws (xor_lt 18 x w l (h zero)) (λ j. h (suc j)) i
 
-low_all : (n : ℕ) (zs ws : List ℕ) → Low zs → Low ws → Low (all_shares n zs ws)
+low-all : (n : ℕ) (zs ws : List ℕ) → Low zs → Low ws → Low (all_shares n zs ws)
 unfolding all_shares
-low_all n [] ws h k i = omega arith
-low_all n (x ∷ zs) ws h k i = low_append (shares_of x (take n ws)) (all_shares n zs (drop n ws)) (low_shares x (take n ws) (h zero) (low_take n ws k)) (low_all n zs (drop n ws) (λ j. h (suc j)) (low_drop n ws k)) i
+low-all n [] ws h k i = omega arith
+low-all n (x ∷ zs) ws h k i = low-append (shares_of x (take n ws)) (all_shares n zs (drop n ws)) (low-shares x (take n ws) (h zero) (low-take n ws k)) (low-all n zs (drop n ws) (λ j. h (suc j)) (low-drop n ws k)) i
 
-low_map : (g : ℕ → ℕ) (xs : List ℕ) → ((x : ℕ) → In x xs → g x < 2 ^ 18) → Low (map g xs)
-low_map g [] h i = omega arith
-low_map g (x ∷ xs) h zero = h x (in_head x xs)
-low_map g (x ∷ xs) h (suc i) = low_map g xs (λ y k. h y (in_tail y x xs k)) i
+low-map : (g : ℕ → ℕ) (xs : List ℕ) → ((x : ℕ) → In x xs → g x < 2 ^ 18) → Low (map g xs)
+low-map g [] h i = omega arith
+low-map g (x ∷ xs) h zero = h x (in_head x xs)
+low-map g (x ∷ xs) h (suc i) = low-map g xs (λ y k. h y (in_tail y x xs k)) i
 
-low_secret : (x y : ℕ) → secret_sum x y < 2 ^ 18
-low_secret zero zero = omega arith
-low_secret zero (suc y) = omega arith
-low_secret (suc x) zero = omega arith
-low_secret (suc x) (suc y) = omega arith
+low-secret : (x y : ℕ) → secret_sum x y < 2 ^ 18
+low-secret zero zero = omega arith
+low-secret zero (suc y) = omega arith
+low-secret (suc x) zero = omega arith
+low-secret (suc x) (suc y) = omega arith
 
 low_free : Low free_sums
-low_free = low_map (λ i. 2 ^ i) (range 0 16) (λ i h. let l = label_lt 16 i h in pow-lt {i = i} {j = 18} (omega arith))
+low_free = low-map (λ i. 2 ^ i) (range 0 16) (λ i h. let l = label_lt 16 i h in pow-lt {i = i} {j = 18} (omega arith))
 
-pub prepared_low : (plan : Plan) (n : ℕ) (secrets : List ℕ) → Low (prepared_shares plan n secrets) × Low (prepared_tape plan)
-prepared_low plan n secrets = (
-  low_all plan.others (secret_sums n secrets) free_sums (low_map _ (range 0 n) (λ j h. low_secret (nth secrets j) (nth secrets (n + j)))) low_free,
-  low_take (plan.free - plan.start) (drop plan.start free_sums) (low_drop plan.start free_sums low_free),
+pub prepared-low : (plan : Plan) (n : ℕ) (secrets : List ℕ) → Low (prepared_shares plan n secrets) × Low (prepared_tape plan)
+prepared-low plan n secrets = (
+  low-all plan.others (secret_sums n secrets) free_sums (low-map _ (range 0 n) (λ j h. low-secret (nth secrets j) (nth secrets (n + j)))) low_free,
+  low-take (plan.free - plan.start) (drop plan.start free_sums) (low-drop plan.start free_sums low_free),
 )
 
 -- a list written at the start of a buffer, lent by itself

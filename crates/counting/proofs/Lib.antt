@@ -37,4 +37,5 @@ pub mod Solved
 pub mod Flipped
 pub mod AllPairs
 pub mod Surveying
+pub mod Shifts
 pub mod Shifting

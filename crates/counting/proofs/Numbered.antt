@@ -49,16 +49,16 @@ sum-pairs (suc n) f =
     rw (e, even, odd) (omega (arith, sum-pairs n f))
 
 -- the lowest digit, and the others
-pub digit-of : (t : ℕ) (b : Bool) → is_set ((t * 2 + byte b) % 2) ≡ b
-digit-of t true = let e : (t * 2 + 1) % 2 ≡ 1 = omega arith in rw e
-digit-of t false = let e : (t * 2 + 0) % 2 ≡ 0 = omega arith in rw e
+pub digit_of : (t : ℕ) (b : Bool) → is_set ((t * 2 + byte b) % 2) ≡ b
+digit_of t true = let e : (t * 2 + 1) % 2 ≡ 1 = omega arith in rw e
+digit_of t false = let e : (t * 2 + 0) % 2 ≡ 0 = omega arith in rw e
 
 pub half_of : (t : ℕ) (b : Bool) → (t * 2 + byte b) / 2 ≡ t
 half_of t true = omega arith
 half_of t false = omega arith
 
 free_of_lem : (n t : ℕ) (b : Bool) → free_of (suc n) (t * 2 + byte b) ≡ b ∷ free_of n t
-free_of_lem n t b = ap₂ ◌∷◌ (digit-of t b) (ap (free_of n) (half_of t b))
+free_of_lem n t b = ap₂ ◌∷◌ (digit_of t b) (ap (free_of n) (half_of t b))
 
 pub sum-numbers : (n : ℕ) (f : List Bool → ℕ) → sum_bits n f ≡ sum_to (2 ^ n) (λ t. f (free_of n t))
 sum-numbers zero f = omega arith

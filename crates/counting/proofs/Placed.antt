@@ -9,7 +9,7 @@ use lib.ListN.{length}
 use Rattle.semantics.specs.Values.{byte, at}
 use Rattle.counting.specs.Internal.Pairs.{sum_to, placed, count_varied}
 use Rattle.counting.specs.Internal.Lanes.{lane_bit}
-use Rattle.counting.proofs.Numbered.{sum_to_same, sum-pairs, digit-of, half_of}
+use Rattle.counting.proofs.Numbered.{sum_to_same, sum-pairs, digit_of, half_of}
 
 -- the sum over all values of the bits that vary, the others being 0
 abbrev pub sum_varied : List Bool → (List Bool → ℕ) → ℕ
@@ -18,7 +18,7 @@ sum_varied (true ∷ vs) f = sum_varied vs (λ bs. f (false ∷ bs)) + sum_varie
 sum_varied (false ∷ vs) f = sum_varied vs (λ bs. f (false ∷ bs))
 
 placed_of : (vs : List Bool) (t : ℕ) (b : Bool) → placed (true ∷ vs) (t * 2 + byte b) ≡ b ∷ placed vs t
-placed_of vs t b = ap₂ ◌∷◌ (digit-of t b) (ap (placed vs) (half_of t b))
+placed_of vs t b = ap₂ ◌∷◌ (digit_of t b) (ap (placed vs) (half_of t b))
 
 pub sum-placed : (vs : List Bool) (f : List Bool → ℕ) → sum_varied vs f ≡ sum_to (2 ^ count_varied vs) (λ t. f (placed vs t))
 sum-placed [] f = omega arith

@@ -1,18 +1,18 @@
 -- Counts moved by a shift and added, two at a time; counts multiplied; and all free bits that do not vary, one after the other.
 use mathlib.Core.Path.{◌≡◌, refl, sym, ap, ap₂, ◌∙◌}
-use mathlib.Core.Bool.{Bool, true, false, true≢false}
+use mathlib.Core.Bool.{Bool, true, false}
 use mathlib.Core.List.{List}
 use Prim.Native.Nat.{ℕ, suc, ◌+◌, ◌*◌, ◌-◌, ◌^◌, ◌≤◌, ◌<◌}
 use native.Mathlib.Nat.{pow-suc, mul-le-mul_right}
 use native.Mathlib.Omega.{arith}
-use lib.Bits.{bit_xor, xor_zero_r, xor_self, xor_comm, xor_lt}
+use lib.Bits.{bit_xor, xor_zero_r, xor_self, xor_comm}
 use lib.Dec.{eqb, leb}
 use lib.ListN.{length, set, length-set}
 use lib.Seq.{get_or-set_same, get_or-set_other}
 use borrow.Author.Tests.{eqb-true, eqb-false, leb-true, leb-false}
 use Rattle.circuit.specs.Lists.{nth}
 use Rattle.circuit.proofs.Base.{cases}
-use Rattle.counting.specs.Internal.Linear.{folded, Remade, pair_added, PairAsks, ShiftAsks, Shifts, Addable, FoldsBit}
+use Rattle.counting.specs.Internal.Linear.{folded, Remade, pair_added, FoldsBit}
 use Rattle.counting.specs.Internal.Lanes.{lane_bit}
 use Rattle.counting.proofs.Numbered.{pow_mono}
 use Rattle.counting.proofs.Folding.{twice, fold_varied, fold_other, fold_add, fold_moved, fold_same, fold_least}
@@ -82,18 +82,14 @@ module _ (shift count : ℕ) (old : List ℕ) where
         second = get_or-set_same (set new n value) (bit_xor n shift) value 0 (simp length-set (omega (arith, p.sized))) ∙ is ∙ omega (arith, ap (nth old) (twice n shift))
 
     -- as the code does it
-    pub paired_next : 1 ≤ shift → ShiftAsks shift count old → PairedTo (pair_added shift n new) (n + 1)
-    paired_next some a = cases (leb (bit_xor n shift) n)
+    pub paired_next : 1 ≤ shift → bit_xor n shift < count → count ≤ length old → PairedTo (pair_added shift n new) (n + 1)
+    paired_next some h room = cases (leb (bit_xor n shift) n)
         (λ e. rw e (paired_past some (leb-true (bit_xor n shift) n e)))
-        (λ e. rw e (paired_here (leb-false (bit_xor n shift) n e) (a.inside n inside) a.room _ refl))
+        (λ e. rw e (paired_here (leb-false (bit_xor n shift) n e) h room _ refl))
 
-    -- two counts that are still to be added are as they were
-    pub paired_asks : ShiftAsks shift count old → PairAsks shift n new
-    paired_asks a = record {
-      inside = omega (arith, a.room, p.sized);
-      other = omega (arith, a.inside n inside, a.room, p.sized);
-      few = λ l. omega (arith, a.few n inside, p.left n (omega arith) (omega arith), p.left (bit_xor n shift) (omega arith) (omega (arith, twice n shift)));
-    }
+  -- two counts that are still to be added are as they were
+  pub paired_few : {new : List ℕ} {n most : ℕ} → PairedTo new n → sum n ≤ most → n < bit_xor n shift → nth new n + nth new (bit_xor n shift) ≤ most
+  paired_few {n = n} p few l = omega (arith, p.left n (omega arith) (omega arith), p.left (bit_xor n shift) (omega arith) (omega (arith, twice n shift)))
 
   pub paired_end : {new : List ℕ} {n : ℕ} → PairedTo new n → count ≤ n → Remade sum count old new
   paired_end p l = record { are = λ m h. p.done m h (omega arith); rest = p.rest; sized = p.sized }
@@ -113,20 +109,6 @@ remade_next {f} {n} {old} {new} r inside value e = record {
 
 pub remade_all : {f : ℕ → ℕ} {n count : ℕ} {old new : List ℕ} → Remade f n old new → n ≡ count → Remade f count old new
 remade_all r e = rw (← e) r
-
--- a bit that varies; one that doubles all counts; one that moves them, by a shift and a number of counts as the code has them
-pub folds_varied : {factors shift i count : ℕ} {old : List ℕ} → lane_bit i factors ≡ true → FoldsBit factors shift i count old old 0
-folds_varied on = record { varied = λ e. (refl, refl); double = λ e z. absurd (true≢false (sym on ∙ e)); moved = λ e z. absurd (true≢false (sym on ∙ e)) }
-
-module _ {factors shift i count : ℕ} (off : lane_bit i factors ≡ false) where
-  pub folds_double : {old : List ℕ} → shift ≡ 0 → FoldsBit factors shift i count old old 1
-  folds_double none = record { varied = λ e. absurd (true≢false (sym e ∙ off)); double = λ e z. (refl, refl); moved = λ e z. absurd (z none) }
-
-  pub folds_moved : {s c : ℕ} {old new : List ℕ} → s ≡ shift → c ≡ count → (s ≡ 0 → ⊥) → Shifts s c old new → FoldsBit factors shift i count old new 0
-  folds_moved e k other r = rw (← e, ← k) (record { varied = λ v. absurd (true≢false (sym v ∙ off)); double = λ v z. absurd (other z); moved = λ v z. (r, refl) })
-
-pub shift_asks : (found : ℕ) (tally : List ℕ) {shift s c : ℕ} → s ≡ shift → c ≡ 2 ^ found → shift < 2 ^ found → 2 ^ found ≤ length tally → Addable shift found tally → ShiftAsks s c tally
-shift_asks found tally {shift} e k low room h = rw (e, k) (record { room = room; inside = λ n l. xor_lt found n shift l low; few = h })
 
 -- the free bits up to one: what is counted so far, times a power of two, comes to all where the others are counted too
 module _ (varied : ℕ → Bool) (shift : ℕ → ℕ) (free found : ℕ) (old : List ℕ) where
@@ -208,9 +190,6 @@ module _ (varied : ℕ → Bool) (shift : ℕ → ℕ) (free found : ℕ) (old :
     pub all_left : (m : ℕ) → m < 2 ^ found → fold free 0 (nth old) m ≡ 2 ^ doubles * nth new m
     unfolding folded
     all_left m l = let e : free - i ≡ 0 = omega arith in t.left m l ∙ ap (λ n. 2 ^ doubles * fold n i (nth new) m) e
-
-    pub few-left : {times most : ℕ} → times ≡ 2 ^ doubles → ((m : ℕ) → m < 2 ^ found → fold free 0 (nth old) m ≤ most) → (m : ℕ) → m < 2 ^ found → times * nth new m ≤ most
-    few-left e h m l = omega (arith, ap (λ x. x * nth new m) e, all_left m l, h m l)
 
     pub folded_end : {times : ℕ} {last : List ℕ} → times ≡ 2 ^ doubles → Remade (λ n. times * nth new n) (2 ^ found) new last → Remade (fold free 0 (nth old)) (2 ^ found) old last
     folded_end e r = record {

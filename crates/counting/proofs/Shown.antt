@@ -75,21 +75,21 @@ once (true ∷ cs) = omega (arith, sum-none (length cs), once cs)
 once (false ∷ cs) = omega (arith, sum-none (length cs), once cs)
 
 module _ (k : Circuit) (probes : List ℕ) (secrets : List Bool) (some : 1 ≤ k.d) (sized : length secrets ≡ k.inputs) where
-  count-is : (bs : List Bool) → length bs ≡ length (read_wires k probes) → count_of k probes secrets bs ≡ sum_bits (free_bits k) (λ free. cond (alike beq (seen k probes secrets free) bs) 1 0)
+  count_is : (bs : List Bool) → length bs ≡ length (read_wires k probes) → count_of k probes secrets bs ≡ sum_bits (free_bits k) (λ free. cond (alike beq (seen k probes secrets free) bs) 1 0)
   unfolding count_of read_wires sheet
-  count-is bs l = pairs_free k probes (showing (is_read k probes) (range 0 wire_limit) bs) secrets some sized
+  count_is bs l = pairs_free k probes (showing (is_read k probes) (range 0 wire_limit) bs) secrets some sized
       ∙ sum_same (free_bits k) (λ free. cond (arises k probes (showing (is_read k probes) (range 0 wire_limit) bs) secrets some sized free) 1 0)
       (λ free. cond (alike beq (seen k probes secrets free) bs) 1 0)
       (λ free j. ap (λ t. cond t 1 0) (shown_where (is_read k probes) (values_of k.wires (sharing_of k secrets free) (tape_of k free)) (range 0 wire_limit) bs l))
 
   -- as the code counts: pair by pair, at the number of the combination
-  pub count-shown : (n : ℕ) → n < 2 ^ length (read_wires k probes)
+  pub count_shown : (n : ℕ) → n < 2 ^ length (read_wires k probes)
       → count_of k probes secrets (get_or (combinations (length (read_wires k probes))) n []) ≡ shown_of k secrets (read_wires k probes) n
-  count-shown n l =
+  count_shown n l =
       let m = length (read_wires k probes) in
       let bs = get_or (combinations m) n [] in
       let at_once : (free : List Bool) → length (seen k probes secrets free) ≡ m = λ free. length-map (read_wires k probes) _ in
-      count-is bs (combination_length m n l) ∙ sum-numbers (free_bits k) (λ free. cond (alike beq (seen k probes secrets free) bs) 1 0)
+      count_is bs (combination_length m n l) ∙ sum-numbers (free_bits k) (λ free. cond (alike beq (seen k probes secrets free) bs) 1 0)
       ∙ sum_to_same (pair_count k) (λ t. cond (alike beq (seen k probes secrets (free_of (free_bits k) t)) bs) 1 0) (λ t. cond (eqb (number_of (seen k probes secrets (free_of (free_bits k) t))) n) 1 0)
       (λ t h. ap (λ b. cond b 1 0) (at-number (seen k probes secrets (free_of (free_bits k) t)) m n (at_once (free_of (free_bits k) t)) l))
 
@@ -99,7 +99,7 @@ module _ (k : Circuit) (probes : List ℕ) (secrets : List Bool) (some : 1 ≤ k
       let m = length (read_wires k probes) in
       let F = free_bits k in
       total-sum m (count_of k probes secrets)
-      ∙ sum_same m (count_of k probes secrets) (λ bs. sum_bits F (λ free. cond (alike beq (seen k probes secrets free) bs) 1 0)) (λ bs l. count-is bs l)
+      ∙ sum_same m (count_of k probes secrets) (λ bs. sum_bits F (λ free. cond (alike beq (seen k probes secrets free) bs) 1 0)) (λ bs l. count_is bs l)
       ∙ sum_sides m F (λ bs free. cond (alike beq (seen k probes secrets free) bs) 1 0)
       ∙ sum_same F (λ free. sum_bits m (λ bs. cond (alike beq (seen k probes secrets free) bs) 1 0)) (λ free. 1)
       (λ free l. subst (λ (n : ℕ). sum_bits n (λ bs. cond (alike beq (seen k probes secrets free) bs) 1 0) ≡ 1) (length-map (read_wires k probes) _) (once (seen k probes secrets free)))

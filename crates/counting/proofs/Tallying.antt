@@ -5,7 +5,7 @@ use mathlib.Core.List.{List, map, map-map}
 use Prim.Native.Nat.{ℕ, zero, suc, ◌+◌, ◌*◌, ◌/◌, ◌%◌, ◌^◌, ◌≤◌, ◌<◌}
 use native.Mathlib.Nat.{mul-le-mul_right}
 use native.Mathlib.Omega.{arith}
-use lib.ListN.{length, take, replicate, length-map, length-replicate}
+use lib.ListN.{length, take, replicate, length-map}
 use lib.Seq.{length-take-le, get_or-take}
 use Rattle.circuit.specs.Lists.{nth, range}
 use Rattle.circuit.proofs.Sizes.{range_length}
@@ -13,10 +13,9 @@ use Rattle.semantics.specs.Values.{bits, at}
 use Rattle.gadgets.specs.Internal.Accepting.{circuit_in}
 use Rattle.counting.specs.Internal.Pairs.{number_of, values_with, number_with, shown_among, placed, count_varied}
 use Rattle.counting.specs.Internal.Lanes.{lane_bit, column_of, place_of, shown_in, Adds}
-use Rattle.counting.specs.declared.tally.Plan.{Plan}
 use Rattle.counting.specs.declared.tally.Enumeration.{Enumeration}
-use Rattle.counting.specs.Internal.Tallying.{HoldsShown, Divides, Enumerates, ReadIn, set_of, Prepared, Clear, TalliedSome}
-use Rattle.counting.specs.Internal.Linear.{varied_in, Readable}
+use Rattle.counting.specs.Internal.Tallying.{HoldsShown, Divides, Enumerates, ReadIn, set_of, TalliedSome}
+use Rattle.counting.specs.Internal.Linear.{varied_in}
 use Rattle.counting.proofs.Numbered.{pow_mono, by_place}
 use Rattle.counting.proofs.WordBits.{packed_lane}
 use Rattle.counting.proofs.Adding.{adds_none, adds_more, adds-few}
@@ -28,9 +27,6 @@ pub zeros_at : (m n : ℕ) → nth (replicate m 0) n ≡ 0
 zeros_at zero n = refl
 zeros_at (suc m) zero = refl
 zeros_at (suc m) (suc n) = zeros_at m n
-
-pub zeros_clear : (found m : ℕ) → 2 ^ found ≤ m → Clear found (replicate m 0)
-zeros_clear found m h = record { room = omega (arith, length-replicate {A = ℕ} m 0); none = zeros_at m }
 
 -- the number of the combination that a pair shows on wires, and of the first so many on a list
 abbrev number_in : (table secrets wires : List ℕ) (factors free pair : ℕ) → ℕ
@@ -44,18 +40,19 @@ number_taken f found read h =
     ∙ number_same (λ i. f (nth ws i)) (λ i. f (nth read i)) found (λ i l. ap f (get_or-take found read i 0 l))
 
 -- the pairs of the batches so far are counted
-pub record TalliedTo (table secrets read : List ℕ) (found factors free : ℕ) (old tally : List ℕ) (batch lanes : ℕ) : Type 0 where
-  pub counted : Adds (number_in table secrets (take found read) factors free) (batch * lanes) old tally
-  pub clear : Clear found old
+pub record TalliedTo (table secrets wires : List ℕ) (factors free : ℕ) (old tally : List ℕ) (batch lanes : ℕ) : Type 0 where
+  pub counted : Adds (number_in table secrets wires factors free) (batch * lanes) old tally
+  pub none : (n : ℕ) → nth old n ≡ 0
+  pub wide : length old ≡ 256
 
-pub tallied_start : {table secrets read : List ℕ} {found factors free : ℕ} {old : List ℕ} {lanes : ℕ} → Clear found old → TalliedTo table secrets read found factors free old old 0 lanes
-tallied_start {table} {secrets} {read} {found} {factors} {free} {old} {lanes} h =
+pub tallied_start : {table secrets wires : List ℕ} {factors free : ℕ} {old : List ℕ} {lanes : ℕ} → length old ≡ 256 → ((n : ℕ) → nth old n ≡ 0) → TalliedTo table secrets wires factors free old old 0 lanes
+tallied_start {table} {secrets} {wires} {factors} {free} {old} {lanes} s h =
     let z : 0 ≡ 0 * lanes = omega arith in
-    let number = number_in table secrets (take found read) factors free in
-    record { counted = subst (λ n. Adds number n old old) z (adds_none number old); clear = h }
+    let number = number_in table secrets wires factors free in
+    record { counted = subst (λ n. Adds number n old old) z (adds_none number old); none = h; wide = s }
 
 -- one batch more
-module _ {table secrets read : List ℕ} (second : Bool) {factors free : ℕ} {old tally : List ℕ} {found batch lanes : ℕ} (t : TalliedTo table (set_of table second secrets) read found factors free old tally batch lanes) (behind : batch * lanes ≡ 128 * batch) (most : lanes ≤ 128)
+module _ {table secrets read : List ℕ} (second : Bool) {factors free : ℕ} {old tally : List ℕ} {found batch lanes : ℕ} (t : TalliedTo table (set_of table second secrets) (take found read) factors free old tally batch lanes) (behind : batch * lanes ≡ 128 * batch) (most : lanes ≤ 128)
     {shown : List ℕ} (h : HoldsShown table secrets factors free batch read found shown) (r : ReadIn table read found) where
   pair_shows : (u : ℕ) → u < lanes → shown_in shown second found u ≡ number_in table (set_of table second secrets) (take found read) factors free (batch * lanes + u)
   pair_shows u l =
@@ -66,26 +63,26 @@ module _ {table secrets read : List ℕ} (second : Bool) {factors free : ℕ} {o
       ∙ ap (λ p. value p (nth read i)) e)
       ∙ sym (number_taken (value (batch * lanes + u)) found read (omega (arith, r.few, r.sized)))
 
-  pub tallied_next : {new : List ℕ} → Adds (shown_in shown second found) lanes tally new → TalliedTo table (set_of table second secrets) read found factors free old new (batch + 1) lanes
+  pub tallied_next : {new : List ℕ} → Adds (shown_in shown second found) lanes tally new → TalliedTo table (set_of table second secrets) (take found read) factors free old new (batch + 1) lanes
   tallied_next {new} a =
       let more : batch * lanes + lanes ≡ (batch + 1) * lanes = omega arith in
-      record { counted = subst (λ n. Adds (number_in table (set_of table second secrets) (take found read) factors free) n old new) more (adds_more t.counted a pair_shows); clear = t.clear }
+      record { counted = subst (λ n. Adds (number_in table (set_of table second secrets) (take found read) factors free) n old new) more (adds_more t.counted a pair_shows); none = t.none; wide = t.wide }
 
 -- the counts stay small
-module _ {table secrets read : List ℕ} {found factors free : ℕ} {old tally : List ℕ} {batch lanes : ℕ} (t : TalliedTo table secrets read found factors free old tally batch lanes) where
+module _ {table secrets wires : List ℕ} {factors free : ℕ} {old tally : List ℕ} {batch lanes : ℕ} (t : TalliedTo table secrets wires factors free old tally batch lanes) where
   pub tallied_few : (n : ℕ) → nth tally n ≤ batch * lanes
-  tallied_few n = omega (arith, adds-few t.counted n, t.clear.none n)
+  tallied_few n = omega (arith, adds-few t.counted t.wide n, t.none n)
 
   pub tallied_small : {varied count : ℕ} → Divides varied count lanes → batch ≤ count → varied ≤ 16 → (n : ℕ) → nth tally n ≤ 65536
   tallied_small {varied} d l few n = omega (arith, tallied_few n, mul-le-mul_right lanes l, d.all, pow_mono 16 varied few)
 
-  pub tallied_end : {count : ℕ} → Divides (count_varied (varied_in factors free)) count lanes → batch ≡ count → count_varied (varied_in factors free) ≤ 16 → TalliedSome table secrets read found factors free tally
+  pub tallied_end : {count : ℕ} → Divides (count_varied (varied_in factors free)) count lanes → batch ≡ count → count_varied (varied_in factors free) ≤ 16 → TalliedSome table secrets wires factors free tally
   tallied_end {count} d e few =
       let all : batch * lanes ≡ 2 ^ count_varied (varied_in factors free) = ap (λ n. n * lanes) e ∙ d.all in
       record {
-        counts = λ n z. t.counted.added n (omega (arith, t.counted.sized)) ∙ omega (arith, t.clear.none n, ap (λ m. shown_among (circuit_in table) (bits secrets) (take found read) (placed (varied_in factors free)) m n) all);
+        counts = λ n z. t.counted.added n z ∙ omega (arith, t.none n, ap (λ m. shown_among (circuit_in table) (bits secrets) wires (placed (varied_in factors free)) m n) all);
         few = tallied_small d (omega arith) few;
-        room = omega (arith, t.clear.room, t.counted.sized);
+        sized = t.counted.sized ∙ t.wide;
       }
 
 -- no more bits vary than there are
@@ -95,7 +92,3 @@ varied-most factors free l = omega (arith, varied-few (varied_in factors free), 
 -- the pairs in batches, as the code divides them
 pub enumerates : {free factors varied : ℕ} (e : Enumeration) → e.factors ≡ factors → varied ≡ count_varied (varied_in factors free) → Divides varied e.batches e.lanes → Enumerates free e
 enumerates {free} e same many d = record { divides = subst (λ (n : ℕ). Divides n e.batches e.lanes) (many ∙ ap (λ f. count_varied (varied_in f free)) (sym same)) d }
-
--- the read wires have sums
-pub readable : {table secrets read sums terms : List ℕ} {outputs found : ℕ} {plan : Plan} → Prepared table secrets read sums terms outputs found plan → Readable sums read found
-readable p = let r = p.read_in in record { few = r.few; listed = omega (arith, r.few, r.sized); made = λ i l. omega (arith, r.made i l, p.room) }

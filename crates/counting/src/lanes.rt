@@ -1,7 +1,7 @@
 // Which combination each of many pairs shows on the read wires, 64 pairs in the bits of a word and eight gathered at once.
 ghost use Rattle.std.specs.Prelude.{◌≡◌, ℕ, ◌+◌, ◌/◌, ◌^◌, ◌≤◌, ◌<◌, length, true, false};
 ghost use Rattle.circuit.specs.Lists.{nth};
-ghost use Rattle.counting.specs.Internal.Lanes.{spread_of, gathered, Numbers, shown_by, column_of, shown_in, at_most, Adds};
+ghost use Rattle.counting.specs.Internal.Lanes.{spread_of, gathered, shown_by, column_of, shown_in, at_most, Adds};
 
 // The bits of a byte, each in a byte of its own: both halves by one product.
 fn spread(bits: u64) -> u64
@@ -27,8 +27,8 @@ fn gather(shown: &[u64; 32], word: usize, from: usize, found: usize) -> u64
 }
 
 // Counts one more for the numbers of so many of them.
-fn add(tally: &mut [u32], numbers: u64, lanes: usize)
-    requires { (lanes ≤ 8) × Numbers numbers (length tally.old) × ((n : ℕ) → nth tally.old n + lanes < 4294967296) }
+fn add(tally: &mut [u32; 256], numbers: u64, lanes: usize)
+    requires { (lanes ≤ 8) × (length tally.old ≡ 256) × ((n : ℕ) → nth tally.old n + lanes < 4294967296) }
     ensures { (f : ℕ → ℕ) → ((l : ℕ) → f l < 256) → numbers ≡ gathered 8 f → Adds f lanes tally.old tally.new }
 {
     let mut rest = numbers;
@@ -54,14 +54,14 @@ fn at_most(n: usize, most: usize) -> usize
 // Counts the first pairs of a word, at most 64, eight at once, under both sets: the second set's words stand two places behind the
 // first's. Both are counted by turns, so that one addition need not wait for the last.
 fn add_word(
-    first: &mut [u32],
-    second: &mut [u32],
+    first: &mut [u32; 256],
+    second: &mut [u32; 256],
     shown: &[u64; 32],
     word: usize,
     found: usize,
     lanes: usize,
 )
-    requires { (word < 2) × (found ≤ 8) × (lanes ≤ 64) × (length shown.now ≡ 32) × (2 ^ found ≤ length first.old) × (2 ^ found ≤ length second.old)
+    requires { (word < 2) × (found ≤ 8) × (lanes ≤ 64) × (length shown.now ≡ 32) × (length first.old ≡ 256) × (length second.old ≡ 256)
         × ((n : ℕ) → nth first.old n + lanes < 4294967296) × ((n : ℕ) → nth second.old n + lanes < 4294967296) }
     ensures { Adds (shown_by (column_of shown.now word) found) lanes first.old first.new
         × Adds (shown_by (column_of shown.now (word + 2)) found) lanes second.old second.new }
@@ -79,13 +79,13 @@ fn add_word(
 
 // Counts the first pairs of a batch, at most 128, under both sets, word by word.
 pub(crate) fn add_batch(
-    first: &mut [u32],
-    second: &mut [u32],
+    first: &mut [u32; 256],
+    second: &mut [u32; 256],
     shown: &[u64; 32],
     found: usize,
     lanes: usize,
 )
-    requires { (found ≤ 8) × (lanes ≤ 128) × (length shown.now ≡ 32) × (2 ^ found ≤ length first.old) × (2 ^ found ≤ length second.old)
+    requires { (found ≤ 8) × (lanes ≤ 128) × (length shown.now ≡ 32) × (length first.old ≡ 256) × (length second.old ≡ 256)
         × ((n : ℕ) → nth first.old n + lanes < 4294967296) × ((n : ℕ) → nth second.old n + lanes < 4294967296) }
     ensures { Adds (shown_in shown.now false found) lanes first.old first.new × Adds (shown_in shown.now true found) lanes second.old second.new }
 {

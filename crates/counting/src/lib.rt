@@ -22,7 +22,7 @@ mod tally;
 mod variables;
 
 use checker::Verdict;
-use listing::Extent;
+use tally::Extent;
 
 // Accepted: how many wires are read, how many combinations of values they have, and how many pairs of a sharing and a tape there
 // are for a set of secret bits.
@@ -100,7 +100,7 @@ pub fn count(
         wires,
         found,
     };
-    let pairs = listing::list_counts(table, secrets, extent, &read, counts);
+    let pairs = tally::list_counts(table, secrets, extent, &read, counts);
     Counted::Accepted {
         read: found,
         combinations: numbers::power(found),

@@ -6,7 +6,7 @@ ghost use Rattle.circuit.specs.Lists.{nth};
 ghost use Rattle.symbolic.specs.Internal.Sums.{BoundedTerms};
 ghost use Rattle.counting.specs.Internal.Lanes.{lane_bit};
 ghost use Rattle.counting.specs.Internal.Pairs.{count_varied};
-ghost use Rattle.counting.specs.Internal.Linear.{varied_in, Within, Readable, SurveysMore, Surveyed, shift_in, Remade, both_added, pair_added, PairAsks, ShiftAsks, Shifts, Addable, FoldsBit, Foldable, Folds};
+ghost use Rattle.counting.specs.Internal.Linear.{folded, varied_in, Within, SurveysMore, Surveyed, shift_in, ShiftsIn, Remade, pair_added, FoldsBit};
 
 use super::numbers;
 use super::prepare::TERMS;
@@ -20,7 +20,7 @@ pub struct Survey {
 
 // The variables in the sums that the read wires are.
 fn variables_read(sums: &[u64], read: &[u16], found: usize) -> u64
-    requires { Readable sums.now read.now found }
+    requires { (found ≤ 8) × (found ≤ length read.now) × ((i : ℕ) → i < found → nth read.now i < length sums.now) }
     ensures { (i : ℕ) → i < found → Within (nth sums.now (nth read.now i)) result }
 {
     let mut all = 0;
@@ -72,7 +72,7 @@ pub(crate) fn find_varied(
     found: usize,
     free: usize,
 ) -> u64
-    requires { (free ≤ 16) × Readable sums.now read.now found × (outputs ≤ 32) × (length terms.now ≡ 80) × BoundedTerms terms.now 0 outputs × BoundedTerms terms.now 32 (32 + found) }
+    requires { (free ≤ 16) × (found ≤ 8) × (found ≤ length read.now) × ((i : ℕ) → i < found → nth read.now i < length sums.now) × (outputs ≤ 32) × (length terms.now ≡ 80) × BoundedTerms terms.now 0 outputs × BoundedTerms terms.now 32 (32 + found) }
     ensures { Surveyed sums.now terms.now read.now outputs found result }
 {
     let start = Survey {
@@ -89,7 +89,7 @@ pub(crate) fn find_varied(
 
 // By which number what is shown differs where a free bit is set: the read wires to whose sums it belongs.
 fn shift_of(sums: &[u64], read: &[u16], found: usize, i: usize) -> usize
-    requires { Readable sums.now read.now found × (i < 16) }
+    requires { (found ≤ 8) × (found ≤ length read.now) × (i < 16) × ((j : ℕ) → j < found → nth read.now j < length sums.now) }
     ensures { result ≡ shift_in sums.now read.now found i }
 {
     let mut shift = 0;
@@ -102,44 +102,49 @@ fn shift_of(sums: &[u64], read: &[u16], found: usize, i: usize) -> usize
     shift
 }
 
-// Two counts, each of them made the sum of both.
-fn add_two(tally: &mut [u32], n: usize, other: usize)
-    requires { (n < length tally.old) × (other < length tally.old) × (nth tally.old n + nth tally.old other ≤ 65536) }
-    ensures { tally.new ≡ both_added n other tally.old }
+// Those of all free bits.
+pub(crate) fn list_shifts(sums: &[u64], read: &[u16], found: usize, free: usize) -> [usize; 16]
+    requires { (found ≤ 8) × (found ≤ length read.now) × (free ≤ 16) × ((j : ℕ) → j < found → nth read.now j < length sums.now) }
+    ensures { ShiftsIn sums.now read.now found free result }
 {
-    let sum = tally[n] + tally[other];
-    tally[n] = sum;
-    tally[other] = sum;
+    let mut shifts = [0usize; 16];
+    let mut i = 0;
+    while i < free {
+        shifts[i] = shift_of(sums, read, found, i);
+        i += 1;
+    }
+    shifts
 }
 
-// A count, and the one whose combination differs by a shift, added in both tallies; where that one is the lower, it was done with it.
-fn add_pair(first: &mut [u32], second: &mut [u32], shift: usize, n: usize)
-    requires { PairAsks shift n first.old × PairAsks shift n second.old }
-    ensures { (first.new ≡ pair_added shift n first.old) × (second.new ≡ pair_added shift n second.old) }
+// A count, and the one whose combination differs by a shift, added; where that one is the lower, it was done with it.
+fn add_pair(tally: &mut [u32; 256], shift: usize, n: usize)
+    requires { (length tally.old ≡ 256) × (n < 256) × (bit_xor n shift < 256) × (n < bit_xor n shift → nth tally.old n + nth tally.old (bit_xor n shift) ≤ 65536) }
+    ensures { tally.new ≡ pair_added shift n tally.old }
 {
     let other = n ^ shift;
     if other <= n {
         return;
     }
-    add_two(first, n, other);
-    add_two(second, n, other);
+    let sum = tally[n] + tally[other];
+    tally[n] = sum;
+    tally[other] = sum;
 }
 
 // All counts below a number.
-fn add_shifted(first: &mut [u32], second: &mut [u32], shift: usize, count: usize)
-    requires { (count ≤ 256) × (1 ≤ shift) × ShiftAsks shift count first.old × ShiftAsks shift count second.old }
-    ensures { Shifts shift count first.old first.new × Shifts shift count second.old second.new }
+fn add_shifted(tally: &mut [u32; 256], shift: usize, count: usize)
+    requires { (length tally.old ≡ 256) × (count ≤ 256) × (1 ≤ shift) × ((n : ℕ) → n < count → (bit_xor n shift < count) × (nth tally.old n + nth tally.old (bit_xor n shift) ≤ 65536)) }
+    ensures { Remade (λ n. nth tally.old n + nth tally.old (bit_xor n shift)) count tally.old tally.new }
 {
     let mut n = 0;
     while n < count {
-        add_pair(first, second, shift, n);
+        add_pair(tally, shift, n);
         n += 1;
     }
 }
 
 // Each count below a number multiplied.
-fn scale(tally: &mut [u32], times: u32, count: usize)
-    requires { (count ≤ length tally.old) × (count ≤ 256) × ((n : ℕ) → n < count → times * nth tally.old n ≤ 65536) }
+fn scale(tally: &mut [u32; 256], times: u32, count: usize)
+    requires { (length tally.old ≡ 256) × (count ≤ 256) × ((n : ℕ) → n < count → times * nth tally.old n ≤ 65536) }
     ensures { Remade (λ n. times * nth tally.old n) count tally.old tally.new }
 {
     let mut n = 0;
@@ -149,57 +154,49 @@ fn scale(tally: &mut [u32], times: u32, count: usize)
     }
 }
 
-// A free bit that is no factor, set or not, moves all counts of both tallies by its shift; a shift of 0 doubles them, which the answer 1
-// tells.
+// A free bit that is no factor, set or not, moves all counts by its shift; a shift of 0 doubles them, which the answer 1 tells.
 fn fold_bit(
-    sums: &[u64],
-    read: &[u16],
-    found: usize,
+    tally: &mut [u32; 256],
     factors: u64,
+    shifts: &[usize; 16],
     i: usize,
-    first: &mut [u32],
-    second: &mut [u32],
+    count: usize,
 ) -> usize
-    requires { (i < 16) × Readable sums.now read.now found × (2 ^ found ≤ length first.old) × (2 ^ found ≤ length second.old)
-        × (lane_bit i factors ≡ false → Addable (shift_in sums.now read.now found i) found first.old × Addable (shift_in sums.now read.now found i) found second.old) }
-    ensures { FoldsBit factors (shift_in sums.now read.now found i) i (2 ^ found) first.old first.new result
-        × FoldsBit factors (shift_in sums.now read.now found i) i (2 ^ found) second.old second.new result }
+    requires { (length tally.old ≡ 256) × (i < 16) × (length shifts.now ≡ 16) × (count ≤ 256)
+        × ((n : ℕ) → n < count → bit_xor n (nth shifts.now i) < count) × (lane_bit i factors ≡ false → (n : ℕ) → n < count → nth tally.old n + nth tally.old (bit_xor n (nth shifts.now i)) ≤ 65536) }
+    ensures { FoldsBit factors (nth shifts.now i) i count tally.old tally.new result }
 {
     if (factors >> i) % 2 != 0 {
         return 0;
     }
-    let shift = shift_of(sums, read, found, i);
+    let shift = shifts[i];
     if shift == 0 {
         return 1;
     }
-    let count = numbers::power(found);
-    add_shifted(first, second, shift, count);
+    add_shifted(tally, shift, count);
     0
 }
 
-// Counts of all pairs under both sets, from those of the free bits that are factors.
+// Counts of all pairs, from those of the free bits that are factors.
 pub(crate) fn fold(
-    sums: &[u64],
-    read: &[u16],
-    found: usize,
+    tally: &mut [u32; 256],
     factors: u64,
+    shifts: &[usize; 16],
     free: usize,
-    first: &mut [u32],
-    second: &mut [u32],
+    found: usize,
 )
-    requires { (free ≤ 16) × Readable sums.now read.now found × Foldable factors (shift_in sums.now read.now found) free found first.old × Foldable factors (shift_in sums.now read.now found) free found second.old }
-    ensures { Folds factors (shift_in sums.now read.now found) free found first.old first.new × Folds factors (shift_in sums.now read.now found) free found second.old second.new }
+    requires { (length tally.old ≡ 256) × (found ≤ 8) × (free ≤ 16) × (length shifts.now ≡ 16) × ((i : ℕ) → nth shifts.now i < 2 ^ found)
+        × ((n : ℕ) → n < 2 ^ found → folded (λ i. lane_bit i factors) (nth shifts.now) free 0 (nth tally.old) n ≤ 65536) }
+    ensures { Remade (folded (λ i. lane_bit i factors) (nth shifts.now) free 0 (nth tally.old)) (2 ^ found) tally.old tally.new }
 {
+    let count = numbers::power(found);
     let mut doubles = 0;
     let mut i = 0;
     while i < free {
-        doubles += fold_bit(sums, read, found, factors, i, first, second);
+        doubles += fold_bit(tally, factors, shifts, i, count);
         i += 1;
     }
-    let times = numbers::power(doubles) as u32;
-    let count = numbers::power(found);
-    scale(first, times, count);
-    scale(second, times, count);
+    scale(tally, numbers::power(doubles) as u32, count);
 }
 
 // How many free bits are among variables.

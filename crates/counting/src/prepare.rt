@@ -30,15 +30,17 @@ fn secret_sum(one: u8, other: u8) -> u64
 }
 
 // All secret bits.
-fn write_secrets(secrets: &[u8], inputs: usize, sums: &mut [u64; 16])
-    requires { (length secrets.now ≡ inputs + inputs) × (inputs ≤ 16) × (length sums.old ≡ 16) }
-    ensures { SecretSums secrets.now inputs sums.new }
+fn secret_sums(secrets: &[u8], inputs: usize) -> [u64; 16]
+    requires { (length secrets.now ≡ inputs + inputs) × (inputs ≤ 16) }
+    ensures { SecretSums secrets.now inputs result }
 {
+    let mut sums = [0u64; 16];
     let mut j = 0;
     while j < inputs {
         sums[j] = secret_sum(secrets[j], secrets[inputs + j]);
         j += 1;
     }
+    sums
 }
 
 // The free bits, each a variable.
@@ -66,8 +68,7 @@ pub(crate) fn prepare(
     ensures { Expanded table.now (prepared_shares plan inputs secrets.now) (prepared_tape plan) read.now found sums.new terms.new result × (length terms.new ≡ 80) }
 {
     let free = free_sums();
-    let mut lasts = [0u64; 16];
-    write_secrets(secrets, inputs, &mut lasts);
+    let lasts = secret_sums(secrets, inputs);
     let mut shares = [0u64; 32];
     pairs::complete(&free, &lasts[0..inputs], plan.others, &mut shares);
     let count = (plan.others + 1) * inputs;

@@ -1,13 +1,24 @@
 // All pairs of a sharing of given secret bits and a tape: how often the read wires show each combination. Those that are gone through
 // are taken 128 at once, under both sets of secret bits.
-ghost use Rattle.std.specs.Prelude.{◌≡◌, true, false, List, ℕ, ◌≤◌, ◌<◌, length, take};
-ghost use Rattle.counting.specs.Internal.Tallying.{Numbered, Divides, Planned, Enumerates, Prepared, Ready, HoldsShown, set_of, Clear, TalliedSome, Tallied};
-ghost use Rattle.counting.specs.Internal.Linear.{Surveyed};
+ghost use Rattle.std.specs.Prelude.{◌≡◌, true, false, List, ℕ, ◌≤◌, ◌<◌, length, take, replicate};
+ghost use Rattle.circuit.specs.Limits.{wire_limit};
+ghost use Rattle.gadgets.specs.Internal.Accepting.{circuit_in};
+ghost use Rattle.counting.specs.Counting.{pair_count};
+ghost use Rattle.counting.specs.Internal.Tallying.{Numbered, Listable, Divides, Planned, Enumerates, Prepared, Ready, HoldsShown, set_of, TalliedSome, Tallied, ListsCounts};
+ghost use Rattle.counting.specs.Internal.Linear.{Surveyed, ShiftsIn};
 
-use super::prepare::TERMS;
+use super::prepare::{TERMS, prepare};
 use super::variables::fill_variables;
-use super::{lanes, linear, numbers};
+use super::{lanes, linear, listing, numbers};
+use circuit::WIRES;
 use symbolic::evaluate;
+
+// Wires for which sheets of sums do that are smaller than one for any circuit.
+const SMALL_SHEET: usize = 128;
+
+const MIDDLE_SHEET: usize = 512;
+
+const LARGE_SHEET: usize = 2048;
 
 // How sharings and tapes are made of free bits.
 #[derive(Clone, Copy)]
@@ -16,6 +27,15 @@ pub struct Plan {
     pub others: usize,
     pub start: usize,
     pub free: usize,
+}
+
+// How far a count goes: the INs, random bits and wires of its table, and the wires that are read.
+#[derive(Clone, Copy)]
+pub struct Extent {
+    pub inputs: usize,
+    pub randoms: usize,
+    pub wires: usize,
+    pub found: usize,
 }
 
 // The pairs that are gone through: only free bits that are factors vary, or others beside them.
@@ -28,7 +48,7 @@ pub struct Enumeration {
 }
 
 // The pairs of so many free bits in batches: 128 pairs each, or one of fewer.
-pub(crate) fn divide(factors: u64, varied: usize) -> Enumeration
+fn divide(factors: u64, varied: usize) -> Enumeration
     requires { varied ≤ 16 }
     ensures { (result.factors ≡ factors) × Divides varied result.batches result.lanes }
 {
@@ -47,7 +67,7 @@ pub(crate) fn divide(factors: u64, varied: usize) -> Enumeration
 }
 
 // The plan for an accepted table.
-pub(crate) fn plan_pairs(table: &[u16], inputs: usize, randoms: usize) -> Plan
+fn plan_pairs(table: &[u16], inputs: usize, randoms: usize) -> Plan
     requires { Numbered table.now inputs randoms }
     ensures { Planned table.now result }
 {
@@ -93,13 +113,13 @@ fn tally_some(
     found: usize,
     plan: Plan,
     enumeration: Enumeration,
-    first: &mut [u32],
-    second: &mut [u32],
+    first: &mut [u32; 256],
+    second: &mut [u32; 256],
 )
-    requires { Ready read.now sums.now terms.now outputs found plan × Enumerates plan.free enumeration × Clear found first.old × Clear found second.old }
+    requires { Ready read.now sums.now terms.now outputs found plan × Enumerates plan.free enumeration × (first.old ≡ replicate 256 0) × (second.old ≡ replicate 256 0) }
     ensures { (table secrets : List ℕ) → Prepared table secrets read.now sums.now terms.now outputs found plan
-        → TalliedSome table (set_of table false secrets) read.now found enumeration.factors plan.free first.new
-        × TalliedSome table (set_of table true secrets) read.now found enumeration.factors plan.free second.new }
+        → TalliedSome table (set_of table false secrets) (take found read.now) enumeration.factors plan.free first.new
+        × TalliedSome table (set_of table true secrets) (take found read.now) enumeration.factors plan.free second.new }
 {
     let mut words = [0u64; 256];
     let mut shown = [0u64; 32];
@@ -122,8 +142,8 @@ fn tally_some(
     }
 }
 
-// Counts, from 0, how many of all pairs do.
-pub(crate) fn tally_both(
+// Counts, from 0, how many of all pairs do, given by which numbers the free bits move what is shown.
+fn tally_both(
     sums: &[u64],
     terms: &[u64; TERMS],
     outputs: usize,
@@ -131,11 +151,12 @@ pub(crate) fn tally_both(
     found: usize,
     plan: Plan,
     enumeration: Enumeration,
-    first: &mut [u32],
-    second: &mut [u32],
+    shifts: &[usize; 16],
+    first: &mut [u32; 256],
+    second: &mut [u32; 256],
 )
-    requires { Ready read.now sums.now terms.now outputs found plan × Enumerates plan.free enumeration × Surveyed sums.now terms.now read.now outputs found enumeration.factors
-        × Clear found first.old × Clear found second.old }
+    requires { Ready read.now sums.now terms.now outputs found plan × Enumerates plan.free enumeration × Surveyed sums.now terms.now read.now outputs found enumeration.factors × ShiftsIn sums.now read.now found plan.free shifts.now
+        × (first.old ≡ replicate 256 0) × (second.old ≡ replicate 256 0) }
     ensures { (table secrets : List ℕ) → Prepared table secrets read.now sums.now terms.now outputs found plan
         → Tallied table (set_of table false secrets) (take found read.now) first.new × Tallied table (set_of table true secrets) (take found read.now) second.new }
 {
@@ -150,13 +171,75 @@ pub(crate) fn tally_both(
         first,
         second,
     );
-    linear::fold(
+    linear::fold(first, enumeration.factors, shifts, plan.free, found);
+    linear::fold(second, enumeration.factors, shifts, plan.free, found);
+}
+
+// Lists the counts under both sets of secret bits, on a given sheet, and answers how many pairs a set has.
+fn list_on(
+    table: &[u16],
+    secrets: &[u8],
+    extent: Extent,
+    read: &[u16; 8],
+    sums: &mut [u64],
+    counts: &mut [u32],
+) -> usize
+    requires { Listable table.now secrets.now extent.inputs extent.randoms extent.wires read.now extent.found counts.old × (extent.wires ≤ length sums.old) × (length sums.old ≤ wire_limit) }
+    ensures { (result ≡ pair_count (circuit_in table.now)) × ListsCounts table.now secrets.now extent.inputs (take extent.found read.now) counts.old counts.new }
+{
+    let inputs = extent.inputs;
+    let found = extent.found;
+    let plan = plan_pairs(table, inputs, extent.randoms);
+    let free = plan.free;
+    let mut terms = [0u64; TERMS];
+    let outputs = prepare(table, secrets, inputs, plan, read, found, sums, &mut terms);
+    let factors = linear::find_varied(sums, &terms, outputs, read, found, free);
+    let enumeration = divide(factors, linear::count_free(factors, free));
+    let shifts = linear::list_shifts(sums, read, found, free);
+    let mut first = [0u32; 256];
+    let mut second = [0u32; 256];
+    tally_both(
         sums,
+        &terms,
+        outputs,
         read,
         found,
-        enumeration.factors,
-        plan.free,
-        first,
-        second,
+        plan,
+        enumeration,
+        &shifts,
+        &mut first,
+        &mut second,
     );
+    let pairs = numbers::power(free);
+    let combinations = numbers::power(found);
+    listing::write_list(&first, &second, combinations, pairs as u32, free, counts);
+    pairs
+}
+
+// The same on a sheet of its own, of the size that the wires ask for: a sheet is set to 0 at each call.
+pub(crate) fn list_counts(
+    table: &[u16],
+    secrets: &[u8],
+    extent: Extent,
+    read: &[u16; 8],
+    counts: &mut [u32],
+) -> usize
+    requires { Listable table.now secrets.now extent.inputs extent.randoms extent.wires read.now extent.found counts.old }
+    ensures { (result ≡ pair_count (circuit_in table.now)) × ListsCounts table.now secrets.now extent.inputs (take extent.found read.now) counts.old counts.new }
+{
+    let wires = extent.wires;
+    if wires <= SMALL_SHEET {
+        let mut sums = [0u64; SMALL_SHEET];
+        return list_on(table, secrets, extent, read, &mut sums, counts);
+    }
+    if wires <= MIDDLE_SHEET {
+        let mut sums = [0u64; MIDDLE_SHEET];
+        return list_on(table, secrets, extent, read, &mut sums, counts);
+    }
+    if wires <= LARGE_SHEET {
+        let mut sums = [0u64; LARGE_SHEET];
+        return list_on(table, secrets, extent, read, &mut sums, counts);
+    }
+    let mut sums = [0u64; WIRES];
+    list_on(table, secrets, extent, read, &mut sums, counts)
 }

@@ -1,5 +1,5 @@
 -- AND and REF filled in, part behind part.
-use mathlib.Core.Path.{◌≡◌, refl, sym, ap, subst, subst₂, ◌∙◌}
+use mathlib.Core.Path.{◌≡◌, refl, sym, ap, subst, ◌∙◌}
 use mathlib.Core.List.{List}
 use Prim.Native.Nat.{ℕ, ◌+◌, ◌-◌, ◌*◌, ◌≤◌, ◌<◌}
 use lib.Bits.{bit_xor}
@@ -10,22 +10,18 @@ use Rattle.circuit.specs.Lists.{nth, range}
 use Rattle.circuit.specs.Gadgets.{others}
 use Rattle.circuit.specs.Kinds.{pairs}
 use Rattle.circuit.proofs.Sizes.{pairs_twice}
-use Rattle.gadgets.specs.Internal.Places.{word_a, word_b, cross_start, product_at, out_at, mask_at, sum_at}
+use Rattle.gadgets.specs.Internal.Places.{word_a, cross_start, product_at, out_at, mask_at, sum_at}
 use Rattle.gadgets.proofs.Slots.{mask_lt}
-use Rattle.simulation.specs.Internal.Filling.{Values, word_sum, Known, Fills, Copied, Drawn, ShareProducts, Multiplied, Masked, Held, RefValues}
-use Rattle.simulation.specs.Internal.Gadgets.{Sums, AndAsks, AndFills, MaskAsks, MaskFills}
+use Rattle.simulation.specs.Internal.Filling.{Values, word_sum, Known, Fills, Copied, Drawn, ShareProducts, Multiplied, AndValues, Masked, DrawnMasked, Held, RefValues}
+use Rattle.simulation.specs.Internal.Gadgets.{Sums}
 use Rattle.simulation.proofs.Adding.{adds_turn, adds_end, add_others}
 use Rattle.simulation.proofs.Filled.{known-all, fills-next, fills_for, fills-at, fills-set}
 
--- what AND asks, of a number that d is
-pub and_asks : {d n first used randoms : ℕ} {ops values tape : List ℕ} → AndAsks d first ops values tape used randoms → d ≡ n → AndAsks n first ops values tape used (pairs n)
-and_asks {first = first} {used = used} {ops = ops} {values = values} {tape = tape} q e = subst₂ (λ n r. AndAsks n first ops values tape used r) e (q.count ∙ ap pairs e) q
-
-pub and-filled : (d first : ℕ) (ops tape : List ℕ) (used : ℕ) {old one two three : List ℕ} (count : ℕ) → count ≡ pairs d
-    → Fills (Drawn tape used first count) first (first + 2 * count) old one → Fills (ShareProducts d first (word_a ops) (word_b d ops)) (product_at d first 0) (product_at d first d) one two
-    → Fills (Multiplied 1 d first (word_a ops)) (first + cross_start d 0) (out_at d first d) two three
-    → AndFills d first ops tape used old three
-and-filled d first ops tape used count e draws products outs =
+pub and-filled : (d first : ℕ) (a b : ℕ → ℕ) (tape : List ℕ) (used : ℕ) {old one two three : List ℕ} (count : ℕ) → count ≡ pairs d
+    → Fills (Drawn tape used first count) first (first + 2 * count) old one → Fills (ShareProducts d first a b) (product_at d first 0) (product_at d first d) one two
+    → Fills (Multiplied 1 d first a) (first + cross_start d 0) (out_at d first d) two three
+    → Fills (AndValues 1 d first a b tape used) first (first + (7 * (d * (d - 1)) + 4 * d)) old three
+and-filled d first a b tape used count e draws products outs =
     fills-next (omega arith) (omega arith) (λ v q k. q.multiplied)
     (fills-next (omega (arith, e, pairs_twice d)) (omega arith) (λ v q k. q.products)
     (fills_for (λ v q. subst (λ (n : ℕ). Drawn tape used first n v) (sym e) q.drawn) (fills-at refl (omega (arith, e, pairs_twice d)) draws)) products)
@@ -74,35 +70,25 @@ held_turn d first i f l room p p-is =
     rw p-is (fills-set _ (omega arith) (λ v e k. rw (← here, e i l) (known-all f v e k (sum_at d first i) (omega arith) (omega arith))) (fills-at refl here f))
 
 -- REF's random bits and sums
-pub mask_asks : {d n first used randoms : ℕ} {ops values tape : List ℕ} → MaskAsks d first ops values tape used randoms → d ≡ n → MaskAsks n first ops values tape used (pairs n)
-mask_asks {first = first} {used = used} {ops = ops} {values = values} {tape = tape} q e = subst₂ (λ n r. MaskAsks n first ops values tape used r) e (q.count ∙ ap pairs e) q
-
-pub mask_filled : (d first : ℕ) (ops tape : List ℕ) (used : ℕ) {old one two : List ℕ} (count : ℕ) → count ≡ pairs d
-    → Fills (Copied tape used first count) first (first + count) old one → Fills (Masked d first (word_a ops)) (first + pairs d) (first + pairs d + d) one two
-    → MaskFills d first ops tape used old two
-mask_filled d first ops tape used count e draws sums =
+pub mask_filled : (d first : ℕ) (a : ℕ → ℕ) (tape : List ℕ) (used : ℕ) {old one two : List ℕ} (count : ℕ) → count ≡ pairs d
+    → Fills (Copied tape used first count) first (first + count) old one → Fills (Masked d first a) (first + pairs d) (first + pairs d + d) one two
+    → Fills (DrawnMasked d first a tape used) first (first + pairs d + d) old two
+mask_filled d first a tape used count e draws sums =
     fills-next (omega arith) (omega arith) (λ v q k. q.masked)
     (fills_for (λ v q. subst (λ (n : ℕ). Copied tape used first n v) (sym e) q.drawn) (fills-at refl (omega (arith, e)) draws)) sums
 
 -- the words that they take are the first d behind the kind's first
-row_word : (d : ℕ) (ops : List ℕ) (i : ℕ) → i < d → word_a (take (1 + d - 0) ops) i ≡ word_a ops i
+pub row_word : (d : ℕ) (ops : List ℕ) (i : ℕ) → i < d → word_a (take (1 + d - 0) ops) i ≡ word_a ops i
 row_word d ops i l = get_or-take (1 + d - 0) ops (1 + i) 0 (omega arith)
 
-pub row_asks : {d first used randoms : ℕ} {ops values tape : List ℕ} → MaskAsks d first ops values tape used randoms → MaskAsks d first (take (1 + d - 0) ops) values tape used randoms
-row_asks {d} {ops = ops} q = record {
-  small = q.small;
-  words = omega (arith, length-take-le (1 + d - 0) ops (omega arith));
-  early = λ i l. rw (row_word d ops i l) (q.early i l);
-  room = q.room;
-  supplied = q.supplied;
-  count = q.count;
-}
+pub row_long : (d : ℕ) (ops : List ℕ) → 1 + d ≤ length ops → 1 + d ≤ length (take (1 + d - 0) ops)
+row_long d ops h = omega (arith, length-take-le (1 + d - 0) ops (omega arith))
 
-pub row_masks : (d first : ℕ) (ops tape : List ℕ) (used : ℕ) {old new : List ℕ} → MaskFills d first (take (1 + d - 0) ops) tape used old new → MaskFills d first ops tape used old new
+pub row_masks : (d first : ℕ) (ops tape : List ℕ) (used : ℕ) {old new : List ℕ} {from to : ℕ} → Fills (DrawnMasked d first (word_a (take (1 + d - 0) ops)) tape used) from to old new → Fills (DrawnMasked d first (word_a ops) tape used) from to old new
 row_masks d first ops tape used = fills_for (λ v q. record { drawn = q.drawn; masked = λ i l. rw (row_word d ops i l) (q.masked i l) })
 
-pub ref_filled : (d first : ℕ) (ops tape : List ℕ) (used : ℕ) {old one two : List ℕ} → MaskFills d first ops tape used old one
-    → Fills (Held d first) (first + pairs d + d) (first + pairs d + d + d) one two → Fills (RefValues d first (word_a ops) tape used) first (first + (pairs d + 2 * d)) old two
-ref_filled d first ops tape used masks holds =
+pub ref_filled : (d first : ℕ) (a : ℕ → ℕ) (tape : List ℕ) (used : ℕ) {old one two : List ℕ} → Fills (DrawnMasked d first a tape used) first (first + pairs d + d) old one
+    → Fills (Held d first) (first + pairs d + d) (first + pairs d + d + d) one two → Fills (RefValues d first a tape used) first (first + (pairs d + 2 * d)) old two
+ref_filled d first a tape used masks holds =
     fills-next (omega arith) (omega arith) (λ v q k. q.held)
     (fills_for (λ v q. record { drawn = q.drawn; masked = q.masked }) masks) (fills-at refl (omega arith) holds)

@@ -1,10 +1,10 @@
 // The values of the wires of AND and REF, in the order of document 01.
-ghost use Rattle.std.specs.Prelude.{◌≡◌, ℕ, ◌+◌, ◌*◌, ◌≤◌, ◌<◌, length};
+ghost use Rattle.std.specs.Prelude.{◌≡◌, ℕ, ◌+◌, ◌-◌, ◌*◌, ◌≤◌, ◌<◌, length};
 ghost use Rattle.circuit.specs.Kinds.{pairs};
 ghost use Rattle.gadgets.specs.Internal.Places.{word_a, word_b, product_at, cross_start, out_at};
 ghost use Rattle.gadgets.specs.Internal.Frames.{Small, RowBefore, Roomy};
-ghost use Rattle.simulation.specs.Internal.Filling.{Fills, Copied, Drawn, ShareProducts, Multiplied, Masked, Held, RefValues};
-ghost use Rattle.simulation.specs.Internal.Gadgets.{Crosses, CrossesOther, CrossesAll, Sums, AndAsks, AndFills, MaskAsks, MaskFills};
+ghost use Rattle.simulation.specs.Internal.Filling.{Fills, Copied, Drawn, ShareProducts, Multiplied, AndValues, Masked, DrawnMasked, Held, RefValues};
+ghost use Rattle.simulation.specs.Internal.Gadgets.{Crosses, CrossesOther, CrossesAll, Sums};
 
 use gadgets::{gate_values, places};
 
@@ -123,8 +123,8 @@ fn and_shares(
     tape: &[u8],
     used: usize,
 )
-    requires { AndAsks d first ops.now values.old tape.now used randoms }
-    ensures { AndFills d first ops.now tape.now used values.old values.new }
+    requires { Small first d × (length ops.now ≡ 1 + d + d) × RowBefore first d (word_a ops.now) × RowBefore first d (word_b d ops.now) × Roomy d first values.old × (used + pairs d ≤ length tape.now) × (randoms ≡ pairs d) }
+    ensures { Fills (AndValues 1 d first (word_a ops.now) (word_b d ops.now) tape.now used) first (first + (7 * (d * (d - 1)) + 4 * d)) values.old values.new }
 {
     draws(values, first, tape, used, randoms);
     share_products(values, first, d, ops);
@@ -141,8 +141,8 @@ pub(crate) fn and(
     tape: &[u8],
     used: usize,
 )
-    requires { AndAsks d first ops.now values.old tape.now used randoms }
-    ensures { AndFills d first ops.now tape.now used values.old values.new }
+    requires { Small first d × (length ops.now ≡ 1 + d + d) × RowBefore first d (word_a ops.now) × RowBefore first d (word_b d ops.now) × Roomy d first values.old × (used + pairs d ≤ length tape.now) × (randoms ≡ pairs d) }
+    ensures { Fills (AndValues 1 d first (word_a ops.now) (word_b d ops.now) tape.now used) first (first + (7 * (d * (d - 1)) + 4 * d)) values.old values.new }
 {
     match d {
         2 => and_shares(values, first, 2, 1, ops, tape, used),
@@ -202,8 +202,8 @@ fn mask_shares(
     tape: &[u8],
     used: usize,
 )
-    requires { MaskAsks d first ops.now values.old tape.now used randoms }
-    ensures { MaskFills d first ops.now tape.now used values.old values.new }
+    requires { Small first d × (1 + d ≤ length ops.now) × RowBefore first d (word_a ops.now) × (first + pairs d + d ≤ length values.old) × (used + pairs d ≤ length tape.now) × (randoms ≡ pairs d) }
+    ensures { Fills (DrawnMasked d first (word_a ops.now) tape.now used) first (first + pairs d + d) values.old values.new }
 {
     copy(values, first, tape, used, randoms);
     sums(values, first, d, randoms, ops);
@@ -219,8 +219,8 @@ pub fn mask(
     tape: &[u8],
     used: usize,
 )
-    requires { MaskAsks d first ops.now values.old tape.now used randoms }
-    ensures { MaskFills d first ops.now tape.now used values.old values.new }
+    requires { Small first d × (1 + d ≤ length ops.now) × RowBefore first d (word_a ops.now) × (first + pairs d + d ≤ length values.old) × (used + pairs d ≤ length tape.now) × (randoms ≡ pairs d) }
+    ensures { Fills (DrawnMasked d first (word_a ops.now) tape.now used) first (first + pairs d + d) values.old values.new }
 {
     match d {
         2 => mask_shares(values, first, 2, 1, ops, tape, used),

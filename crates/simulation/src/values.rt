@@ -93,10 +93,10 @@ fn write_gate(values: &mut [u8], frame: Frame, first: usize) -> bool
 
 // What comes before a frame: so many wires, shares and random bits.
 #[derive(Clone, Copy)]
-pub struct Before {
-    pub first: usize,
-    pub from: usize,
-    pub used: usize,
+struct Before {
+    first: usize,
+    from: usize,
+    used: usize,
 }
 
 // The wires of another frame. A gadget takes so many random bits.
@@ -138,9 +138,9 @@ fn write_frame(
 
 // A walk's place, and how many wires come before it.
 #[derive(Clone, Copy)]
-pub struct Passed {
-    pub walk: Walk,
-    pub first: usize,
+struct Passed {
+    walk: Walk,
+    first: usize,
 }
 
 // The wires of each XOR, NOT and REG from a walk's place up to the first frame of another kind. These take neither shares nor random

@@ -1,4 +1,4 @@
--- A table expanded frame by frame, from before the first to behind the last.
+-- The frames before the walk's place are expanded: their wires that others name, or that are read, are sums of variables.
 use mathlib.Core.Path.{◌≡◌, refl, sym, ap, subst, ◌∙◌}
 use mathlib.Core.Bool.{Bool, true}
 use mathlib.Core.List.{List, [], map}
@@ -18,15 +18,35 @@ use Rattle.frames.specs.Walk.{operands_at}
 use Rattle.gadgets.proofs.Walking.{whole, whole_ordered, randoms-grow, Met}
 use Rattle.simulation.specs.Internal.Filling.{Values, FrameValues}
 use Rattle.simulation.specs.Internal.Evaluating.{packed, Evaluable}
-use Rattle.simulation.specs.Internal.Walked.{values_at}
+use Rattle.simulation.specs.Internal.Walked.{WalkedTo, values_at}
 use Rattle.simulation.proofs.Walked.{walked_start, rank_is, frame-within, walked_next, walked_all}
 use Rattle.simulation.proofs.Equations.{frame-values}
 use Rattle.symbolic.specs.declared.gadget.Term.{Term}
 use Rattle.symbolic.specs.Internal.Sums.{added, Before}
 use Rattle.symbolic.specs.Internal.Terms.{product, term_at}
-use Rattle.symbolic.specs.Internal.Expanding.{Words, Solves, Told, by_list, Right, Bounds, ExpandedTo, Expanded}
+use Rattle.symbolic.specs.Internal.Expanding.{Words, Solves, Expanded}
 use Rattle.symbolic.proofs.Standing.{product_value}
 use Rattle.symbolic.proofs.Bounded.{some, more, Below}
+
+-- a wire that others name, or that is read
+pub data Told (k : Circuit) (read : List ℕ) (found x : ℕ) : Type 0 where
+  by_name : is_named (look_up k x) ≡ true → Told k read found x
+  by_list : (i : ℕ) → i < found → nth read i ≡ x → Told k read found x
+
+-- the word of a wire is that of its sum, whatever words the variables have
+abbrev pub Right : (k : Circuit) (shares tape read : List ℕ) (found : ℕ) (terms : List ℕ) (outputs w x sum : ℕ) → Type 0
+Right k shares tape read found terms outputs w x s =
+    (n : ℕ) (sharings tapes : ℕ → List Bool) (f : Values) → Words shares tape n sharings tapes f → Solves terms outputs read found w f → values_at k.wires n sharings tapes x ≡ added s f
+
+pub record ExpandedTo (room : ℕ) (table shares tape read : List ℕ) (found : ℕ) (sums terms : List ℕ) (place w from used outputs : ℕ) : Type 0 where
+  pub walked : WalkedTo table shares tape room place w from used
+  pub sums_sized : length sums ≡ room
+  pub few : outputs ≤ 2 * used
+  pub below : (x : ℕ) → x < w → is_named (look_up (whole walked.evaluable.accepted) x) ≡ true → nth sums x < 2 ^ (18 + outputs)
+  pub right : (x : ℕ) → x < w → Told (whole walked.evaluable.accepted) read found x → Right (whole walked.evaluable.accepted) shares tape read found terms outputs w x (nth sums x)
+  pub before : (n : ℕ) → n < outputs → Before terms n
+  pub reads_before : (i : ℕ) → i < found → Before terms (32 + i)
+  pub sized : length terms ≡ 80
 
 zeros_at : (m n : ℕ) → nth (replicate m 0) n ≡ 0
 zeros_at zero n = refl
@@ -34,10 +54,9 @@ zeros_at (suc m) zero = refl
 zeros_at (suc m) (suc n) = zeros_at m n
 
 -- before the first frame
-pub expanded_start : {table shares tape read sums : List ℕ} {found : ℕ} → Evaluable table shares tape (length sums) → Bounds (length sums) shares tape found → ExpandedTo (length sums) table shares tape read found sums (replicate 80 0) 2 0 0 0 0
-expanded_start e b = record {
+pub expanded_start : {table shares tape read sums : List ℕ} {found : ℕ} → Evaluable table shares tape (length sums) → ExpandedTo (length sums) table shares tape read found sums (replicate 80 0) 2 0 0 0 0
+expanded_start {found = found} e = record {
   walked = walked_start e;
-  bounds = b;
   sums_sized = refl;
   few = omega arith;
   below = λ x l. absurd (omega arith);
@@ -104,7 +123,6 @@ module _ {room : ℕ} {table shares tape read : List ℕ} {found : ℕ} {sums te
     pub expanded-next : {sums' terms' : List ℕ} {r : ℕ} → Made sums' terms' r → ExpandedTo room table shares tape read found sums' terms' wk.at (w + sh.wires) (from + d * sh.inputs) (used + sh.randoms) r
     expanded-next {sums'} {terms'} {r} z = record {
       walked = walked_next t.walked same m;
-      bounds = t.bounds;
       sums_sized = z.sized ∙ t.sums_sized;
       few = z.few;
       below = λ x l e. cases (ltb x w)
@@ -119,12 +137,12 @@ module _ {room : ℕ} {table shares tape read : List ℕ} {found : ℕ} {sums te
     }
 
   -- all frames are expanded
-  pub all-expanded : t.walked.between.after ≡ [] → ((i : ℕ) → i < found → nth read i < size (circuit_in table)) → Expanded table shares tape read found sums terms outputs
-  all-expanded none made =
+  pub all-expanded : t.walked.between.after ≡ [] → length tape ≤ 16 → ((i : ℕ) → i < found → nth read i < size (circuit_in table)) → Expanded table shares tape read found sums terms outputs
+  all-expanded none short made =
       let all = walked_all t.walked none in
       let drawn : length tape ≡ k.randoms = t.walked.evaluable.drawn ∙ ap (λ (c : Circuit). c.randoms) a.circuit_is in
       record {
-        few = omega (arith, t.few, t.walked.used_are, randoms-grow a t.walked.between, drawn, t.bounds.few_drawn);
+        few = omega (arith, t.few, t.walked.used_are, randoms-grow a t.walked.between, drawn);
         before = λ n l u. t.before n u;
         reads_before = λ n l u. let i = n - 32 in let z : 32 + i ≡ n = omega arith in subst (Before terms) z (t.reads_before i (omega arith));
         right = λ n sharings tapes f v s i l. rw a.circuit_is (t.right (nth read i) (omega (arith, made i l, all)) (by_list i l refl) n sharings tapes f v (subst (λ (y : ℕ). Solves terms outputs read found y f) (sym all) s));

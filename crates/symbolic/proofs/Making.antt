@@ -1,5 +1,5 @@
 -- What is written for a frame makes its wires right.
-use mathlib.Core.Path.{◌≡◌, refl, sym, ap, subst, subst₂, ◌∙◌}
+use mathlib.Core.Path.{◌≡◌, refl, sym, ap, subst, ◌∙◌}
 use mathlib.Core.Bool.{Bool, true, false, true≢false}
 use mathlib.Core.List.{List}
 use Prim.Native.Nat.{ℕ, ◌+◌, ◌*◌, ◌-◌, ◌^◌, ◌≤◌, ◌<◌}
@@ -10,6 +10,7 @@ use lib.Dec.{ltb}
 use lib.ListN.{length}
 use lib.Pow.{pow-lt}
 use borrow.Author.Tests.{ltb-true, ltb-false}
+use Rattle.circuit.specs.Limits.{wire_limit}
 use Rattle.circuit.specs.Lists.{nth}
 use Rattle.circuit.specs.Circuit.{Circuit, look_up, is_named}
 use Rattle.circuit.specs.Kinds.{pairs}
@@ -34,11 +35,11 @@ use Rattle.simulation.proofs.Walked.{room_in, inputs_in, draws_in}
 use Rattle.symbolic.specs.declared.gadget.Term.{Term}
 use Rattle.symbolic.specs.Internal.Sums.{added, Before}
 use Rattle.symbolic.specs.Internal.Terms.{Inside, product, sum_with, term_at, inner_term, output_term}
-use Rattle.symbolic.specs.Internal.Expanding.{AndWrites, FrameAsks, FrameWrites, GateWritten, Words, Solves, Told, by_name, by_list, ExpandedTo}
+use Rattle.symbolic.specs.Internal.Expanding.{AndWrites, FrameAsks, FrameWrites, Words, Solves}
 use Rattle.symbolic.proofs.Standing.{term_value, product_value, term-sum, inner-right, output-right}
 use Rattle.symbolic.proofs.Bounded.{more, Below, below_more, inner_below, output-below}
 use Rattle.symbolic.proofs.Linear.{gate-below, gate_kept, gate-sized, gate-right, ref_below, ref_right}
-use Rattle.symbolic.proofs.Expanding.{earlier, before_same, before-term, holds, Made, expanded-next}
+use Rattle.symbolic.proofs.Expanding.{Told, by_name, by_list, ExpandedTo, earlier, before_same, before-term, holds, Made}
 
 -- what holds of earlier wires that are named holds of those that a gate names
 names_are : (g : GateCode) (w : ℕ) (P Q : ℕ → Type 0) → ((x : ℕ) → x < w → P x → Q x) → GateEarly g w → GateNames g P → GateNames g Q
@@ -58,7 +59,8 @@ any_bits (gate.Not x) d from used shares tape h = tt
 any_bits (gate.Reg x) d from used shares tape h = tt
 any_bits gate.Out d from used shares tape h = tt
 
-module _ {room : ℕ} {table shares tape read : List ℕ} {found : ℕ} {sums terms : List ℕ} {place w from used outputs : ℕ} (t : ExpandedTo room table shares tape read found sums terms place w from used outputs) where
+module _ {room : ℕ} {table shares tape read : List ℕ} {found : ℕ} {sums terms : List ℕ} {place w from used outputs : ℕ} (t : ExpandedTo room table shares tape read found sums terms place w from used outputs)
+    (shares-below : (x : ℕ) → nth shares x < 2 ^ 18) (tape-below : (x : ℕ) → nth tape x < 2 ^ 18) (few : length tape ≤ 16) (found-few : found ≤ 8) where
   abbrev a : AcceptedTable table
   a = t.walked.evaluable.accepted
 
@@ -101,14 +103,14 @@ module _ {room : ℕ} {table shares tape read : List ℕ} {found : ℕ} {sums te
     gate-made g m {sums'} h =
         let here = room_in t.walked same m in
         rw (h.1, h.2) (plain m (gate_kept g d w from shares sums sums' h.0) (gate-sized g d w from shares sums sums' h.0)
-        (λ x l u. gate-below {m = 18 + outputs} (omega arith) g d w from shares sums sums' h.0 (omega (arith, here, t.sums_sized)) (λ y. more {m = 18} (omega arith) (t.bounds.shares_below y)) (names_are g w Named _ (λ y z e. t.below y z e) m.early m.names) x l (omega (arith, m.as_many)))
+        (λ x l u. gate-below {m = 18 + outputs} (omega arith) g d w from shares sums sums' h.0 (omega (arith, here, t.sums_sized)) (λ y. more {m = 18} (omega arith) (shares-below y)) (names_are g w Named _ (λ y z e. t.below y z e) m.early m.names) x l (omega (arith, m.as_many)))
         (λ n sharings tapes f v s x l u. gate-right (values_at k.wires n sharings tapes) f (packed n (λ e. true)) v.full g d w from shares sums sums' h.0 (omega (arith, here, t.sums_sized)) (holds t same m n sharings tapes f v)
         (names_are g w Named _ (λ y z e. known n sharings tapes f v s y z e) m.early m.names) x l (omega (arith, m.as_many))))
 
     ref_made : (m : Met a t.walked.between d w from frame.Ref sh wk) {sums' terms' : List ℕ} {r : ℕ}
         → FrameWrites frame.Ref d w from used (operands_at table d place) shares tape read found outputs sums terms sums' terms' r → Made t same m sums' terms' r
     ref_made m h = rw (h.1, h.2) (plain m h.0.below h.0.sized
-        (λ x l u. ref_below h.0 (18 + outputs) (λ y. more {m = 18} (omega arith) (t.bounds.tape_below y)) (λ i z. t.below _ (m.early.1 i z) (m.names i z)) x l (omega (arith, m.as_many)))
+        (λ x l u. ref_below h.0 (18 + outputs) (λ y. more {m = 18} (omega arith) (tape-below y)) (λ i z. t.below _ (m.early.1 i z) (m.names i z)) x l (omega (arith, m.as_many)))
         (λ n sharings tapes f v s x l u. ref_right h.0 (values_at k.wires n sharings tapes) f (holds t same m n sharings tapes f v) (λ i z. known n sharings tapes f v s _ (m.early.1 i z) (m.names i z)) x l (omega (arith, m.as_many))))
 
     -- a gadget has at least half as many random bits as shares, so the outputs are few
@@ -117,35 +119,36 @@ module _ {room : ℕ} {table shares tape read : List ℕ} {found : ℕ} {sums te
         let own : used + pairs d ≤ used + sh.randoms = m.supplied used (from + d * sh.inputs) (used + sh.randoms) (omega arith) (omega arith) in
         let all = draws_in t.walked same m in
         let half : 1 * d ≤ (d - 1) * d = mul-le-mul_right d (omega (arith, two-shares same)) in
-        (omega (arith, pairs_twice d), omega (arith, pairs_twice d, t.few, t.bounds.few_drawn))
+        (omega (arith, pairs_twice d), omega (arith, pairs_twice d, t.few))
 
     -- what a frame asks for is there
-    pub frame_asks : {long : ℕ} → long ≡ room → (fr : FrameCode) → Met a t.walked.between d w from fr sh wk → FrameAsks fr d w from used (operands_at table d place) long (length shares) (length tape) outputs
-    frame_asks e (frame.Gate g) m =
-        (m.early, omega (arith, room_in t.walked same m), omega (arith, t.bounds.few_wires), any_bits g d from used (length shares) (length tape) (m.supplied used (length shares) (length tape) (inputs_in t.walked same m) (draws_in t.walked same m)))
-    frame_asks e frame.And m = (
+    pub frame_asks : (fr : FrameCode) → Met a t.walked.between d w from fr sh wk → length sums ≤ wire_limit
+        → FrameAsks fr d w from used (operands_at table d place) (length sums) (length shares) (length tape) outputs
+    frame_asks (frame.Gate g) m wide =
+        (m.early, omega (arith, room_in t.walked same m, t.sums_sized), wide, any_bits g d from used (length shares) (length tape) (m.supplied used (length shares) (length tape) (inputs_in t.walked same m) (draws_in t.walked same m)))
+    frame_asks frame.And m wide = (
       record {
         two = two-shares same;
         most = m.small.2;
         words = m.early.0;
         early_a = m.early.1;
         early_b = m.early.2;
-        roomy = omega (arith, room_in t.walked same m);
-        few = omega (arith, t.bounds.few_wires);
+        roomy = omega (arith, room_in t.walked same m, t.sums_sized);
+        few = wide;
         bits = m.supplied used (length shares) (length tape) (inputs_in t.walked same m) (draws_in t.walked same m);
-        near = omega (arith, draws_in t.walked same m, t.bounds.few_drawn);
+        near = omega (arith, draws_in t.walked same m);
       },
       (and-bits m).1,
     )
-    frame_asks e frame.Ref m = record {
+    frame_asks frame.Ref m wide = record {
       two = two-shares same;
       most = m.small.2;
       words = m.early.0;
       early = m.early.1;
-      roomy = omega (arith, room_in t.walked same m);
-      few = omega (arith, t.bounds.few_wires);
+      roomy = omega (arith, room_in t.walked same m, t.sums_sized);
+      few = wide;
       bits = m.supplied used (length shares) (length tape) (inputs_in t.walked same m) (draws_in t.walked same m);
-      near = omega (arith, draws_in t.walked same m, t.bounds.few_drawn);
+      near = omega (arith, draws_in t.walked same m);
     }
 
     -- AND
@@ -200,7 +203,7 @@ module _ {room : ℕ} {table shares tape read : List ℕ} {found : ℕ} {sums te
       output-term = output-below (18 + outputs) (omega arith) d ops wr.mid_sums tape used
           (λ j p. subst (λ (y : ℕ). y < 2 ^ (18 + outputs)) (sym (mid-same _ (early_a j p))) (t.below _ (early_a j p) (m.names.0 j p)))
           (λ j p. subst (λ (y : ℕ). y < 2 ^ (18 + outputs)) (sym (mid-same _ (early_b j p))) (t.below _ (early_b j p) (m.names.1 j p)))
-          (λ y. more {m = 18} (omega arith) (t.bounds.tape_below y))
+          (λ y. more {m = 18} (omega arith) (tape-below y))
 
       below : (x : ℕ) → w ≤ x → x < w + sh.wires → Named x → nth sums' x < 2 ^ (18 + (outputs + d))
       below x l u e = which x l u (λ i. clash x i e)
@@ -235,7 +238,7 @@ module _ {room : ℕ} {table shares tape read : List ℕ} {found : ℕ} {sums te
             let same-wire : nth read j ≡ x = q ∙ e in
             let inner : ℕ → Term = λ y. inner_term d ops sums tape used (y - w) in
             let term = read_mid j ∙ wr.reads.term_is j p (subst (Inside d w) (sym same-wire) here) ∙ ap (λ y. product (inner y)) same-wire in
-            inner-is x here ∙ term-sum f (50 + j) (inner x) (omega (arith, t.bounds.few_found)) (s.reads j p (omega (arith, same-wire)) ∙ ap (product_value f) term)
+            inner-is x here ∙ term-sum f (50 + j) (inner x) (omega (arith, found-few)) (s.reads j p (omega (arith, same-wire)) ∙ ap (product_value f) term)
             ∙ ap (λ y. added y f) (sym (wr.outs.sum_kept x (omega (arith, here.1)) ∙ ap (nth wr.mid_sums) (sym e) ∙ sum ∙ ap (λ y. sum_with (50 + j) (inner y)) e))
 
         out : (x i : ℕ) → i < d → x ≡ out_at d w i → value x ≡ added (nth sums' x) f
@@ -258,7 +261,7 @@ module _ {room : ℕ} {table shares tape read : List ℕ} {found : ℕ} {sums te
       reads-inside : (i : ℕ) → i < found → Inside d w (nth read i) → Before terms' (32 + i)
       reads-inside i l here = before-term t (inner_term d ops sums tape used (nth read i - w)) (read_mid i ∙ wr.reads.term_is i l here) (below_more (omega (arith, bits.1))
           (inner_below (18 + outputs) (omega arith) d ops sums tape used (λ j p. t.below _ (early_a j p) (m.names.0 j p)) (λ j p. t.below _ (early_b j p) (m.names.1 j p))
-          (λ y. more {m = 18} (omega arith) (t.bounds.tape_below y)) (nth read i - w) (two-shares same) (omega (arith, here.0, here.1))))
+          (λ y. more {m = 18} (omega arith) (tape-below y)) (nth read i - w) (two-shares same) (omega (arith, here.0, here.1))))
 
       reads_before : (i : ℕ) → i < found → Before terms' (32 + i)
       reads_before i l = cases (ltb (nth read i) w)
@@ -287,18 +290,3 @@ module _ {room : ℕ} {table shares tape read : List ℕ} {found : ℕ} {sums te
     frame_made (frame.Gate g) m h = gate-made g m h
     frame_made frame.And m h = and-made m h
     frame_made frame.Ref m h = ref_made m h
-
-    -- behind a frame, its wires are expanded too
-    pub frame-behind : {fr : FrameCode} (m : Met a t.walked.between d w from fr sh wk) {mid sums' terms' : List ℕ} {r : ℕ} → mid ≡ sums
-        → FrameWrites fr d w from used (operands_at table d place) shares tape read found outputs mid terms sums' terms' r
-        → ExpandedTo room table shares tape read found sums' terms' wk.at (w + sh.wires) (from + d * sh.inputs) (used + sh.randoms) r
-    frame-behind {fr} m e h = expanded-next t same m (frame_made fr m (rw e at h))
-
-    -- a gate that is written takes neither shares nor random bits
-    pub gate-behind : {fr : FrameCode} (m : Met a t.walked.between d w from fr sh wk) {new : List ℕ} {r : Bool} → GateWritten fr w sums new r → r ≡ true
-        → ExpandedTo room table shares tape read found new terms wk.at (w + sh.wires) from used outputs
-    gate-behind m {new} e is =
-        let (i, b) = m.few_takes (omega (arith, m.as_many, e.gate is d)) in
-        let none : from + d * sh.inputs ≡ from = ap (λ n. from + d * n) i ∙ omega arith in
-        let bare : used + sh.randoms ≡ used = omega (arith, b) in
-        subst₂ (λ (k l : ℕ). ExpandedTo room table shares tape read found new terms wk.at (w + sh.wires) k l outputs) none bare (frame-behind m refl (e.writes is _ _ _ _ _ _ _ _ _ _))

@@ -78,8 +78,8 @@ runs_none terms n words = record { are = λ m w l u h. absurd (omega arith); bel
 pub runs_end : {terms old new : List ℕ} {from n to : ℕ} → n ≡ to → Runs terms from n old new → Runs terms from to old new
 runs_end e r = rw (← e) r
 
-pub runs-next : {terms old mid new : List ℕ} {from n : ℕ} → from ≤ n → BoundedTerms terms from (n + 1) → Runs terms from n old mid → Runs terms n (n + 1) mid new → Runs terms from (n + 1) old new
-runs-next {terms} {old} {mid} {new} {from} {n} low b r s = record {
+pub runs_next : {terms old mid new : List ℕ} {from n : ℕ} → from ≤ n → BoundedTerms terms from (n + 1) → Runs terms from n old mid → Runs terms n (n + 1) mid new → Runs terms from (n + 1) old new
+runs_next {terms} {old} {mid} {new} {from} {n} low b r s = record {
   are = λ m w l u h. cases (ltb m n)
       (λ e. let k = ltb-true m n e in s.below (4 * (18 + m) + w) (omega arith) ∙ r.are m w l k h
       ∙ term-same terms m (words_at w mid) (words_at w new) (b m l u) (λ t z. sym (s.below (4 * t + w) (omega arith))))

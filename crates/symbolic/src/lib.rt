@@ -9,4 +9,3 @@
 pub mod evaluate;
 pub mod expand;
 mod gadget;
-mod gate;

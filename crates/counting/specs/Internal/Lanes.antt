@@ -19,13 +19,6 @@ unfoldable pub gathered : ℕ → (ℕ → ℕ) → ℕ
 gathered zero f = 0
 gathered (suc n) f = gathered n (λ l. f (suc l)) * 256 + f 0
 
--- numbers of eight pairs, each a place of a tally
-pub record Numbers (numbers places : ℕ) : Type 0 where
-  pub of : ℕ → ℕ
-  pub small : (l : ℕ) → of l < 256
-  pub inside : (l : ℕ) → of l < places
-  pub are : numbers ≡ gathered 8 of
-
 -- the number of the combination that a pair shows, from a word for each of so many wires
 abbrev pub shown_by : (columns : ℕ → ℕ) (found lane : ℕ) → ℕ
 shown_by columns found l = number_of (map (λ i. lane_bit l (columns i)) (range 0 found))
@@ -47,5 +40,5 @@ at_most n most = n - (n - most)
 
 -- one more is counted for each of the first so many pairs, at its number
 pub record Adds (number : ℕ → ℕ) (lanes : ℕ) (old new : List ℕ) : Type 0 where
-  pub added : (n : ℕ) → n < length old → nth new n ≡ nth old n + sum_to lanes (λ l. cond (eqb (number l) n) 1 0)
+  pub added : (n : ℕ) → n < 256 → nth new n ≡ nth old n + sum_to lanes (λ l. cond (eqb (number l) n) 1 0)
   pub sized : length new ≡ length old

@@ -29,12 +29,6 @@ pub record SurveysMore (terms : List ℕ) (from to needed factors needed' factor
   pub factors_more : Within factors factors'
   pub above : (s : ℕ) → 18 + to ≤ s → lane_bit s needed' ≡ lane_bit s needed
 
--- the sums of at most eight wires on a list
-pub record Readable (sums read : List ℕ) (found : ℕ) : Type 0 where
-  pub few : found ≤ 8
-  pub listed : found ≤ length read
-  pub made : (i : ℕ) → i < found → nth read i < length sums
-
 -- the variables that the read wires need, and those that are factors of products among them
 pub record Surveyed (sums terms read : List ℕ) (outputs found factors : ℕ) : Type 0 where
   pub needed : ℕ
@@ -46,9 +40,15 @@ pub record Surveyed (sums terms read : List ℕ) (outputs found factors : ℕ) :
 abbrev pub varied_in : (factors free : ℕ) → List Bool
 varied_in factors n = map (λ i. lane_bit i factors) (range 0 n)
 
--- by which number what is shown differs where a free bit that does not vary is set: the read wires to which it is added
+-- by which number what is shown differs where a free bit that does not vary is set: the read wires to which it is added; the
+-- numbers of all free bits
 abbrev pub shift_in : (sums read : List ℕ) (found i : ℕ) → ℕ
 shift_in sums read found i = shown_by (λ j. nth sums (nth read j)) found i
+
+pub record ShiftsIn (sums read : List ℕ) (found free : ℕ) (shifts : List ℕ) : Type 0 where
+  pub are : (i : ℕ) → i < free → nth shifts i ≡ shift_in sums read found i
+  pub low : (i : ℕ) → nth shifts i < 2 ^ found
+  pub sized : length shifts ≡ 16
 
 -- the numbers of a tally below one are others
 pub record Remade (f : ℕ → ℕ) (count : ℕ) (old new : List ℕ) : Type 0 where
@@ -56,42 +56,14 @@ pub record Remade (f : ℕ → ℕ) (count : ℕ) (old new : List ℕ) : Type 0 
   pub rest : (n : ℕ) → count ≤ n → nth new n ≡ nth old n
   pub sized : length new ≡ length old
 
--- two counts, each made the sum of both
-abbrev pub both_added : (n other : ℕ) → List ℕ → List ℕ
-both_added n other old = let sum = nth old n + nth old other in set (set old n sum) other sum
-
 -- a count and the one whose combination differs by a shift, added, unless that one is the lower
 abbrev pub pair_added : (shift n : ℕ) → List ℕ → List ℕ
-pair_added shift n old = cond (leb (bit_xor n shift) n) old (both_added n (bit_xor n shift) old)
-
-pub record PairAsks (shift n : ℕ) (tally : List ℕ) : Type 0 where
-  pub inside : n < length tally
-  pub other : bit_xor n shift < length tally
-  pub few : n < bit_xor n shift → nth tally n + nth tally (bit_xor n shift) ≤ 65536
-
--- all counts below a number
-pub record ShiftAsks (shift count : ℕ) (tally : List ℕ) : Type 0 where
-  pub room : count ≤ length tally
-  pub inside : (n : ℕ) → n < count → bit_xor n shift < count
-  pub few : (n : ℕ) → n < count → nth tally n + nth tally (bit_xor n shift) ≤ 65536
-
-abbrev pub Shifts : (shift count : ℕ) (old new : List ℕ) → Type 0
-Shifts shift count old new = Remade (λ n. nth old n + nth old (bit_xor n shift)) count old new
-
--- counts that can be moved by a shift and added
-abbrev pub Addable : (shift found : ℕ) (tally : List ℕ) → Type 0
-Addable shift found tally = (n : ℕ) → n < 2 ^ found → nth tally n + nth tally (bit_xor n shift) ≤ 65536
+pair_added shift n old =
+    let sum = nth old n + nth old (bit_xor n shift) in
+    cond (leb (bit_xor n shift) n) old (set (set old n sum) (bit_xor n shift) sum)
 
 -- a free bit counted, set and not set; the answer is how often all counts are still to be doubled
 pub record FoldsBit (factors shift i count : ℕ) (old new : List ℕ) (r : ℕ) : Type 0 where
   pub varied : lane_bit i factors ≡ true → (new ≡ old) × (r ≡ 0)
   pub double : lane_bit i factors ≡ false → shift ≡ 0 → (new ≡ old) × (r ≡ 1)
-  pub moved : lane_bit i factors ≡ false → (shift ≡ 0 → ⊥) → Shifts shift count old new × (r ≡ 0)
-
--- all free bits that do not vary counted too, where no count is over 65536 then
-pub record Foldable (factors : ℕ) (shift : ℕ → ℕ) (free found : ℕ) (tally : List ℕ) : Type 0 where
-  pub room : 2 ^ found ≤ length tally
-  pub few : (n : ℕ) → n < 2 ^ found → folded (λ i. lane_bit i factors) shift free 0 (nth tally) n ≤ 65536
-
-abbrev pub Folds : (factors : ℕ) (shift : ℕ → ℕ) (free found : ℕ) (old new : List ℕ) → Type 0
-Folds factors shift free found old new = Remade (folded (λ i. lane_bit i factors) shift free 0 (nth old)) (2 ^ found) old new
+  pub moved : lane_bit i factors ≡ false → (shift ≡ 0 → ⊥) → Remade (λ n. nth old n + nth old (bit_xor n shift)) count old new × (r ≡ 0)

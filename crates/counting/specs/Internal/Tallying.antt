@@ -88,16 +88,11 @@ pub record Listable (table secrets : List ℕ) (inputs randoms wires : ℕ) (rea
   pub read_in : ReadIn table read found
   pub room : 1024 ≤ length counts
 
--- a tally of nothing yet, with a place for each combination on so many wires
-pub record Clear (found : ℕ) (tally : List ℕ) : Type 0 where
-  pub room : 2 ^ found ≤ length tally
-  pub none : (n : ℕ) → nth tally n ≡ 0
-
--- the number of pairs that are gone through for each combination on the first so many wires of a list
-pub record TalliedSome (table secrets read : List ℕ) (found factors free : ℕ) (tally : List ℕ) : Type 0 where
-  pub counts : (n : ℕ) → n < length tally → nth tally n ≡ shown_among (circuit_in table) (bits secrets) (take found read) (placed (varied_in factors free)) (2 ^ count_varied (varied_in factors free)) n
+-- the number of pairs that are gone through for each combination on wires
+pub record TalliedSome (table secrets wires : List ℕ) (factors free : ℕ) (tally : List ℕ) : Type 0 where
+  pub counts : (n : ℕ) → n < 256 → nth tally n ≡ shown_among (circuit_in table) (bits secrets) wires (placed (varied_in factors free)) (2 ^ count_varied (varied_in factors free)) n
   pub few : (n : ℕ) → nth tally n ≤ 65536
-  pub room : 2 ^ found ≤ length tally
+  pub sized : length tally ≡ 256
 
 -- and of all pairs
 pub record Tallied (table secrets wires tally : List ℕ) : Type 0 where

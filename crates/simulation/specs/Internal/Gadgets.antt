@@ -1,11 +1,10 @@
--- What AND, REF and their parts fill in, and what they ask.
-use Rattle.std.specs.Prelude.{◌≡◌, List, ℕ, ◌+◌, ◌-◌, ◌*◌, ◌≤◌, length}
+-- What the parts of AND and REF fill in.
+use Rattle.std.specs.Prelude.{◌≡◌, List, ℕ, ◌+◌, ◌-◌}
 use Rattle.std.specs.Int.Bits.{bit_xor}
 use Rattle.circuit.specs.Lists.{nth, range}
 use Rattle.circuit.specs.Kinds.{pairs}
-use Rattle.gadgets.specs.Internal.Places.{word_a, word_b, pair_at, product_at, cross_at, mask_at}
-use Rattle.gadgets.specs.Internal.Frames.{Small, RowBefore, Roomy}
-use Rattle.simulation.specs.Internal.Filling.{Values, word_sum, Known, Fills, Crossed, crossing, RowCrossed, crossing_at, AndValues, DrawnMasked}
+use Rattle.gadgets.specs.Internal.Places.{pair_at, product_at, cross_at, mask_at}
+use Rattle.simulation.specs.Internal.Filling.{Values, word_sum, Known, Fills, Crossed, crossing, RowCrossed, crossing_at}
 
 -- the wires of two shares
 pub record Crosses (at a b r : ℕ) (old new : List ℕ) (s : ℕ) : Type 0 where
@@ -32,28 +31,3 @@ pub record CrossesAll (d first i a word : ℕ) (old new : List ℕ) (t : ℕ) : 
 
 pub record Sums (d first i word from to : ℕ) (values : List ℕ) (s : ℕ) : Type 0 where
   pub is : (v : Values) → Known v 0 (first + pairs d) values → s ≡ bit_xor word (word_sum (range from (to - from)) (λ j. v (mask_at d first i j)))
-
--- what AND asks, and what it fills in
-pub record AndAsks (d first : ℕ) (ops values tape : List ℕ) (used randoms : ℕ) : Type 0 where
-  pub small : Small first d
-  pub words : length ops ≡ 1 + d + d
-  pub a_early : RowBefore first d (word_a ops)
-  pub b_early : RowBefore first d (word_b d ops)
-  pub room : Roomy d first values
-  pub supplied : used + pairs d ≤ length tape
-  pub count : randoms ≡ pairs d
-
-abbrev pub AndFills : (d first : ℕ) (ops tape : List ℕ) (used : ℕ) (old new : List ℕ) → Type 0
-AndFills d first ops tape used old new = Fills (AndValues 1 d first (word_a ops) (word_b d ops) tape used) first (first + (7 * (d * (d - 1)) + 4 * d)) old new
-
--- the same of REF's random bits and sums
-pub record MaskAsks (d first : ℕ) (ops values tape : List ℕ) (used randoms : ℕ) : Type 0 where
-  pub small : Small first d
-  pub words : 1 + d ≤ length ops
-  pub early : RowBefore first d (word_a ops)
-  pub room : first + pairs d + d ≤ length values
-  pub supplied : used + pairs d ≤ length tape
-  pub count : randoms ≡ pairs d
-
-abbrev pub MaskFills : (d first : ℕ) (ops tape : List ℕ) (used : ℕ) (old new : List ℕ) → Type 0
-MaskFills d first ops tape used old new = Fills (DrawnMasked d first (word_a ops) tape used) first (first + pairs d + d) old new

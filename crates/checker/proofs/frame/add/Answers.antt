@@ -64,13 +64,13 @@ pub product-broken-requires : goal.product-broken-requires
 product-broken-requires c = (c.requires.0.wires, omega (arith, c.requires.0.room), omega (arith, c.requires.1.least), c.requires.1.most, asked c.requires.1 c.in-Product.is)
 
 pub grown-requires-in-Product : goal.grown-requires-in-Product
-grown-requires-in-Product c = fits c.requires.1 c.in-Product.is c.product-broken.ensures refl (made_after (goal.at.grown-requires-in-Product c).Start false c.less.ensures) c.requires.0
+grown-requires-in-Product c = fits c.requires.1 c.in-Product.is c.product-broken.ensures refl (made_after (goal.at.grown-requires-in-Product c).Start false c.less-inner.ensures) c.requires.0
 
 pub refresh-broken-requires : goal.refresh-broken-requires
 refresh-broken-requires c = (c.requires.0.wires, omega (arith, c.requires.0.room), omega (arith, c.requires.1.least), c.requires.1.most, asked c.requires.1 c.in-Refresh.is)
 
 pub grown-requires-in-Refresh : goal.grown-requires-in-Refresh
-grown-requires-in-Refresh c = fits c.requires.1 c.in-Refresh.is c.refresh-broken.ensures refl (made_after (goal.at.grown-requires-in-Refresh c).Start true c.less-in-Refresh.ensures) c.requires.0
+grown-requires-in-Refresh c = fits c.requires.1 c.in-Refresh.is c.refresh-broken.ensures refl (made_after (goal.at.grown-requires-in-Refresh c).Start true c.less-inner-in-Refresh.ensures) c.requires.0
 
 pub bounds-ops-0-in-Row : goal.bounds-ops-0-in-Row
 bounds-ops-0-in-Row c = omega (arith, asked c.requires.1 c.in-Row.is)
@@ -98,10 +98,10 @@ pub returns-in-Copy : goal.returns-in-Copy
 returns-in-Copy c = adds c.requires.1 c.in-Copy.is c.copy-broken.ensures refl refl c.grown-in-Copy.ensures refl
 
 pub returns-in-Product : goal.returns-in-Product
-returns-in-Product c = adds c.requires.1 c.in-Product.is c.product-broken.ensures refl (made_after (goal.at.returns-in-Product c).Start false c.less.ensures) c.grown-in-Product.ensures refl
+returns-in-Product c = adds c.requires.1 c.in-Product.is c.product-broken.ensures refl (made_after (goal.at.returns-in-Product c).Start false c.less-inner.ensures) c.grown-in-Product.ensures refl
 
 pub returns-in-Refresh : goal.returns-in-Refresh
-returns-in-Refresh c = adds c.requires.1 c.in-Refresh.is c.refresh-broken.ensures refl (made_after (goal.at.returns-in-Refresh c).Start true c.less-in-Refresh.ensures) c.grown-in-Refresh.ensures refl
+returns-in-Refresh c = adds c.requires.1 c.in-Refresh.is c.refresh-broken.ensures refl (made_after (goal.at.returns-in-Refresh c).Start true c.less-inner-in-Refresh.ensures) c.grown-in-Refresh.ensures refl
 
 pub returns-in-Row : goal.returns-in-Row
 returns-in-Row c =

@@ -1,7 +1,7 @@
 -- Three parts, one behind the other.
 use native.Mathlib.Omega.{arith}
 use Rattle.circuit.proofs.Sizes.{pairs_twice}
-use Rattle.clock.proofs.Gadgets.{and-runs}
+use Rattle.clock.proofs.Gadgets.{and_runs}
 use Rattle.clock.proofs.gadget.and.Goals as goal
 
 pub draws-requires : goal.draws-requires
@@ -18,4 +18,4 @@ cross_all-requires c = let p = c.requires in
 pub returns : goal.returns
 returns c = 
     let a = c.args in
-    and-runs a.d a.first a.used a.randoms a.ops.now a.tape.now c.requires.7 c.draws.ensures c.share_products.ensures c.cross_all.ensures
+    and_runs a.d a.first a.used a.randoms a.ops.now a.tape.now c.requires.7 c.draws.ensures c.share_products.ensures c.cross_all.ensures

@@ -4,7 +4,7 @@ use Prim.Native.Nat.{◌+◌, ◌-◌}
 use native.Mathlib.Omega.{arith}
 use lib.ListN.{length-set}
 use Rattle.gadgets.specs.Internal.Places.{sum_at, held_at}
-use Rattle.clock.proofs.Wires.{keep, upto_at, runs_none, runs-next, runs-at}
+use Rattle.clock.proofs.Wires.{keep, upto_at, runs_none, runs_next, runs_at}
 use Rattle.clock.proofs.gadget.holds.Goals as goal
 
 pub loop-i-init : goal.loop-i-init
@@ -21,7 +21,7 @@ loop-i-preserved c =
     let there : at + s.d ≡ held_at s.d s.first h.i = omega arith in
     let from : at ≡ sum_at s.d s.first h.i = omega arith in (
       omega arith,
-      runs-next h.invariant.1
+      runs_next h.invariant.1
           (λ k g u. upto_at (omega arith) (keep (upto_at (sym there) u) _ (omega (arith, g.0, h.invariant.1.held_sized)) (ap k.gate there ∙ g.1 h.i c.loop-i-test.true) (u.below at (omega arith) ∙ ap k.shows from)))
           refl (rw length-set refl),
     )
@@ -30,4 +30,4 @@ pub shape_of-bank : goal.shape_of-bank
 shape_of-bank c = c.loop-i.invariant.1.held_sized
 
 pub returns : goal.returns
-returns c = runs-at refl (omega arith) c.loop-i.invariant.1
+returns c = runs_at refl (omega arith) c.loop-i.invariant.1

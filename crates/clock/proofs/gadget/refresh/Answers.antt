@@ -1,11 +1,11 @@
 -- The random bits and the sums, then what the outputs show next.
 use native.Mathlib.Omega.{arith}
-use Rattle.simulation.proofs.Gadgets.{row_asks, row_masks}
+use Rattle.simulation.proofs.Gadgets.{row_word, row_long, row_masks}
 use Rattle.clock.proofs.Gadgets.{ref_runs}
 use Rattle.clock.proofs.gadget.refresh.Goals as goal
 
 pub mask-requires : goal.mask-requires
-mask-requires c = let p = c.requires in row_asks (record { small = p.0; words = p.1; early = p.2; room = omega arith; supplied = p.5; count = p.6 })
+mask-requires c = let p = c.requires in (p.0, row_long c.args.d c.args.ops.now p.1, (λ i l. rw (row_word c.args.d c.args.ops.now i l) (p.2 i l)), omega arith, p.5, p.6)
 
 pub returns : goal.returns
 returns c = 

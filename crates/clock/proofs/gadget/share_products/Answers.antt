@@ -4,7 +4,7 @@ use Prim.Native.Nat.{◌+◌, ◌-◌, ◌≤◌, ◌<◌}
 use native.Mathlib.Omega.{arith}
 use lib.ListN.{length, length-set}
 use Rattle.gadgets.specs.Internal.Places.{word_a, word_b, product_at}
-use Rattle.clock.proofs.Wires.{upto_at, runs_none, runs-next, runs-at}
+use Rattle.clock.proofs.Wires.{upto_at, runs_none, runs_next, runs_at}
 use Rattle.clock.proofs.Crossing.{product-gates, product-on}
 use Rattle.clock.proofs.gadget.share_products.Goals as goal
 use Rattle.clock.proofs.gadget.share_products.Goals.{After-product_at-at}
@@ -62,7 +62,7 @@ loop-i-preserved c =
     let t = turn (goal.at.loop-i-preserved c).After-product_at-at in
     (
       omega arith,
-      runs-next c.loop-i.invariant.1
+      runs_next c.loop-i.invariant.1
           (λ k g u. upto_at (omega (arith, t.at_is)) (product-on _ _ _ (omega (arith, g.0, t.at_is, t.room, t.held_room)) (product-gates k.gate t.at_is t.x_is t.y_is (g.1 c.loop-i.i c.loop-i-test.true)) (upto_at (omega (arith, t.at_is)) u) t.a_early t.b_early _ c.m-m.ensures))
           (rw length-set refl) (rw (length-set, length-set) refl),
     )
@@ -74,4 +74,4 @@ pub shape_of-bank : goal.shape_of-bank
 shape_of-bank c = c.loop-i.invariant.1.held_sized
 
 pub returns : goal.returns
-returns c = runs-at refl (omega arith) c.loop-i.invariant.1
+returns c = runs_at refl (omega arith) c.loop-i.invariant.1

@@ -1,5 +1,5 @@
 -- Each arm's callee asks and ensures what the contract says of its frame.
-use mathlib.Core.Path.{◌≡◌, ap, subst, ◌∙◌}
+use mathlib.Core.Path.{◌≡◌, refl, ap, subst, ◌∙◌}
 use mathlib.Core.List.{[]}
 use Prim.Native.Nat.{◌+◌, ◌≤◌}
 use native.Mathlib.Omega.{arith}
@@ -8,8 +8,7 @@ use Rattle.frames.specs.declared.walk.Gate.{Gate as GateCode}
 use Rattle.frames.specs.declared.walk.Frame.{Frame as FrameCode}
 use Rattle.frames.specs.declared.walk.Frame.TheVariants as frame
 use Rattle.gadgets.specs.Internal.Frames.{frame_wires, FrameEarly, FrameSupplied}
-use Rattle.simulation.specs.Internal.Walked.{OtherGate, Other}
-use Rattle.clock.proofs.Frames.{in_runs, con_runs, out-runs}
+use Rattle.clock.proofs.Frames.{in_runs, con_runs, xor_runs, not_runs, out_runs, reg_runs}
 use Rattle.clock.proofs.running.run_frame.Goals as goal
 use Rattle.clock.proofs.running.run_frame.Goals.{In-Gate, Start}
 
@@ -17,8 +16,8 @@ use Rattle.clock.proofs.running.run_frame.Goals.{In-Gate, Start}
 abbrev Asked : Start → FrameCode → Type 0
 Asked s f =
     let a = s.args in
-    (a.before.first + frame_wires f a.d ≤ length a.values.now) × (a.before.first + frame_wires f a.d ≤ length a.bank.now) × FrameEarly f a.d a.before.first a.ops.now
-    × FrameSupplied f a.d a.before.from a.before.used (length a.shares.now) (length a.tape.now)
+    (a.first + frame_wires f a.d ≤ length a.values.now) × (a.first + frame_wires f a.d ≤ length a.bank.now) × FrameEarly f a.d a.first a.ops.now
+    × FrameSupplied f a.d a.from a.used (length a.shares.now) (length a.tape.now)
 
 asked : (s : Start) {f : FrameCode} → s.args.frame ≡ f → Asked s f
 asked s e = subst (Asked s) e (s.requires.1, s.requires.2, s.requires.3, s.requires.4)
@@ -26,15 +25,20 @@ asked s e = subst (Asked s) e (s.requires.1, s.requires.2, s.requires.3, s.requi
 asked_gate : (c : In-Gate) {g : GateCode} → c.in-Gate.gate ≡ g → Asked c.before.before.before.before.before.before.before (frame.Gate g)
 asked_gate c e = asked c.before.before.before.before.before.before.before (c.in-Gate.is ∙ ap frame.Gate e)
 
--- XOR, NOT and REG do not come here
-other : (c : In-Gate) {g : GateCode} → c.in-Gate.gate ≡ g → OtherGate g
-other c e = subst Other (c.in-Gate.is ∙ ap frame.Gate e) c.requires.6
-
 pub copy-requires : goal.copy-requires
 copy-requires c = let q = asked_gate (goal.at.copy-requires c).In-Gate c.in-In.is in (q.0, q.3)
 
 pub constant-requires : goal.constant-requires
 constant-requires c = (asked_gate (goal.at.constant-requires c).In-Gate c.in-Con.is).0
+
+pub sum-requires : goal.sum-requires
+sum-requires c = let q = asked_gate (goal.at.sum-requires c).In-Gate c.in-Xor.is in (q.0, q.2.0, q.2.1)
+
+pub inverse-requires : goal.inverse-requires
+inverse-requires c = let q = asked_gate (goal.at.inverse-requires c).In-Gate c.in-Not.is in (q.0, q.2)
+
+pub register-requires : goal.register-requires
+register-requires c = let q = asked_gate (goal.at.register-requires c).In-Gate c.in-Reg.is in (q.1, q.2, omega (arith, q.0))
 
 pub and-requires : goal.and-requires
 and-requires c = let q = asked (goal.at.and-requires c).Start c.in-And.is in
@@ -56,17 +60,29 @@ shape_of-values-in-Con c = c.constant.ensures.size
 pub returns-in-Con : goal.returns-in-Con
 returns-in-Con c = rw (c.in-Gate.is, c.in-Con.is) (con_runs c.constant.ensures)
 
+pub shape_of-values-in-Xor : goal.shape_of-values-in-Xor
+shape_of-values-in-Xor c = c.sum.ensures.size
+
 pub returns-in-Xor : goal.returns-in-Xor
-returns-in-Xor c = absurd (other (goal.at.returns-in-Xor c).In-Gate c.in-Xor.is)
+returns-in-Xor c = rw (c.in-Gate.is, c.in-Xor.is) (xor_runs c.sum.ensures)
+
+pub shape_of-values-in-Not : goal.shape_of-values-in-Not
+shape_of-values-in-Not c = c.inverse.ensures.size
 
 pub returns-in-Not : goal.returns-in-Not
-returns-in-Not c = absurd (other (goal.at.returns-in-Not c).In-Gate c.in-Not.is)
+returns-in-Not c = rw (c.in-Gate.is, c.in-Not.is) (not_runs c.inverse.ensures)
+
+pub shape_of-values-in-Reg : goal.shape_of-values-in-Reg
+shape_of-values-in-Reg c = refl
+
+pub shape_of-bank-in-Reg : goal.shape_of-bank-in-Reg
+shape_of-bank-in-Reg c = c.register.ensures.held_sized
 
 pub returns-in-Reg : goal.returns-in-Reg
-returns-in-Reg c = absurd (other (goal.at.returns-in-Reg c).In-Gate c.in-Reg.is)
+returns-in-Reg c = rw (c.in-Gate.is, c.in-Reg.is) (reg_runs c.register.ensures)
 
 pub returns-in-Out : goal.returns-in-Out
-returns-in-Out c = rw (c.in-Gate.is, c.in-Out.is) out-runs
+returns-in-Out c = rw (c.in-Gate.is, c.in-Out.is) out_runs
 
 pub shape_of-values-in-And : goal.shape_of-values-in-And
 shape_of-values-in-And c = (c.and.ensures 0 []).sized

@@ -3,7 +3,7 @@ use mathlib.Core.Path.{◌≡◌}
 use Prim.Native.Nat.{◌-◌}
 use lib.ListN.{length}
 use Rattle.circuit.specs.Lists.{nth}
-use Rattle.clock.specs.Internal.Clocking.{ClockingTo}
+use Rattle.clock.proofs.Walked.{ClockingTo}
 use Rattle.clock.proofs.running.run_frames.Given as goal
 
 abbrev pub invariant-loop-frame : goal.invariant-loop-frame

@@ -1,4 +1,5 @@
 -- The loop's invariant: the pairs so far are counted under both sets, and while some are left they are those of whole words.
+use mathlib.Core.Path.{◌∙◌}
 use mathlib.Core.Bool.{true, false}
 use Prim.Native.Nat.{◌-◌}
 use native.Mathlib.Omega.{arith}
@@ -15,10 +16,10 @@ add_word-requires c = let p = c.requires in let (i, j) = c.loop-done.invariant i
       p.0,
       omega (arith, c.at_most-count.ensures),
       p.2,
-      omega (arith, i.counted.sized, p.3),
-      omega (arith, j.counted.sized, p.4),
-      adds-room i.counted p.5 _ (omega (arith, c.at_most-count.ensures)),
-      adds-room j.counted p.6 _ (omega (arith, c.at_most-count.ensures)),
+      i.counted.sized ∙ p.3,
+      j.counted.sized ∙ p.4,
+      adds-room i.counted p.3 p.5 _ (omega (arith, c.at_most-count.ensures)),
+      adds-room j.counted p.4 p.6 _ (omega (arith, c.at_most-count.ensures)),
     )
 
 pub overflow_add-done : goal.overflow_add-done
@@ -30,12 +31,6 @@ loop-done-smaller c = omega (arith, c.at_most-count.ensures)
 pub loop-done-preserved : goal.loop-done-preserved
 loop-done-preserved c = let (i, j) = c.loop-done.invariant in let (one, other) = c.add_word.ensures in
     (batch_next false i c.loop-done-test.true c.at_most-count.ensures one, batch_next true j c.loop-done-test.true c.at_most-count.ensures other)
-
-pub shape_of-first : goal.shape_of-first
-shape_of-first c = c.loop-done.invariant.0.counted.sized
-
-pub shape_of-second : goal.shape_of-second
-shape_of-second c = c.loop-done.invariant.1.counted.sized
 
 pub returns : goal.returns
 returns c = let (i, j) = c.loop-done.invariant in (adds-all i.counted i.most c.loop-done-test.false, adds-all j.counted j.most c.loop-done-test.false)

@@ -1,9 +1,9 @@
 -- The loop's invariant: the pairs so far are counted, under both sets.
-use mathlib.Core.Path.{◌≡◌}
-use Prim.Native.Nat.{ℕ, ◌+◌, ◌-◌, ◌/◌, ◌^◌, ◌≤◌}
+use mathlib.Core.Path.{◌∙◌}
+use Prim.Native.Nat.{ℕ, ◌+◌, ◌-◌, ◌/◌, ◌^◌}
 use native.Mathlib.Omega.{arith}
-use Rattle.counting.specs.Internal.Lanes.{gathered, Numbers, shown_by, column_of}
-use Rattle.counting.proofs.Gathering.{shown_lt, shown-small}
+use Rattle.counting.specs.Internal.Lanes.{shown_by, column_of}
+use Rattle.counting.proofs.Gathering.{shown-small}
 use Rattle.counting.proofs.Adding.{adds-room, adds-all}
 use Rattle.counting.proofs.Columns.{word_start, word_next}
 use Rattle.counting.proofs.lanes.add_word.Goals as goal
@@ -12,12 +12,6 @@ use Rattle.counting.proofs.lanes.add_word.Goals.{At-loop-done}
 -- what eight pairs show, by the word at a place, from those on that are done
 abbrev columns : At-loop-done → ℕ → ℕ → ℕ
 columns l word i = column_of l.args.shown.now word i / 2 ^ l.loop-done.done
-
--- these are places of a tally that has room for all combinations
-numbered : (l : At-loop-done) (word : ℕ) {room places numbers : ℕ} → let found = l.args.found in 2 ^ found ≤ room → places ≡ room → numbers ≡ gathered 8 (shown_by (columns l word) found) → Numbers numbers places
-numbered l word wide sized e =
-    let found = l.args.found in
-    record { of = shown_by (columns l word) found; small = λ i. shown-small (columns l word) found i l.requires.1; inside = λ i. omega (arith, shown_lt (columns l word) found i, wide, sized); are = e }
 
 pub loop-done-init : goal.loop-done-init
 loop-done-init c = (word_start _ _ _ _, word_start _ _ _ _)
@@ -33,11 +27,11 @@ gather-other-requires c = let p = c.requires in (omega (arith, p.0), omega (arit
 
 pub add-requires : goal.add-requires
 add-requires c = let p = c.requires in let i = c.loop-done.invariant.0 in
-    (omega (arith, c.at_most-count.ensures), numbered (goal.at.add-requires c).At-loop-done c.args.word p.4 i.counted.sized c.gather-one.ensures, adds-room i.counted p.6 _ (omega (arith, c.at_most-count.ensures)))
+    (omega (arith, c.at_most-count.ensures), i.counted.sized ∙ p.4, adds-room i.counted p.4 p.6 _ (omega (arith, c.at_most-count.ensures)))
 
 pub add-requires-in-loop-done : goal.add-requires-in-loop-done
 add-requires-in-loop-done c = let p = c.requires in let i = c.loop-done.invariant.1 in
-    (omega (arith, c.at_most-count.ensures), numbered (goal.at.add-requires-in-loop-done c).At-loop-done (c.args.word + 2) p.5 i.counted.sized c.gather-other.ensures, adds-room i.counted p.7 _ (omega (arith, c.at_most-count.ensures)))
+    (omega (arith, c.at_most-count.ensures), i.counted.sized ∙ p.5, adds-room i.counted p.5 p.7 _ (omega (arith, c.at_most-count.ensures)))
 
 pub overflow_add-done : goal.overflow_add-done
 overflow_add-done c = omega (arith, c.at_most-count.ensures)
@@ -56,12 +50,6 @@ loop-done-preserved c =
       word_next c.loop-done.invariant.1 c.loop-done-test.true c.at_most-count.ensures
           (c.add-in-loop-done.ensures (shown_by other a.found) (λ i. shown-small other a.found i few) c.gather-other.ensures),
     )
-
-pub shape_of-first : goal.shape_of-first
-shape_of-first c = c.loop-done.invariant.0.counted.sized
-
-pub shape_of-second : goal.shape_of-second
-shape_of-second c = c.loop-done.invariant.1.counted.sized
 
 pub returns : goal.returns
 returns c = let (i, j) = c.loop-done.invariant in (adds-all i.counted i.most c.loop-done-test.false, adds-all j.counted j.most c.loop-done-test.false)

@@ -12,8 +12,8 @@ use Rattle.counting.proofs.linear.scale.Goals.{In-loop-n}
 value : (c : In-loop-n) → let a = c.args in a.times * nth c.loop-n.tally c.loop-n.n ≡ a.times * nth a.tally.now c.loop-n.n
 value c = ap (λ x. c.args.times * x) (c.loop-n.invariant.1.rest c.loop-n.n (omega arith))
 
-inside : (c : In-loop-n) → (c.loop-n.n < 256) × (c.loop-n.n < length c.loop-n.tally) × (c.loop-n.n < length c.args.tally.now)
-inside c = let p = c.requires in (omega (arith, p.1, c.loop-n-test.true), omega (arith, c.loop-n.invariant.1.sized, p.0, c.loop-n-test.true), omega (arith, p.0, c.loop-n-test.true))
+inside : (c : In-loop-n) → (c.loop-n.n < 256) × (length c.loop-n.tally ≡ 256) × (c.loop-n.n < length c.args.tally.now)
+inside c = let p = c.requires in (omega (arith, p.1, c.loop-n-test.true), omega (arith, c.loop-n.invariant.1.sized, p.0), omega (arith, p.0, p.1, c.loop-n-test.true))
 
 pub loop-n-init : goal.loop-n-init
 loop-n-init c = (omega arith, remade_none _ _)
@@ -41,9 +41,6 @@ loop-n-smaller c = omega (arith, c.loop-n-test.true)
 
 pub loop-n-preserved : goal.loop-n-preserved
 loop-n-preserved c = (omega (arith, c.loop-n-test.true), remade_next c.loop-n.invariant.1 (inside (goal.at.loop-n-preserved c).In-loop-n).2 _ (value (goal.at.loop-n-preserved c).In-loop-n))
-
-pub shape_of-tally : goal.shape_of-tally
-shape_of-tally c = c.loop-n.invariant.1.sized
 
 pub returns : goal.returns
 returns c = remade_all c.loop-n.invariant.1 (omega (arith, c.loop-n.invariant.0, c.loop-n-test.false))

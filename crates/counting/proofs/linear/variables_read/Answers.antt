@@ -8,10 +8,10 @@ pub loop-i-init : goal.loop-i-init
 loop-i-init c = (omega arith, read_start _ _)
 
 pub offset_bounds-read-i : goal.offset_bounds-read-i
-offset_bounds-read-i c = omega (arith, c.requires.few, c.loop-i-test.true)
+offset_bounds-read-i c = omega (arith, c.requires.0, c.loop-i-test.true)
 
 pub bounds-read-i : goal.bounds-read-i
-bounds-read-i c = omega (arith, c.requires.listed, c.loop-i-test.true)
+bounds-read-i c = omega (arith, c.requires.1, c.loop-i-test.true)
 
 pub overflow_cast-wire : goal.overflow_cast-wire
 overflow_cast-wire c = omega (arith, c.shared_slice_known-1.given c.loop-i.i)
@@ -20,10 +20,10 @@ pub offset_bounds-sums-wire : goal.offset_bounds-sums-wire
 offset_bounds-sums-wire c = omega (arith, c.shared_slice_known-1.given c.loop-i.i)
 
 pub bounds-sums-wire : goal.bounds-sums-wire
-bounds-sums-wire c = c.requires.made c.loop-i.i c.loop-i-test.true
+bounds-sums-wire c = c.requires.2 c.loop-i.i c.loop-i-test.true
 
 pub overflow_add-i : goal.overflow_add-i
-overflow_add-i c = omega (arith, c.requires.few)
+overflow_add-i c = omega (arith, c.requires.0)
 
 pub loop-i-preserved : goal.loop-i-preserved
 loop-i-preserved c = (omega (arith, c.loop-i-test.true), read_next c.loop-i.invariant.1)

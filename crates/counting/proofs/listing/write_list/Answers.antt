@@ -10,7 +10,7 @@ loop-n-init c = written_start _ _ _ _ _
 pub write_four-requires : goal.write_four-requires
 write_four-requires c =
     let l = c.loop-n in
-    (omega (arith, l.invariant.sized), c.requires.6 l.n, c.requires.7 l.n, c.requires.4, c.requires.5)
+    (omega (arith, l.invariant.sized), c.requires.4 l.n, c.requires.5 l.n, c.requires.2, c.requires.3)
 
 pub loop-n-preserved : goal.loop-n-preserved
 loop-n-preserved c = written_next c.loop-n.invariant (omega arith) c.write_four.ensures

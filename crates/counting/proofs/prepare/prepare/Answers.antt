@@ -5,7 +5,7 @@ use native.Mathlib.Nat.{mul-le-mul_right}
 use native.Mathlib.Omega.{arith}
 use lib.ListN.{length, take}
 use Rattle.counting.proofs.Batches.{sizes}
-use Rattle.counting.proofs.Lent.{prepared_low, lasts_many, buffer, sharing_is, tape_is, lent_evaluable}
+use Rattle.counting.proofs.Lent.{prepared-low, lasts_many, buffer, sharing_is, tape_is, lent_evaluable}
 use Rattle.counting.proofs.prepare.prepare.Goals as goal
 use Rattle.counting.proofs.prepare.prepare.Goals.{Start}
 
@@ -34,14 +34,14 @@ numbers s =
       shares = omega (arith, ap (λ m. (s.args.plan.others + 1) * m) n, z.shares);
     }
 
-pub write_secrets-requires : goal.write_secrets-requires
-write_secrets-requires c = (c.requires.4, (numbers (goal.at.write_secrets-requires c).Start).inputs, refl)
+pub secret_sums-lasts-requires : goal.secret_sums-lasts-requires
+secret_sums-lasts-requires c = (c.requires.4, (numbers (goal.at.secret_sums-lasts-requires c).Start).inputs)
 
 pub slice_bounds-complete-end : goal.slice_bounds-complete-end
-slice_bounds-complete-end c = omega (arith, (numbers (goal.at.slice_bounds-complete-end c).Start).inputs, c.write_secrets.ensures.sized)
+slice_bounds-complete-end c = omega (arith, (numbers (goal.at.slice_bounds-complete-end c).Start).inputs)
 
 pub complete-requires : goal.complete-requires
-complete-requires c = let n = numbers (goal.at.complete-requires c).Start in (n.some, omega (arith, ap (λ m. c.args.plan.others * m) (lasts_many c.write_secrets.ensures), n.starts, n.within, n.few), ap length c.free_sums-free.ensures, refl)
+complete-requires c = let n = numbers (goal.at.complete-requires c).Start in (n.some, omega (arith, ap (λ m. c.args.plan.others * m) (lasts_many c.secret_sums-lasts.ensures), n.starts, n.within, n.few), ap length c.free_sums-free.ensures, refl)
 
 pub overflow_add-count : goal.overflow_add-count
 overflow_add-count c = omega (arith, (numbers (goal.at.overflow_add-count c).Start).most)
@@ -51,7 +51,7 @@ overflow_mul-count c = omega (arith, (numbers (goal.at.overflow_mul-count c).Sta
 
 pub slice_bounds-sharing-end : goal.slice_bounds-sharing-end
 slice_bounds-sharing-end c = 
-    omega (arith, buffer c.requires.0 c.requires.1 c.requires.3 c.free_sums-free.ensures c.write_secrets.ensures c.complete.ensures, (numbers (goal.at.slice_bounds-sharing-end c).Start).shares)
+    omega (arith, buffer c.requires.0 c.requires.1 c.requires.3 c.free_sums-free.ensures c.secret_sums-lasts.ensures c.complete.ensures, (numbers (goal.at.slice_bounds-sharing-end c).Start).shares)
 
 pub offset_bounds-free-start : goal.offset_bounds-free-start
 offset_bounds-free-start c = let n = numbers (goal.at.offset_bounds-free-start c).Start in omega (arith, n.within, n.few)
@@ -68,9 +68,9 @@ slice_bounds-tape-end c = omega (arith, (numbers (goal.at.slice_bounds-tape-end 
 pub expand-requires : goal.expand-requires
 expand-requires c =
     let free = c.free_sums-free.ensures in
-    let lasts = c.write_secrets.ensures in
+    let lasts = c.secret_sums-lasts.ensures in
     let (evaluable, short) = lent_evaluable c.requires.0 c.requires.1 c.requires.3 free lasts c.complete.ensures c.requires.5 in
-    let (shares, tape) = prepared_low c.args.plan c.args.inputs c.args.secrets.now in
+    let (shares, tape) = prepared-low c.args.plan c.args.inputs c.args.secrets.now in
     rw (
       sharing_is c.requires.0 c.requires.1 c.requires.3 free lasts c.complete.ensures,
       tape_is c.requires.0 c.requires.1 c.requires.3 free lasts c.complete.ensures,
@@ -80,7 +80,7 @@ expand-requires c =
 pub returns : goal.returns
 returns c =
     let free = c.free_sums-free.ensures in
-    let lasts = c.write_secrets.ensures in
+    let lasts = c.secret_sums-lasts.ensures in
     rw (
       ← sharing_is c.requires.0 c.requires.1 c.requires.3 free lasts c.complete.ensures,
       ← tape_is c.requires.0 c.requires.1 c.requires.3 free lasts c.complete.ensures,

@@ -1,27 +1,42 @@
 -- Each arm names the number of shares that it is.
-use Rattle.simulation.proofs.Gadgets.{and_asks}
+use mathlib.Core.Path.{◌≡◌, refl, subst}
+use Prim.Native.Nat.{ℕ, ◌+◌, ◌≤◌}
+use lib.ListN.{length}
+use Rattle.circuit.specs.Kinds.{pairs}
+use Rattle.gadgets.specs.Internal.Places.{word_a, word_b}
+use Rattle.gadgets.specs.Internal.Frames.{Small, RowBefore, Roomy}
 use Rattle.simulation.proofs.gadget.and.Goals as goal
+use Rattle.simulation.proofs.gadget.and.Goals.{Start}
+
+-- what the contract asks of a number of shares
+abbrev Asked : Start → ℕ → Type 0
+Asked s d = let a = s.args in
+    Small a.first d × (length a.ops.now ≡ 1 + d + d) × RowBefore a.first d (word_a a.ops.now) × RowBefore a.first d (word_b d a.ops.now) × Roomy d a.first a.values.now
+    × (a.used + pairs d ≤ length a.tape.now)
+
+asked : (s : Start) {n : ℕ} → s.args.d ≡ n → Asked s n
+asked s e = let p = s.requires in subst (Asked s) e (p.0, p.1, p.2, p.3, p.4, p.5)
 
 pub and_shares-requires : goal.and_shares-requires
-and_shares-requires c = and_asks c.requires c.in-2.is
+and_shares-requires c = let q = asked (goal.at.and_shares-requires c).Start c.in-2.is in (q.0, q.1, q.2, q.3, q.4, q.5, refl)
 
 pub and_shares-requires-in-3 : goal.and_shares-requires-in-3
-and_shares-requires-in-3 c = and_asks c.requires c.in-3.is
+and_shares-requires-in-3 c = let q = asked (goal.at.and_shares-requires-in-3 c).Start c.in-3.is in (q.0, q.1, q.2, q.3, q.4, q.5, refl)
 
 pub and_shares-requires-in-4 : goal.and_shares-requires-in-4
-and_shares-requires-in-4 c = and_asks c.requires c.in-4.is
+and_shares-requires-in-4 c = let q = asked (goal.at.and_shares-requires-in-4 c).Start c.in-4.is in (q.0, q.1, q.2, q.3, q.4, q.5, refl)
 
 pub and_shares-requires-in-5 : goal.and_shares-requires-in-5
-and_shares-requires-in-5 c = and_asks c.requires c.in-5.is
+and_shares-requires-in-5 c = let q = asked (goal.at.and_shares-requires-in-5 c).Start c.in-5.is in (q.0, q.1, q.2, q.3, q.4, q.5, refl)
 
 pub and_shares-requires-in-6 : goal.and_shares-requires-in-6
-and_shares-requires-in-6 c = and_asks c.requires c.in-6.is
+and_shares-requires-in-6 c = let q = asked (goal.at.and_shares-requires-in-6 c).Start c.in-6.is in (q.0, q.1, q.2, q.3, q.4, q.5, refl)
 
 pub and_shares-requires-in-7 : goal.and_shares-requires-in-7
-and_shares-requires-in-7 c = and_asks c.requires c.in-7.is
+and_shares-requires-in-7 c = let q = asked (goal.at.and_shares-requires-in-7 c).Start c.in-7.is in (q.0, q.1, q.2, q.3, q.4, q.5, refl)
 
 pub and_shares-requires-in-8 : goal.and_shares-requires-in-8
-and_shares-requires-in-8 c = and_asks c.requires c.in-8.is
+and_shares-requires-in-8 c = let q = asked (goal.at.and_shares-requires-in-8 c).Start c.in-8.is in (q.0, q.1, q.2, q.3, q.4, q.5, refl)
 
 pub returns-in-2 : goal.returns-in-2
 returns-in-2 c = rw c.in-2.is c.and_shares.ensures

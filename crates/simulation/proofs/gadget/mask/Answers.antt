@@ -1,27 +1,41 @@
 -- Each arm names the number of shares that it is.
-use Rattle.simulation.proofs.Gadgets.{mask_asks}
+use mathlib.Core.Path.{◌≡◌, refl, subst}
+use Prim.Native.Nat.{ℕ, ◌+◌, ◌≤◌}
+use lib.ListN.{length}
+use Rattle.circuit.specs.Kinds.{pairs}
+use Rattle.gadgets.specs.Internal.Places.{word_a}
+use Rattle.gadgets.specs.Internal.Frames.{Small, RowBefore}
 use Rattle.simulation.proofs.gadget.mask.Goals as goal
+use Rattle.simulation.proofs.gadget.mask.Goals.{Start}
+
+-- what the contract asks of a number of shares
+abbrev Asked : Start → ℕ → Type 0
+Asked s d = let a = s.args in
+    Small a.first d × (1 + d ≤ length a.ops.now) × RowBefore a.first d (word_a a.ops.now) × (a.first + pairs d + d ≤ length a.values.now) × (a.used + pairs d ≤ length a.tape.now)
+
+asked : (s : Start) {n : ℕ} → s.args.d ≡ n → Asked s n
+asked s e = let p = s.requires in subst (Asked s) e (p.0, p.1, p.2, p.3, p.4)
 
 pub mask_shares-requires : goal.mask_shares-requires
-mask_shares-requires c = mask_asks c.requires c.in-2.is
+mask_shares-requires c = let q = asked (goal.at.mask_shares-requires c).Start c.in-2.is in (q.0, q.1, q.2, q.3, q.4, refl)
 
 pub mask_shares-requires-in-3 : goal.mask_shares-requires-in-3
-mask_shares-requires-in-3 c = mask_asks c.requires c.in-3.is
+mask_shares-requires-in-3 c = let q = asked (goal.at.mask_shares-requires-in-3 c).Start c.in-3.is in (q.0, q.1, q.2, q.3, q.4, refl)
 
 pub mask_shares-requires-in-4 : goal.mask_shares-requires-in-4
-mask_shares-requires-in-4 c = mask_asks c.requires c.in-4.is
+mask_shares-requires-in-4 c = let q = asked (goal.at.mask_shares-requires-in-4 c).Start c.in-4.is in (q.0, q.1, q.2, q.3, q.4, refl)
 
 pub mask_shares-requires-in-5 : goal.mask_shares-requires-in-5
-mask_shares-requires-in-5 c = mask_asks c.requires c.in-5.is
+mask_shares-requires-in-5 c = let q = asked (goal.at.mask_shares-requires-in-5 c).Start c.in-5.is in (q.0, q.1, q.2, q.3, q.4, refl)
 
 pub mask_shares-requires-in-6 : goal.mask_shares-requires-in-6
-mask_shares-requires-in-6 c = mask_asks c.requires c.in-6.is
+mask_shares-requires-in-6 c = let q = asked (goal.at.mask_shares-requires-in-6 c).Start c.in-6.is in (q.0, q.1, q.2, q.3, q.4, refl)
 
 pub mask_shares-requires-in-7 : goal.mask_shares-requires-in-7
-mask_shares-requires-in-7 c = mask_asks c.requires c.in-7.is
+mask_shares-requires-in-7 c = let q = asked (goal.at.mask_shares-requires-in-7 c).Start c.in-7.is in (q.0, q.1, q.2, q.3, q.4, refl)
 
 pub mask_shares-requires-in-8 : goal.mask_shares-requires-in-8
-mask_shares-requires-in-8 c = mask_asks c.requires c.in-8.is
+mask_shares-requires-in-8 c = let q = asked (goal.at.mask_shares-requires-in-8 c).Start c.in-8.is in (q.0, q.1, q.2, q.3, q.4, refl)
 
 pub returns-in-2 : goal.returns-in-2
 returns-in-2 c = rw c.in-2.is c.mask_shares.ensures

@@ -37,7 +37,7 @@ constant-requires c = (asked_gate (goal.at.constant-requires c).In-Gate c.in-Con
 
 pub and-requires : goal.and-requires
 and-requires c = let q = asked (goal.at.and-requires c).Start c.in-And.is in
-    record { small = c.requires.0; words = q.1.0; a_early = q.1.1; b_early = q.1.2; room = omega (arith, q.0); supplied = q.2; count = c.requires.4 }
+    (c.requires.0, q.1.0, q.1.1, q.1.2, omega (arith, q.0), q.2, c.requires.4)
 
 pub refresh-requires : goal.refresh-requires
 refresh-requires c = let q = asked (goal.at.refresh-requires c).Start c.in-Ref.is in

@@ -2,7 +2,7 @@
 use mathlib.Core.Path.{◌∙◌}
 use Prim.Native.Nat.{◌-◌}
 use native.Mathlib.Omega.{arith}
-use Rattle.symbolic.proofs.Running.{runs_none, runs_end, runs-next}
+use Rattle.symbolic.proofs.Running.{runs_none, runs_end, runs_next}
 use Rattle.symbolic.proofs.evaluate.run.Goals as goal
 
 pub loop-n-init : goal.loop-n-init
@@ -17,7 +17,7 @@ overflow_add-n c = omega (arith, c.requires.3)
 pub loop-n-preserved : goal.loop-n-preserved
 loop-n-preserved c =
     let (low, high, r) = c.loop-n.invariant in
-    (omega arith, omega arith, runs-next low (λ m k u. c.requires.4 m k (omega arith)) r c.write_product.ensures)
+    (omega arith, omega arith, runs_next low (λ m k u. c.requires.4 m k (omega arith)) r c.write_product.ensures)
 
 pub shape_of-words : goal.shape_of-words
 shape_of-words c = c.loop-n.invariant.2.sized

@@ -1,9 +1,6 @@
--- The same sum.
+-- The sum of the constant.
 use native.Mathlib.Omega.{arith}
-use Rattle.symbolic.proofs.gate.write_register.Goals as goal
-
-pub sum_of-requires : goal.sum_of-requires
-sum_of-requires c = let p = c.requires in omega (arith, p.0, p.2)
+use Rattle.symbolic.proofs.expand.write_constant.Goals as goal
 
 pub offset_bounds-sums-first : goal.offset_bounds-sums-first
 offset_bounds-sums-first c = let p = c.requires in omega (arith, p.0, p.1)
@@ -12,4 +9,4 @@ pub bounds-sums-first : goal.bounds-sums-first
 bounds-sums-first c = c.requires.0
 
 pub returns : goal.returns
-returns c = rw c.sum_of.ensures
+returns c = rw c.constant.ensures

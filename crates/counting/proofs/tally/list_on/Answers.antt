@@ -8,19 +8,19 @@ use Rattle.counting.specs.Counting.{pair_count}
 use Rattle.counting.specs.Internal.Tallying.{Prepared, Ready, Enumerates}
 use Rattle.counting.specs.Internal.Linear.{Surveyed}
 use Rattle.counting.proofs.Numbered.{pow_mono}
-use Rattle.counting.proofs.Batches.{pairs-are, pairs-few}
-use Rattle.counting.proofs.Tallying.{varied-most, enumerates, readable}
+use Rattle.counting.proofs.Batches.{pairs-are}
+use Rattle.counting.proofs.Tallying.{varied-most, enumerates}
 use Rattle.counting.proofs.Surveying.{surveyed_by}
 use Rattle.counting.proofs.Counts.{set-countable, lists}
-use Rattle.counting.proofs.listing.list_on.Goals as goal
-use Rattle.counting.proofs.listing.list_on.Goals.{After-divide-enumeration, After-plan_pairs-plan, After-prepare-outputs}
+use Rattle.counting.proofs.tally.list_on.Goals as goal
+use Rattle.counting.proofs.tally.list_on.Goals.{After-list_shifts-shifts, After-plan_pairs-plan, After-prepare-outputs}
 
 -- what the batches rest on
 prepared : (c : After-prepare-outputs) → let a = c.args in
     Prepared a.table.now a.secrets.now a.read.now c.prepare-outputs.new.sums c.prepare-outputs.new.terms c.prepare-outputs.result a.extent.found c.plan_pairs-plan.result
 prepared c =
     let a = c.args in
-    let (n, first, second, room, most) = c.requires in
+    let (n, room, most) = c.requires in
     let m = n.numbered.inputs_are in
     let (e, sized) = c.prepare-outputs.ensures in
     record {
@@ -42,32 +42,28 @@ ready c = let a = c.args in record { table = a.table.now; secrets = a.secrets.no
 pairs : (c : After-plan_pairs-plan) → 2 ^ c.plan_pairs-plan.result.free ≡ pair_count (circuit_in c.args.table.now)
 pairs c = pairs-are c.plan_pairs-plan.ensures
 
-few : (c : After-plan_pairs-plan) → (1 ≤ pair_count (circuit_in c.args.table.now)) × (pair_count (circuit_in c.args.table.now) ≤ 65536)
-few c = pairs-few c.args.table.now c.requires.0.numbered.few
-
 free_few : (c : After-plan_pairs-plan) → c.plan_pairs-plan.result.free ≤ 16
 free_few c = omega (arith, c.plan_pairs-plan.ensures.free_is, c.requires.0.numbered.few)
 
 -- the pairs that are gone through, and the free bits that are only added
-enumerated : (c : After-divide-enumeration) → Enumerates c.plan_pairs-plan.result.free c.divide-enumeration.result
-enumerated c = let (same, d) = c.divide-enumeration.ensures in enumerates _ same c.count_free.ensures d
+enumerated : (c : After-list_shifts-shifts) → Enumerates c.plan_pairs-plan.result.free c.divide-enumeration.result
+enumerated c =
+    let (same, d) = c.divide-enumeration.ensures in
+    enumerates _ same c.count_free.ensures d
 
-surveyed : (c : After-divide-enumeration) → let a = c.args in
+surveyed : (c : After-list_shifts-shifts) → let a = c.args in
     Surveyed c.prepare-outputs.new.sums c.prepare-outputs.new.terms a.read.now c.prepare-outputs.result a.extent.found c.divide-enumeration.result.factors
 surveyed c = surveyed_by c.divide-enumeration.ensures.0 c.find_varied-factors.ensures
-
-pub plan_pairs-plan-requires : goal.plan_pairs-plan-requires
-plan_pairs-plan-requires c = c.requires.0.numbered
 
 pub prepare-outputs-requires : goal.prepare-outputs-requires
 prepare-outputs-requires c =
     let a = c.args in
-    let (n, first, second, room, most) = c.requires in
+    let (n, room, most) = c.requires in
     let m = n.numbered.inputs_are in
     (rw m (set-countable n.numbered a.secrets.now n.sized n.bit false), c.plan_pairs-plan.ensures, n.read_in, m, n.sized, omega (arith, n.wires_are, room), most, refl)
 
 pub find_varied-factors-requires : goal.find_varied-factors-requires
-find_varied-factors-requires c = let p = prepared (goal.at.find_varied-factors-requires c).After-prepare-outputs in (free_few (goal.at.find_varied-factors-requires c).After-plan_pairs-plan, readable p, p.expanded.few, p.terms_sized, p.expanded.before, p.expanded.reads_before)
+find_varied-factors-requires c = let p = prepared (goal.at.find_varied-factors-requires c).After-prepare-outputs in (free_few (goal.at.find_varied-factors-requires c).After-plan_pairs-plan, p.read_in.few, omega (arith, p.read_in.few, p.read_in.sized), (λ i l. omega (arith, p.read_in.made i l, p.room)), p.expanded.few, p.terms_sized, p.expanded.before, p.expanded.reads_before)
 
 pub count_free-requires : goal.count_free-requires
 count_free-requires c = free_few (goal.at.count_free-requires c).After-plan_pairs-plan
@@ -75,8 +71,11 @@ count_free-requires c = free_few (goal.at.count_free-requires c).After-plan_pair
 pub divide-enumeration-requires : goal.divide-enumeration-requires
 divide-enumeration-requires c = omega (arith, c.count_free.ensures, varied-most c.find_varied-factors.result _ (free_few (goal.at.divide-enumeration-requires c).After-plan_pairs-plan))
 
+pub list_shifts-shifts-requires : goal.list_shifts-shifts-requires
+list_shifts-shifts-requires c = let p = prepared (goal.at.list_shifts-shifts-requires c).After-prepare-outputs in (p.read_in.few, omega (arith, p.read_in.few, p.read_in.sized), free_few (goal.at.list_shifts-shifts-requires c).After-plan_pairs-plan, (λ i l. omega (arith, p.read_in.made i l, p.room)))
+
 pub tally_both-requires : goal.tally_both-requires
-tally_both-requires c = let p = c.requires in (ready (goal.at.tally_both-requires c).After-prepare-outputs, enumerated (goal.at.tally_both-requires c).After-divide-enumeration, surveyed (goal.at.tally_both-requires c).After-divide-enumeration, p.1, p.2)
+tally_both-requires c = (ready (goal.at.tally_both-requires c).After-prepare-outputs, enumerated (goal.at.tally_both-requires c).After-list_shifts-shifts, surveyed (goal.at.tally_both-requires c).After-list_shifts-shifts, c.list_shifts-shifts.ensures, refl, refl)
 
 pub power-pairs-requires : goal.power-pairs-requires
 power-pairs-requires c = free_few (goal.at.power-pairs-requires c).After-plan_pairs-plan
@@ -90,28 +89,13 @@ overflow_cast-pairs c = omega (arith, c.power-pairs.ensures)
 pub write_list-requires : goal.write_list-requires
 write_list-requires c =
     let a = c.args in
-    let (n, first, second, room, few) = c.requires in
-    let most = pow_mono 8 a.extent.found n.read_in.few in
-    let k = c.power-combinations.ensures.0 in
-    let (one, other) = c.tally_both.ensures a.table.now a.secrets.now (prepared (goal.at.write_list-requires c).After-prepare-outputs) in (
-      omega (arith, k, most),
-      omega (arith, k, first.room, c.tally_both.auto.first),
-      omega (arith, k, second.room, c.tally_both.auto.second),
-      omega (arith, k, most, n.room),
-      c.power-pairs.ensures.0,
-      free_few (goal.at.write_list-requires c).After-plan_pairs-plan,
-      one.few,
-      other.few,
-    )
+    let most = pow_mono 8 a.extent.found c.requires.0.read_in.few in
+    let n = c.power-pairs.ensures.0 in
+    let (one, other) = c.tally_both.ensures a.table.now a.secrets.now (prepared (goal.at.write_list-requires c).After-prepare-outputs) in
+    (omega (arith, c.power-combinations.ensures.0, most), omega (arith, c.power-combinations.ensures.0, most, c.requires.0.room), n, free_few (goal.at.write_list-requires c).After-plan_pairs-plan, one.few, other.few)
 
 pub shape_of-sums : goal.shape_of-sums
 shape_of-sums c = c.prepare-outputs.auto.sums
-
-pub shape_of-one : goal.shape_of-one
-shape_of-one c = c.tally_both.auto.first
-
-pub shape_of-other : goal.shape_of-other
-shape_of-other c = c.tally_both.auto.second
 
 pub returns : goal.returns
 returns c =

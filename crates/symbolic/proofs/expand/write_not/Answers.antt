@@ -1,6 +1,6 @@
 -- The sum and 1.
 use native.Mathlib.Omega.{arith}
-use Rattle.symbolic.proofs.gate.write_not.Goals as goal
+use Rattle.symbolic.proofs.expand.write_not.Goals as goal
 
 pub sum_of-requires : goal.sum_of-requires
 sum_of-requires c = let p = c.requires in omega (arith, p.0, p.2)

@@ -1,6 +1,9 @@
--- The sum of the constant.
+-- The same sum.
 use native.Mathlib.Omega.{arith}
-use Rattle.symbolic.proofs.gate.write_constant.Goals as goal
+use Rattle.symbolic.proofs.expand.write_register.Goals as goal
+
+pub sum_of-requires : goal.sum_of-requires
+sum_of-requires c = let p = c.requires in omega (arith, p.0, p.2)
 
 pub offset_bounds-sums-first : goal.offset_bounds-sums-first
 offset_bounds-sums-first c = let p = c.requires in omega (arith, p.0, p.1)
@@ -9,4 +12,4 @@ pub bounds-sums-first : goal.bounds-sums-first
 bounds-sums-first c = c.requires.0
 
 pub returns : goal.returns
-returns c = rw c.constant.ensures
+returns c = rw c.sum_of.ensures

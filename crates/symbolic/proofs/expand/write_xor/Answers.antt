@@ -1,6 +1,6 @@
 -- The sum of both.
 use native.Mathlib.Omega.{arith}
-use Rattle.symbolic.proofs.gate.write_xor.Goals as goal
+use Rattle.symbolic.proofs.expand.write_xor.Goals as goal
 
 pub sum_of-requires : goal.sum_of-requires
 sum_of-requires c = let p = c.requires in omega (arith, p.0, p.2)

@@ -1,12 +1,13 @@
 -- The loop's invariant: the sums up to a place are written.
+use mathlib.Core.Path.{refl}
 use Prim.Native.Nat.{◌-◌}
 use native.Mathlib.Omega.{arith}
 use Rattle.counting.specs.Internal.Preparing.{secret_sum}
 use Rattle.counting.proofs.Filling.{given_start, given_next, given_end}
-use Rattle.counting.proofs.prepare.write_secrets.Goals as goal
+use Rattle.counting.proofs.prepare.secret_sums.Goals as goal
 
 pub loop-j-init : goal.loop-j-init
-loop-j-init c = given_start c.requires.2
+loop-j-init c = given_start refl
 
 pub loop-j-preserved : goal.loop-j-preserved
 loop-j-preserved c = given_next c.loop-j.invariant (omega arith) c.secret_sum.ensures
