@@ -11,7 +11,7 @@ use lib.ListN.{length, take, length-append}
 use lib.Seq.{length-take-le}
 use borrow.Author.Tests.{ltb-true, ltb-false, lt-ltb, le-ltb}
 use Rattle.circuit.specs.Lists.{◌⊕◌, nth, range}
-use Rattle.circuit.specs.Circuit.{Circuit, size}
+use Rattle.circuit.specs.Circuit.{Circuit}
 use Rattle.circuit.proofs.Base.{cases, range_in}
 use Rattle.semantics.specs.Values.{bits, byte, at}
 use Rattle.semantics.specs.Counts.{free_bits}

@@ -1,19 +1,18 @@
 -- How a call ends: by a rule before 25, by 25, or with a list of counts; and what the counts of every accepted circuit obey.
-use mathlib.Core.Path.{◌≡◌, refl, sym, ap, ap₂, subst, fun_ext, ◌∙◌}
+use mathlib.Core.Path.{◌≡◌, sym, ap, subst, fun_ext, ◌∙◌}
 use mathlib.Core.List.{List, map}
-use Prim.Native.Nat.{ℕ, ◌^◌, ◌≤◌, ◌<◌}
-use native.Mathlib.Omega.{arith}
+use Prim.Native.Nat.{ℕ, ◌≤◌, ◌<◌}
 use lib.ListN.{length, take, drop}
 use borrow.Author.Tests.{le-leb, lt-leb}
 use Rattle.circuit.specs.Lists.{overwrite}
 use Rattle.circuit.specs.Circuit.{Circuit}
 use Rattle.circuit.specs.Rules.{Judgement, pass, refuse}
 use Rattle.semantics.specs.Values.{bits}
-use Rattle.semantics.specs.Calls.{Accepts, circuit_of, written}
+use Rattle.semantics.specs.Calls.{Accepts, circuit_of}
 use Rattle.secrecy.proofs.Accepted.{equal_counts}
 use Rattle.gadgets.specs.Internal.Accepting.{circuit_in}
 use Rattle.evaluation.proofs.Answering.{Taken, taken}
-use Rattle.counting.specs.Counting.{combinations, showing, is_read, read_wires, count_of, count_list, count_rule, CountAnswer, answer_to, AddUp, SameColumns}
+use Rattle.counting.specs.Counting.{combinations, read_wires, count_of, count_list, count_rule, AddUp, SameColumns}
 use Rattle.counting.specs.Internal.Judging.{first_rules}
 use Rattle.counting.specs.Internal.Tallying.{ListsCounts}
 use Rattle.counting.proofs.Shown.{add_up}

@@ -1,18 +1,18 @@
 -- A sharing of given secret bits is free in all but the last share of each IN; so the pairs of demand 3 are the lists of free bits.
-use mathlib.Core.Path.{◌≡◌, refl, sym, ap, ap₂, subst, ◌∙◌}
+use mathlib.Core.Path.{◌≡◌, refl, sym, ap, ap₂, ◌∙◌}
 use mathlib.Core.Bool.{Bool, true, false, cond, ◌&&◌, beq}
 use mathlib.Core.List.{List, [], ◌∷◌, ◌++◌, append-nil, append_assoc}
 use Prim.Native.Nat.{ℕ, zero, suc, ◌+◌, ◌-◌, ◌*◌, ◌≤◌}
 use native.Mathlib.Omega.{arith}
 use lib.Dec.{eqb}
-use lib.ListN.{length, take, drop, length-drop}
+use lib.ListN.{length, drop, length-drop}
 use lib.Seq.{take_at, drop_at, take-append-le, drop-append-le}
 use Rattle.circuit.specs.Lists.{◌⊕◌}
 use Rattle.circuit.specs.Circuit.{Circuit}
 use Rattle.circuit.proofs.Base.{xor_comm, xor_assoc}
-use Rattle.semantics.specs.Values.{bits, values_of}
+use Rattle.semantics.specs.Values.{values_of}
 use Rattle.semantics.specs.Probes.{stops, sheet, reading_of}
-use Rattle.semantics.specs.Counts.{sum_over, alike, parity, secrets_of, pairs_for, free_bits}
+use Rattle.semantics.specs.Counts.{alike, parity, secrets_of, pairs_for, free_bits}
 use Rattle.secrecy.specs.Deciding.{tapes_for}
 use Rattle.secrecy.proofs.Sums.{sum_bits, overwrite-bits, sum_same}
 use Rattle.secrecy.proofs.Sharings.{of_sharing, by_sharing}

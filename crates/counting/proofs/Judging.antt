@@ -1,5 +1,5 @@
 -- The rules of the call: what is left of them behind the checker's, and what an accepted call rests on.
-use mathlib.Core.Path.{◌≡◌, refl, sym, ap, subst, ◌∙◌}
+use mathlib.Core.Path.{◌≡◌, refl, sym, subst, ◌∙◌}
 use mathlib.Core.List.{List, [], ◌∷◌}
 use Prim.Native.Nat.{ℕ, ◌*◌, ◌-◌, ◌≤◌, ◌<◌}
 use native.Mathlib.Nat.{mul_comm, mul-le-mul_left, mul-le-mul_right}
@@ -12,8 +12,8 @@ use Rattle.circuit.specs.Limits.{wire_limit}
 use Rattle.circuit.specs.Lists.{nth}
 use Rattle.circuit.specs.Wires.{Wire}
 use Rattle.circuit.specs.Circuit.{Circuit, size, empty}
-use Rattle.circuit.specs.Rules.{Judgement, pass, refuse, need, ◌then◌, checked}
-use Rattle.circuit.specs.Answer.{accepted, refused, answer}
+use Rattle.circuit.specs.Rules.{Judgement, pass, need, ◌then◌, checked}
+use Rattle.circuit.specs.Answer.{refused, answer}
 use Rattle.circuit.proofs.Base.{cases, In}
 use Rattle.circuit.proofs.Judging.{then_pass, need-pass, need_then}
 use Rattle.semantics.specs.Values.{is_random}

@@ -12,7 +12,6 @@ use Rattle.circuit.specs.Lists.{nth, range}
 use Rattle.circuit.specs.Circuit.{size}
 use Rattle.circuit.proofs.Base.{In, in_head, in_tail}
 use Rattle.circuit.proofs.Parts.{label_lt}
-use Rattle.semantics.specs.Values.{bits, at}
 use Rattle.gadgets.specs.Internal.Accepting.{circuit_in}
 use Rattle.simulation.specs.Internal.Evaluating.{Evaluable}
 use Rattle.counting.specs.declared.tally.Plan.{Plan}

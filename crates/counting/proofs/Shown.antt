@@ -13,9 +13,9 @@ use Rattle.circuit.specs.Circuit.{Circuit}
 use Rattle.circuit.proofs.Base.{cases}
 use Rattle.semantics.specs.Values.{byte, at, values_of}
 use Rattle.semantics.specs.Probes.{sheet}
-use Rattle.semantics.specs.Counts.{alike, EqualCounts, free_bits}
+use Rattle.semantics.specs.Counts.{alike, free_bits}
 use Rattle.secrecy.proofs.Sums.{sum_bits, sum_same}
-use Rattle.counting.specs.Counting.{combinations, showing, is_read, read_wires, pair_count, count_of, total, AddUp, SameColumns}
+use Rattle.counting.specs.Counting.{combinations, showing, is_read, read_wires, pair_count, count_of, total}
 use Rattle.counting.specs.Internal.Pairs.{free_of, number_of, sharing_of, tape_of, seen, shown_of}
 use Rattle.counting.proofs.Free.{sum-none, arises, pairs_free}
 use Rattle.counting.proofs.Numbered.{sum-numbers, combination_at, combination_length, sum_to_same}

@@ -112,4 +112,3 @@ returns c =
       is_clock = l.1.1.0;
       bank_stays = l.1.1.1;
     }
-

@@ -85,27 +85,27 @@ found m = m.list_read-found.ensures.all ∙ ap (λ (z : Circuit). length (read_w
 
 pub returns-in_default-clause-answered : goal.returns-in_default-clause-answered
 returns-in_default-clause-answered c =
-    let e = c.in_default.is in  (promised (goal.at.returns-in_default-clause-answered c).After-judge-verdict (refuses (table (goal.at.returns-in_default-clause-answered c).After-judge-verdict) (notes (goal.at.returns-in_default-clause-answered c).After-judge-verdict) (secrets (goal.at.returns-in_default-clause-answered c).After-judge-verdict) (probes (goal.at.returns-in_default-clause-answered c).After-judge-verdict) (counts (goal.at.returns-in_default-clause-answered c).After-judge-verdict) (answer-refused (k (goal.at.returns-in_default-clause-answered c).After-judge-verdict) _ (sym (ap answer_of e) ∙ c.judge-verdict.ensures.answers)))
+    let e = c.in_default.is in (promised (goal.at.returns-in_default-clause-answered c).After-judge-verdict (refuses (table (goal.at.returns-in_default-clause-answered c).After-judge-verdict) (notes (goal.at.returns-in_default-clause-answered c).After-judge-verdict) (secrets (goal.at.returns-in_default-clause-answered c).After-judge-verdict) (probes (goal.at.returns-in_default-clause-answered c).After-judge-verdict) (counts (goal.at.returns-in_default-clause-answered c).After-judge-verdict) (answer-refused (k (goal.at.returns-in_default-clause-answered c).After-judge-verdict) _ (sym (ap answer_of e) ∙ c.judge-verdict.ensures.answers)))
     (c.refused.ensures ∙ ap (λ v. refusal_in (answer_of v)) e) refl).0
 
 pub returns-in_default-clause-noted : goal.returns-in_default-clause-noted
 returns-in_default-clause-noted c =
-    let e = c.in_default.is in  (promised (goal.at.returns-in_default-clause-noted c).After-judge-verdict (refuses (table (goal.at.returns-in_default-clause-noted c).After-judge-verdict) (notes (goal.at.returns-in_default-clause-noted c).After-judge-verdict) (secrets (goal.at.returns-in_default-clause-noted c).After-judge-verdict) (probes (goal.at.returns-in_default-clause-noted c).After-judge-verdict) (counts (goal.at.returns-in_default-clause-noted c).After-judge-verdict) (answer-refused (k (goal.at.returns-in_default-clause-noted c).After-judge-verdict) _ (sym (ap answer_of e) ∙ c.judge-verdict.ensures.answers)))
+    let e = c.in_default.is in (promised (goal.at.returns-in_default-clause-noted c).After-judge-verdict (refuses (table (goal.at.returns-in_default-clause-noted c).After-judge-verdict) (notes (goal.at.returns-in_default-clause-noted c).After-judge-verdict) (secrets (goal.at.returns-in_default-clause-noted c).After-judge-verdict) (probes (goal.at.returns-in_default-clause-noted c).After-judge-verdict) (counts (goal.at.returns-in_default-clause-noted c).After-judge-verdict) (answer-refused (k (goal.at.returns-in_default-clause-noted c).After-judge-verdict) _ (sym (ap answer_of e) ∙ c.judge-verdict.ensures.answers)))
     (c.refused.ensures ∙ ap (λ v. refusal_in (answer_of v)) e) refl).1.0
 
 pub returns-in_default-clause-listed : goal.returns-in_default-clause-listed
 returns-in_default-clause-listed c =
-    let e = c.in_default.is in  (promised (goal.at.returns-in_default-clause-listed c).After-judge-verdict (refuses (table (goal.at.returns-in_default-clause-listed c).After-judge-verdict) (notes (goal.at.returns-in_default-clause-listed c).After-judge-verdict) (secrets (goal.at.returns-in_default-clause-listed c).After-judge-verdict) (probes (goal.at.returns-in_default-clause-listed c).After-judge-verdict) (counts (goal.at.returns-in_default-clause-listed c).After-judge-verdict) (answer-refused (k (goal.at.returns-in_default-clause-listed c).After-judge-verdict) _ (sym (ap answer_of e) ∙ c.judge-verdict.ensures.answers)))
+    let e = c.in_default.is in (promised (goal.at.returns-in_default-clause-listed c).After-judge-verdict (refuses (table (goal.at.returns-in_default-clause-listed c).After-judge-verdict) (notes (goal.at.returns-in_default-clause-listed c).After-judge-verdict) (secrets (goal.at.returns-in_default-clause-listed c).After-judge-verdict) (probes (goal.at.returns-in_default-clause-listed c).After-judge-verdict) (counts (goal.at.returns-in_default-clause-listed c).After-judge-verdict) (answer-refused (k (goal.at.returns-in_default-clause-listed c).After-judge-verdict) _ (sym (ap answer_of e) ∙ c.judge-verdict.ensures.answers)))
     (c.refused.ensures ∙ ap (λ v. refusal_in (answer_of v)) e) refl).1.1.0
 
 pub returns-in_default-clause-add_up : goal.returns-in_default-clause-add_up
 returns-in_default-clause-add_up c =
-    let e = c.in_default.is in  (promised (goal.at.returns-in_default-clause-add_up c).After-judge-verdict (refuses (table (goal.at.returns-in_default-clause-add_up c).After-judge-verdict) (notes (goal.at.returns-in_default-clause-add_up c).After-judge-verdict) (secrets (goal.at.returns-in_default-clause-add_up c).After-judge-verdict) (probes (goal.at.returns-in_default-clause-add_up c).After-judge-verdict) (counts (goal.at.returns-in_default-clause-add_up c).After-judge-verdict) (answer-refused (k (goal.at.returns-in_default-clause-add_up c).After-judge-verdict) _ (sym (ap answer_of e) ∙ c.judge-verdict.ensures.answers)))
+    let e = c.in_default.is in (promised (goal.at.returns-in_default-clause-add_up c).After-judge-verdict (refuses (table (goal.at.returns-in_default-clause-add_up c).After-judge-verdict) (notes (goal.at.returns-in_default-clause-add_up c).After-judge-verdict) (secrets (goal.at.returns-in_default-clause-add_up c).After-judge-verdict) (probes (goal.at.returns-in_default-clause-add_up c).After-judge-verdict) (counts (goal.at.returns-in_default-clause-add_up c).After-judge-verdict) (answer-refused (k (goal.at.returns-in_default-clause-add_up c).After-judge-verdict) _ (sym (ap answer_of e) ∙ c.judge-verdict.ensures.answers)))
     (c.refused.ensures ∙ ap (λ v. refusal_in (answer_of v)) e) refl).1.1.1.0
 
 pub returns-in_default-clause-same_columns : goal.returns-in_default-clause-same_columns
 returns-in_default-clause-same_columns c =
-    let e = c.in_default.is in  (promised (goal.at.returns-in_default-clause-same_columns c).After-judge-verdict (refuses (table (goal.at.returns-in_default-clause-same_columns c).After-judge-verdict) (notes (goal.at.returns-in_default-clause-same_columns c).After-judge-verdict) (secrets (goal.at.returns-in_default-clause-same_columns c).After-judge-verdict) (probes (goal.at.returns-in_default-clause-same_columns c).After-judge-verdict) (counts (goal.at.returns-in_default-clause-same_columns c).After-judge-verdict) (answer-refused (k (goal.at.returns-in_default-clause-same_columns c).After-judge-verdict) _ (sym (ap answer_of e) ∙ c.judge-verdict.ensures.answers)))
+    let e = c.in_default.is in (promised (goal.at.returns-in_default-clause-same_columns c).After-judge-verdict (refuses (table (goal.at.returns-in_default-clause-same_columns c).After-judge-verdict) (notes (goal.at.returns-in_default-clause-same_columns c).After-judge-verdict) (secrets (goal.at.returns-in_default-clause-same_columns c).After-judge-verdict) (probes (goal.at.returns-in_default-clause-same_columns c).After-judge-verdict) (counts (goal.at.returns-in_default-clause-same_columns c).After-judge-verdict) (answer-refused (k (goal.at.returns-in_default-clause-same_columns c).After-judge-verdict) _ (sym (ap answer_of e) ∙ c.judge-verdict.ensures.answers)))
     (c.refused.ensures ∙ ap (λ v. refusal_in (answer_of v)) e) refl).1.1.1.1
 
 pub list_read-found-requires : goal.list_read-found-requires
@@ -146,7 +146,7 @@ pub returns-clause-answered : goal.returns-clause-answered
 returns-clause-answered c =
     let n = numbers (goal.at.returns-clause-answered c).In-Accepted in
     let same = n.of.of.circuit_is in
-    let number = length (read_wires (k (goal.at.returns-clause-answered c).After-judge-verdict) (probes (goal.at.returns-clause-answered c).After-judge-verdict)) in  (promised (goal.at.returns-clause-answered c).After-judge-verdict (passes (table (goal.at.returns-clause-answered c).After-judge-verdict) (notes (goal.at.returns-clause-answered c).After-judge-verdict) (secrets (goal.at.returns-clause-answered c).After-judge-verdict) (probes (goal.at.returns-clause-answered c).After-judge-verdict) (counts (goal.at.returns-clause-answered c).After-judge-verdict) n.first (omega (arith, found (goal.at.returns-clause-answered c).After-list_read-found, c.if-found-gt8.false)))
+    let number = length (read_wires (k (goal.at.returns-clause-answered c).After-judge-verdict) (probes (goal.at.returns-clause-answered c).After-judge-verdict)) in (promised (goal.at.returns-clause-answered c).After-judge-verdict (passes (table (goal.at.returns-clause-answered c).After-judge-verdict) (notes (goal.at.returns-clause-answered c).After-judge-verdict) (secrets (goal.at.returns-clause-answered c).After-judge-verdict) (probes (goal.at.returns-clause-answered c).After-judge-verdict) (counts (goal.at.returns-clause-answered c).After-judge-verdict) n.first (omega (arith, found (goal.at.returns-clause-answered c).After-list_read-found, c.if-found-gt8.false)))
     (ap₂ (λ x y. accepted x y c.list_counts-pairs.result) (found (goal.at.returns-clause-answered c).After-list_read-found) (c.power.ensures.0 ∙ ap (λ y. 2 ^ y) (found (goal.at.returns-clause-answered c).After-list_read-found)) ∙ ap (λ z. accepted number (2 ^ number) z) (c.list_counts-pairs.ensures.0 ∙ ap pair_count (sym same)))
     (sheet (table (goal.at.returns-clause-answered c).After-judge-verdict) (notes (goal.at.returns-clause-answered c).After-judge-verdict) (secrets (goal.at.returns-clause-answered c).After-judge-verdict) (probes (goal.at.returns-clause-answered c).After-judge-verdict) (counts (goal.at.returns-clause-answered c).After-judge-verdict) n.of.of n.inputs c.list_counts-pairs.ensures.1
     (ap (λ (z : Circuit). read_wires z (probes (goal.at.returns-clause-answered c).After-judge-verdict)) same ∙ c.list_read-found.ensures.are c.if-found-gt8.false))).0
@@ -155,7 +155,7 @@ pub returns-clause-noted : goal.returns-clause-noted
 returns-clause-noted c =
     let n = numbers (goal.at.returns-clause-noted c).In-Accepted in
     let same = n.of.of.circuit_is in
-    let number = length (read_wires (k (goal.at.returns-clause-noted c).After-judge-verdict) (probes (goal.at.returns-clause-noted c).After-judge-verdict)) in  (promised (goal.at.returns-clause-noted c).After-judge-verdict (passes (table (goal.at.returns-clause-noted c).After-judge-verdict) (notes (goal.at.returns-clause-noted c).After-judge-verdict) (secrets (goal.at.returns-clause-noted c).After-judge-verdict) (probes (goal.at.returns-clause-noted c).After-judge-verdict) (counts (goal.at.returns-clause-noted c).After-judge-verdict) n.first (omega (arith, found (goal.at.returns-clause-noted c).After-list_read-found, c.if-found-gt8.false)))
+    let number = length (read_wires (k (goal.at.returns-clause-noted c).After-judge-verdict) (probes (goal.at.returns-clause-noted c).After-judge-verdict)) in (promised (goal.at.returns-clause-noted c).After-judge-verdict (passes (table (goal.at.returns-clause-noted c).After-judge-verdict) (notes (goal.at.returns-clause-noted c).After-judge-verdict) (secrets (goal.at.returns-clause-noted c).After-judge-verdict) (probes (goal.at.returns-clause-noted c).After-judge-verdict) (counts (goal.at.returns-clause-noted c).After-judge-verdict) n.first (omega (arith, found (goal.at.returns-clause-noted c).After-list_read-found, c.if-found-gt8.false)))
     (ap₂ (λ x y. accepted x y c.list_counts-pairs.result) (found (goal.at.returns-clause-noted c).After-list_read-found) (c.power.ensures.0 ∙ ap (λ y. 2 ^ y) (found (goal.at.returns-clause-noted c).After-list_read-found)) ∙ ap (λ z. accepted number (2 ^ number) z) (c.list_counts-pairs.ensures.0 ∙ ap pair_count (sym same)))
     (sheet (table (goal.at.returns-clause-noted c).After-judge-verdict) (notes (goal.at.returns-clause-noted c).After-judge-verdict) (secrets (goal.at.returns-clause-noted c).After-judge-verdict) (probes (goal.at.returns-clause-noted c).After-judge-verdict) (counts (goal.at.returns-clause-noted c).After-judge-verdict) n.of.of n.inputs c.list_counts-pairs.ensures.1
     (ap (λ (z : Circuit). read_wires z (probes (goal.at.returns-clause-noted c).After-judge-verdict)) same ∙ c.list_read-found.ensures.are c.if-found-gt8.false))).1.0
@@ -164,7 +164,7 @@ pub returns-clause-listed : goal.returns-clause-listed
 returns-clause-listed c =
     let n = numbers (goal.at.returns-clause-listed c).In-Accepted in
     let same = n.of.of.circuit_is in
-    let number = length (read_wires (k (goal.at.returns-clause-listed c).After-judge-verdict) (probes (goal.at.returns-clause-listed c).After-judge-verdict)) in  (promised (goal.at.returns-clause-listed c).After-judge-verdict (passes (table (goal.at.returns-clause-listed c).After-judge-verdict) (notes (goal.at.returns-clause-listed c).After-judge-verdict) (secrets (goal.at.returns-clause-listed c).After-judge-verdict) (probes (goal.at.returns-clause-listed c).After-judge-verdict) (counts (goal.at.returns-clause-listed c).After-judge-verdict) n.first (omega (arith, found (goal.at.returns-clause-listed c).After-list_read-found, c.if-found-gt8.false)))
+    let number = length (read_wires (k (goal.at.returns-clause-listed c).After-judge-verdict) (probes (goal.at.returns-clause-listed c).After-judge-verdict)) in (promised (goal.at.returns-clause-listed c).After-judge-verdict (passes (table (goal.at.returns-clause-listed c).After-judge-verdict) (notes (goal.at.returns-clause-listed c).After-judge-verdict) (secrets (goal.at.returns-clause-listed c).After-judge-verdict) (probes (goal.at.returns-clause-listed c).After-judge-verdict) (counts (goal.at.returns-clause-listed c).After-judge-verdict) n.first (omega (arith, found (goal.at.returns-clause-listed c).After-list_read-found, c.if-found-gt8.false)))
     (ap₂ (λ x y. accepted x y c.list_counts-pairs.result) (found (goal.at.returns-clause-listed c).After-list_read-found) (c.power.ensures.0 ∙ ap (λ y. 2 ^ y) (found (goal.at.returns-clause-listed c).After-list_read-found)) ∙ ap (λ z. accepted number (2 ^ number) z) (c.list_counts-pairs.ensures.0 ∙ ap pair_count (sym same)))
     (sheet (table (goal.at.returns-clause-listed c).After-judge-verdict) (notes (goal.at.returns-clause-listed c).After-judge-verdict) (secrets (goal.at.returns-clause-listed c).After-judge-verdict) (probes (goal.at.returns-clause-listed c).After-judge-verdict) (counts (goal.at.returns-clause-listed c).After-judge-verdict) n.of.of n.inputs c.list_counts-pairs.ensures.1
     (ap (λ (z : Circuit). read_wires z (probes (goal.at.returns-clause-listed c).After-judge-verdict)) same ∙ c.list_read-found.ensures.are c.if-found-gt8.false))).1.1.0
@@ -173,7 +173,7 @@ pub returns-clause-add_up : goal.returns-clause-add_up
 returns-clause-add_up c =
     let n = numbers (goal.at.returns-clause-add_up c).In-Accepted in
     let same = n.of.of.circuit_is in
-    let number = length (read_wires (k (goal.at.returns-clause-add_up c).After-judge-verdict) (probes (goal.at.returns-clause-add_up c).After-judge-verdict)) in  (promised (goal.at.returns-clause-add_up c).After-judge-verdict (passes (table (goal.at.returns-clause-add_up c).After-judge-verdict) (notes (goal.at.returns-clause-add_up c).After-judge-verdict) (secrets (goal.at.returns-clause-add_up c).After-judge-verdict) (probes (goal.at.returns-clause-add_up c).After-judge-verdict) (counts (goal.at.returns-clause-add_up c).After-judge-verdict) n.first (omega (arith, found (goal.at.returns-clause-add_up c).After-list_read-found, c.if-found-gt8.false)))
+    let number = length (read_wires (k (goal.at.returns-clause-add_up c).After-judge-verdict) (probes (goal.at.returns-clause-add_up c).After-judge-verdict)) in (promised (goal.at.returns-clause-add_up c).After-judge-verdict (passes (table (goal.at.returns-clause-add_up c).After-judge-verdict) (notes (goal.at.returns-clause-add_up c).After-judge-verdict) (secrets (goal.at.returns-clause-add_up c).After-judge-verdict) (probes (goal.at.returns-clause-add_up c).After-judge-verdict) (counts (goal.at.returns-clause-add_up c).After-judge-verdict) n.first (omega (arith, found (goal.at.returns-clause-add_up c).After-list_read-found, c.if-found-gt8.false)))
     (ap₂ (λ x y. accepted x y c.list_counts-pairs.result) (found (goal.at.returns-clause-add_up c).After-list_read-found) (c.power.ensures.0 ∙ ap (λ y. 2 ^ y) (found (goal.at.returns-clause-add_up c).After-list_read-found)) ∙ ap (λ z. accepted number (2 ^ number) z) (c.list_counts-pairs.ensures.0 ∙ ap pair_count (sym same)))
     (sheet (table (goal.at.returns-clause-add_up c).After-judge-verdict) (notes (goal.at.returns-clause-add_up c).After-judge-verdict) (secrets (goal.at.returns-clause-add_up c).After-judge-verdict) (probes (goal.at.returns-clause-add_up c).After-judge-verdict) (counts (goal.at.returns-clause-add_up c).After-judge-verdict) n.of.of n.inputs c.list_counts-pairs.ensures.1
     (ap (λ (z : Circuit). read_wires z (probes (goal.at.returns-clause-add_up c).After-judge-verdict)) same ∙ c.list_read-found.ensures.are c.if-found-gt8.false))).1.1.1.0
@@ -182,7 +182,7 @@ pub returns-clause-same_columns : goal.returns-clause-same_columns
 returns-clause-same_columns c =
     let n = numbers (goal.at.returns-clause-same_columns c).In-Accepted in
     let same = n.of.of.circuit_is in
-    let number = length (read_wires (k (goal.at.returns-clause-same_columns c).After-judge-verdict) (probes (goal.at.returns-clause-same_columns c).After-judge-verdict)) in  (promised (goal.at.returns-clause-same_columns c).After-judge-verdict (passes (table (goal.at.returns-clause-same_columns c).After-judge-verdict) (notes (goal.at.returns-clause-same_columns c).After-judge-verdict) (secrets (goal.at.returns-clause-same_columns c).After-judge-verdict) (probes (goal.at.returns-clause-same_columns c).After-judge-verdict) (counts (goal.at.returns-clause-same_columns c).After-judge-verdict) n.first (omega (arith, found (goal.at.returns-clause-same_columns c).After-list_read-found, c.if-found-gt8.false)))
+    let number = length (read_wires (k (goal.at.returns-clause-same_columns c).After-judge-verdict) (probes (goal.at.returns-clause-same_columns c).After-judge-verdict)) in (promised (goal.at.returns-clause-same_columns c).After-judge-verdict (passes (table (goal.at.returns-clause-same_columns c).After-judge-verdict) (notes (goal.at.returns-clause-same_columns c).After-judge-verdict) (secrets (goal.at.returns-clause-same_columns c).After-judge-verdict) (probes (goal.at.returns-clause-same_columns c).After-judge-verdict) (counts (goal.at.returns-clause-same_columns c).After-judge-verdict) n.first (omega (arith, found (goal.at.returns-clause-same_columns c).After-list_read-found, c.if-found-gt8.false)))
     (ap₂ (λ x y. accepted x y c.list_counts-pairs.result) (found (goal.at.returns-clause-same_columns c).After-list_read-found) (c.power.ensures.0 ∙ ap (λ y. 2 ^ y) (found (goal.at.returns-clause-same_columns c).After-list_read-found)) ∙ ap (λ z. accepted number (2 ^ number) z) (c.list_counts-pairs.ensures.0 ∙ ap pair_count (sym same)))
     (sheet (table (goal.at.returns-clause-same_columns c).After-judge-verdict) (notes (goal.at.returns-clause-same_columns c).After-judge-verdict) (secrets (goal.at.returns-clause-same_columns c).After-judge-verdict) (probes (goal.at.returns-clause-same_columns c).After-judge-verdict) (counts (goal.at.returns-clause-same_columns c).After-judge-verdict) n.of.of n.inputs c.list_counts-pairs.ensures.1
     (ap (λ (z : Circuit). read_wires z (probes (goal.at.returns-clause-same_columns c).After-judge-verdict)) same ∙ c.list_read-found.ensures.are c.if-found-gt8.false))).1.1.1.1

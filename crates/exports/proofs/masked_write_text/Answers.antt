@@ -1,5 +1,4 @@
 -- The writer's answer, by its numbers; the third is always 0.
-use mathlib.Core.Path.{refl}
 use Rattle.exports.proofs.Telling.{text_moved}
 use Rattle.exports.proofs.masked_write_text.Goals as goal
 

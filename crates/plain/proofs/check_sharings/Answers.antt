@@ -48,16 +48,16 @@ some zero h = absurd (h refl)
 some (suc n) h = omega arith
 
 pub returns-in_default-clause-answered : goal.returns-in_default-clause-answered
-returns-in_default-clause-answered c = let e = ap answer_of c.in_default.is in  (promised (goal.at.returns-in_default-clause-answered c).After-check-verdict (refuses (table (goal.at.returns-in_default-clause-answered c).After-check-verdict) (notes (goal.at.returns-in_default-clause-answered c).After-check-verdict) (answer-refused (circuit_of (table (goal.at.returns-in_default-clause-answered c).After-check-verdict) (notes (goal.at.returns-in_default-clause-answered c).After-check-verdict)) _ (sym e ∙ c.check-verdict.ensures.answered))) e).0
+returns-in_default-clause-answered c = let e = ap answer_of c.in_default.is in (promised (goal.at.returns-in_default-clause-answered c).After-check-verdict (refuses (table (goal.at.returns-in_default-clause-answered c).After-check-verdict) (notes (goal.at.returns-in_default-clause-answered c).After-check-verdict) (answer-refused (circuit_of (table (goal.at.returns-in_default-clause-answered c).After-check-verdict) (notes (goal.at.returns-in_default-clause-answered c).After-check-verdict)) _ (sym e ∙ c.check-verdict.ensures.answered))) e).0
 
 pub returns-in_default-clause-noted : goal.returns-in_default-clause-noted
-returns-in_default-clause-noted c = let e = ap answer_of c.in_default.is in  (promised (goal.at.returns-in_default-clause-noted c).After-check-verdict (refuses (table (goal.at.returns-in_default-clause-noted c).After-check-verdict) (notes (goal.at.returns-in_default-clause-noted c).After-check-verdict) (answer-refused (circuit_of (table (goal.at.returns-in_default-clause-noted c).After-check-verdict) (notes (goal.at.returns-in_default-clause-noted c).After-check-verdict)) _ (sym e ∙ c.check-verdict.ensures.answered))) e).1.0
+returns-in_default-clause-noted c = let e = ap answer_of c.in_default.is in (promised (goal.at.returns-in_default-clause-noted c).After-check-verdict (refuses (table (goal.at.returns-in_default-clause-noted c).After-check-verdict) (notes (goal.at.returns-in_default-clause-noted c).After-check-verdict) (answer-refused (circuit_of (table (goal.at.returns-in_default-clause-noted c).After-check-verdict) (notes (goal.at.returns-in_default-clause-noted c).After-check-verdict)) _ (sym e ∙ c.check-verdict.ensures.answered))) e).1.0
 
 pub returns-in_default-clause-plain : goal.returns-in_default-clause-plain
-returns-in_default-clause-plain c = let e = ap answer_of c.in_default.is in  (promised (goal.at.returns-in_default-clause-plain c).After-check-verdict (refuses (table (goal.at.returns-in_default-clause-plain c).After-check-verdict) (notes (goal.at.returns-in_default-clause-plain c).After-check-verdict) (answer-refused (circuit_of (table (goal.at.returns-in_default-clause-plain c).After-check-verdict) (notes (goal.at.returns-in_default-clause-plain c).After-check-verdict)) _ (sym e ∙ c.check-verdict.ensures.answered))) e).1.1
+returns-in_default-clause-plain c = let e = ap answer_of c.in_default.is in (promised (goal.at.returns-in_default-clause-plain c).After-check-verdict (refuses (table (goal.at.returns-in_default-clause-plain c).After-check-verdict) (notes (goal.at.returns-in_default-clause-plain c).After-check-verdict) (answer-refused (circuit_of (table (goal.at.returns-in_default-clause-plain c).After-check-verdict) (notes (goal.at.returns-in_default-clause-plain c).After-check-verdict)) _ (sym e ∙ c.check-verdict.ensures.answered))) e).1.1
 
 pub first_misfit-frame-requires : goal.first_misfit-frame-requires
-first_misfit-frame-requires c = 
+first_misfit-frame-requires c =
     (least-notes (accepts (goal.at.first_misfit-frame-requires c).In-Accepted), subst (λ ns. Labels ns (circuit_in (table (goal.at.first_misfit-frame-requires c).After-check-verdict))) (sym c.check-verdict.ensures.noted) (labels-noted (table (goal.at.first_misfit-frame-requires c).After-check-verdict) (notes (goal.at.first_misfit-frame-requires c).After-check-verdict) (accepts (goal.at.first_misfit-frame-requires c).In-Accepted)))
 
 pub returns-then-frame-ne0-clause-answered : goal.returns-then-frame-ne0-clause-answered

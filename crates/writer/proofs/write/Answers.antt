@@ -60,27 +60,27 @@ accepts v = sound _ _ (passes v)
 
 pub returns-in_default-clause-answered : goal.returns-in_default-clause-answered
 returns-in_default-clause-answered c =
-    let e = c.in_default.is in  (promised (goal.at.returns-in_default-clause-answered c).After-check-verdict (refuses (table (goal.at.returns-in_default-clause-answered c).After-check-verdict) (notes (goal.at.returns-in_default-clause-answered c).After-check-verdict) (text (goal.at.returns-in_default-clause-answered c).After-check-verdict) (answer-refused (circuit_of (table (goal.at.returns-in_default-clause-answered c).After-check-verdict) (notes (goal.at.returns-in_default-clause-answered c).After-check-verdict)) _ (sym (ap answer_of e) ∙ c.check-verdict.ensures.answered)))
+    let e = c.in_default.is in (promised (goal.at.returns-in_default-clause-answered c).After-check-verdict (refuses (table (goal.at.returns-in_default-clause-answered c).After-check-verdict) (notes (goal.at.returns-in_default-clause-answered c).After-check-verdict) (text (goal.at.returns-in_default-clause-answered c).After-check-verdict) (answer-refused (circuit_of (table (goal.at.returns-in_default-clause-answered c).After-check-verdict) (notes (goal.at.returns-in_default-clause-answered c).After-check-verdict)) _ (sym (ap answer_of e) ∙ c.check-verdict.ensures.answered)))
     (c.refused.ensures ∙ ap (λ v. refusal_in (answer_of v)) e) refl).0
 
 pub returns-in_default-clause-noted : goal.returns-in_default-clause-noted
 returns-in_default-clause-noted c =
-    let e = c.in_default.is in  (promised (goal.at.returns-in_default-clause-noted c).After-check-verdict (refuses (table (goal.at.returns-in_default-clause-noted c).After-check-verdict) (notes (goal.at.returns-in_default-clause-noted c).After-check-verdict) (text (goal.at.returns-in_default-clause-noted c).After-check-verdict) (answer-refused (circuit_of (table (goal.at.returns-in_default-clause-noted c).After-check-verdict) (notes (goal.at.returns-in_default-clause-noted c).After-check-verdict)) _ (sym (ap answer_of e) ∙ c.check-verdict.ensures.answered)))
+    let e = c.in_default.is in (promised (goal.at.returns-in_default-clause-noted c).After-check-verdict (refuses (table (goal.at.returns-in_default-clause-noted c).After-check-verdict) (notes (goal.at.returns-in_default-clause-noted c).After-check-verdict) (text (goal.at.returns-in_default-clause-noted c).After-check-verdict) (answer-refused (circuit_of (table (goal.at.returns-in_default-clause-noted c).After-check-verdict) (notes (goal.at.returns-in_default-clause-noted c).After-check-verdict)) _ (sym (ap answer_of e) ∙ c.check-verdict.ensures.answered)))
     (c.refused.ensures ∙ ap (λ v. refusal_in (answer_of v)) e) refl).1.0
 
 pub returns-in_default-clause-written : goal.returns-in_default-clause-written
 returns-in_default-clause-written c =
-    let e = c.in_default.is in  (promised (goal.at.returns-in_default-clause-written c).After-check-verdict (refuses (table (goal.at.returns-in_default-clause-written c).After-check-verdict) (notes (goal.at.returns-in_default-clause-written c).After-check-verdict) (text (goal.at.returns-in_default-clause-written c).After-check-verdict) (answer-refused (circuit_of (table (goal.at.returns-in_default-clause-written c).After-check-verdict) (notes (goal.at.returns-in_default-clause-written c).After-check-verdict)) _ (sym (ap answer_of e) ∙ c.check-verdict.ensures.answered)))
+    let e = c.in_default.is in (promised (goal.at.returns-in_default-clause-written c).After-check-verdict (refuses (table (goal.at.returns-in_default-clause-written c).After-check-verdict) (notes (goal.at.returns-in_default-clause-written c).After-check-verdict) (text (goal.at.returns-in_default-clause-written c).After-check-verdict) (answer-refused (circuit_of (table (goal.at.returns-in_default-clause-written c).After-check-verdict) (notes (goal.at.returns-in_default-clause-written c).After-check-verdict)) _ (sym (ap answer_of e) ∙ c.check-verdict.ensures.answered)))
     (c.refused.ensures ∙ ap (λ v. refusal_in (answer_of v)) e) refl).1.1.0
 
 pub returns-in_default-clause-reads_back : goal.returns-in_default-clause-reads_back
 returns-in_default-clause-reads_back c =
-    let e = c.in_default.is in  (promised (goal.at.returns-in_default-clause-reads_back c).After-check-verdict (refuses (table (goal.at.returns-in_default-clause-reads_back c).After-check-verdict) (notes (goal.at.returns-in_default-clause-reads_back c).After-check-verdict) (text (goal.at.returns-in_default-clause-reads_back c).After-check-verdict) (answer-refused (circuit_of (table (goal.at.returns-in_default-clause-reads_back c).After-check-verdict) (notes (goal.at.returns-in_default-clause-reads_back c).After-check-verdict)) _ (sym (ap answer_of e) ∙ c.check-verdict.ensures.answered)))
+    let e = c.in_default.is in (promised (goal.at.returns-in_default-clause-reads_back c).After-check-verdict (refuses (table (goal.at.returns-in_default-clause-reads_back c).After-check-verdict) (notes (goal.at.returns-in_default-clause-reads_back c).After-check-verdict) (text (goal.at.returns-in_default-clause-reads_back c).After-check-verdict) (answer-refused (circuit_of (table (goal.at.returns-in_default-clause-reads_back c).After-check-verdict) (notes (goal.at.returns-in_default-clause-reads_back c).After-check-verdict)) _ (sym (ap answer_of e) ∙ c.check-verdict.ensures.answered)))
     (c.refused.ensures ∙ ap (λ v. refusal_in (answer_of v)) e) refl).1.1.1.0
 
 pub returns-in_default-clause-only_text : goal.returns-in_default-clause-only_text
 returns-in_default-clause-only_text c =
-    let e = c.in_default.is in  (promised (goal.at.returns-in_default-clause-only_text c).After-check-verdict (refuses (table (goal.at.returns-in_default-clause-only_text c).After-check-verdict) (notes (goal.at.returns-in_default-clause-only_text c).After-check-verdict) (text (goal.at.returns-in_default-clause-only_text c).After-check-verdict) (answer-refused (circuit_of (table (goal.at.returns-in_default-clause-only_text c).After-check-verdict) (notes (goal.at.returns-in_default-clause-only_text c).After-check-verdict)) _ (sym (ap answer_of e) ∙ c.check-verdict.ensures.answered)))
+    let e = c.in_default.is in (promised (goal.at.returns-in_default-clause-only_text c).After-check-verdict (refuses (table (goal.at.returns-in_default-clause-only_text c).After-check-verdict) (notes (goal.at.returns-in_default-clause-only_text c).After-check-verdict) (text (goal.at.returns-in_default-clause-only_text c).After-check-verdict) (answer-refused (circuit_of (table (goal.at.returns-in_default-clause-only_text c).After-check-verdict) (notes (goal.at.returns-in_default-clause-only_text c).After-check-verdict)) _ (sym (ap answer_of e) ∙ c.check-verdict.ensures.answered)))
     (c.refused.ensures ∙ ap (λ v. refusal_in (answer_of v)) e) refl).1.1.1.1
 
 pub overflow_mul-bytes : goal.overflow_mul-bytes

@@ -1,6 +1,6 @@
 -- The loop's invariant: the lines of the frames before the walk's place are written.
 use mathlib.Core.Path.{◌≡◌, refl, sym, ap, ◌∙◌}
-use Prim.Native.Nat.{◌*◌, ◌-◌}
+use Prim.Native.Nat.{◌*◌}
 use native.Mathlib.Omega.{arith}
 use Rattle.circuit.specs.Kinds.{pairs}
 use Rattle.circuit.specs.Lists.{nth}
@@ -31,7 +31,7 @@ answered : (c : At-loop-next) {s : Step} → let h = lines c in let k = so_far h
 answered c e = let h = lines c in
     step_answers h.accepted h.between (second_word h.accepted) refl refl (ap (λ n. step_at c.args.table.now n c.loop-next.walk.at) (sym c.loop-next.invariant.0) ∙ e)
 
-met : (c : In-Next) → let h = lines (view.up-At-loop-next _ _ _ _ _ c.before.before.before) in let k = so_far h.accepted h.between in 
+met : (c : In-Next) → let h = lines (view.up-At-loop-next _ _ _ _ _ c.before.before.before) in let k = so_far h.accepted h.between in
     Met h.accepted h.between (nth c.args.table.now 1) (size k) (k.inputs * h.accepted.d) c.in-Next.frame c.in-Next.shape c.in-Next.next
 met c = answered (view.up-At-loop-next _ _ _ _ _ c.before.before.before) (sym (answer (view.up-After-step-step _ _ _ _ _ c.before.before)) ∙ c.in-Next.is)
 

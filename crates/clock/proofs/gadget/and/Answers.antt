@@ -16,6 +16,6 @@ cross_all-requires c = let p = c.requires in
     (p.0, p.1, p.2, p.3, omega (arith, p.4, c.draws.auto.values, c.share_products.auto.values), omega (arith, p.5, c.draws.auto.bank, c.share_products.auto.bank))
 
 pub returns : goal.returns
-returns c = 
+returns c =
     let a = c.args in
     and_runs a.d a.first a.used a.randoms a.ops.now a.tape.now c.requires.7 c.draws.ensures c.share_products.ensures c.cross_all.ensures

@@ -23,6 +23,6 @@ pub bounds-values-at-6 : goal.bounds-values-at-6
 bounds-values-at-6 c = rw (length-set, length-set, length-set) (omega arith)
 
 pub returns : goal.returns
-returns c = 
+returns c =
     let a = c.args in
     crosses a.values.now a.bank.now a.at a.a a.b a.r a.shown _ _ _ c.u-u.ensures c.v-v.ensures c.w-w.ensures c.requires.0 c.requires.1

@@ -1,6 +1,6 @@
 -- The loop's invariant: the clock has come past the rows of the shares below i, and their outputs are written.
 use mathlib.Core.Path.{ap, ◌∙◌}
-use Prim.Native.Nat.{◌+◌, ◌-◌, ◌≤◌, ◌<◌}
+use Prim.Native.Nat.{◌+◌, ◌≤◌, ◌<◌}
 use native.Mathlib.Omega.{arith}
 use lib.ListN.{length}
 use Rattle.gadgets.specs.Internal.Places.{word_a, out_at}

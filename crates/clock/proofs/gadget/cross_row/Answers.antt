@@ -1,6 +1,6 @@
 -- The loop's invariant: the clock has come past the wires of the share i and the others below j, and what their U and W show is added.
 use mathlib.Core.Path.{◌≡◌}
-use Prim.Native.Nat.{◌-◌, ◌≤◌, ◌<◌}
+use Prim.Native.Nat.{◌≤◌, ◌<◌}
 use native.Mathlib.Omega.{arith}
 use lib.ListN.{length}
 use Rattle.gadgets.specs.Internal.Places.{word_b, out_at}

@@ -1,6 +1,5 @@
 -- The loop's invariant: the clock has come past r and R of the pairs below q.
 use mathlib.Core.Path.{refl, sym, ap}
-use Prim.Native.Nat.{◌-◌}
 use native.Mathlib.Omega.{arith}
 use lib.ListN.{length-set}
 use Rattle.semantics.specs.Clock.{is_register}

@@ -1,6 +1,6 @@
 -- The loop's invariant: the clock has come past the outputs of the shares below i.
 use mathlib.Core.Path.{◌≡◌, refl, sym, ap, ◌∙◌}
-use Prim.Native.Nat.{◌+◌, ◌-◌}
+use Prim.Native.Nat.{◌+◌}
 use native.Mathlib.Omega.{arith}
 use lib.ListN.{length-set}
 use Rattle.gadgets.specs.Internal.Places.{sum_at, held_at}

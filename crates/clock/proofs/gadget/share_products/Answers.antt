@@ -1,6 +1,6 @@
 -- The loop's invariant: the clock has come past B, m and M of the shares below i.
 use mathlib.Core.Path.{◌≡◌, refl}
-use Prim.Native.Nat.{◌+◌, ◌-◌, ◌≤◌, ◌<◌}
+use Prim.Native.Nat.{◌+◌, ◌≤◌, ◌<◌}
 use native.Mathlib.Omega.{arith}
 use lib.ListN.{length, length-set}
 use Rattle.gadgets.specs.Internal.Places.{word_a, word_b, product_at}
@@ -59,8 +59,7 @@ bounds-bank-at-in-loop-i c = rw length-set (omega (arith, turn (goal.at.bounds-b
 
 pub loop-i-preserved : goal.loop-i-preserved
 loop-i-preserved c =
-    let t = turn (goal.at.loop-i-preserved c).After-product_at-at in
-    (
+    let t = turn (goal.at.loop-i-preserved c).After-product_at-at in (
       omega arith,
       runs_next c.loop-i.invariant.1
           (λ k g u. upto_at (omega (arith, t.at_is)) (product-on _ _ _ (omega (arith, g.0, t.at_is, t.room, t.held_room)) (product-gates k.gate t.at_is t.x_is t.y_is (g.1 c.loop-i.i c.loop-i-test.true)) (upto_at (omega (arith, t.at_is)) u) t.a_early t.b_early _ c.m-m.ensures))

@@ -7,10 +7,10 @@ pub copy-requires : goal.copy-requires
 copy-requires c = omega (arith, c.requires.0.0.roomy, c.requires.0.1)
 
 pub run_frames-requires : goal.run_frames-requires
-run_frames-requires c = 
+run_frames-requires c =
     let e = c.requires.0.0 in
     (record { accepted = e.accepted; shared = e.shared; drawn = e.drawn; roomy = omega (arith, e.roomy, c.copy.auto.values) }, c.requires.0.1)
 
 pub returns : goal.returns
-returns c = 
+returns c =
     copied_run c.requires.1 c.copy.ensures c.run_frames.ensures

@@ -1,6 +1,6 @@
 -- The loop's invariant: the clock has come to the first wire behind the walk's place.
 use mathlib.Core.Path.{◌≡◌, refl, sym, ap, ◌∙◌}
-use Prim.Native.Nat.{◌+◌, ◌*◌, ◌-◌, ◌≤◌}
+use Prim.Native.Nat.{◌+◌, ◌*◌, ◌≤◌}
 use native.Mathlib.Omega.{arith}
 use lib.ListN.{length}
 use Rattle.circuit.specs.Limits.{wire_limit}
@@ -25,7 +25,7 @@ answer c =
     let table = c.args.table.now in
     right_step table c.random_bits-randoms.result c.loop-frame.walk.d c.loop-frame.walk.at c.step-step.ensures (given (view.up-At-loop-frame _ _ _ _ _ c.before.before)) ∙ ap (λ n. step_at table n c.loop-frame.walk.at) c.loop-frame.invariant.0
 
-met : (c : In-Next) → let f = c.loop-frame.invariant.1.walked in 
+met : (c : In-Next) → let f = c.loop-frame.invariant.1.walked in
     Met f.evaluable.accepted f.between (nth c.args.table.now 1) c.loop-frame.first c.loop-frame.from c.in-Next.frame c.in-Next.shape c.in-Next.next
 met c = walked-answers c.loop-frame.invariant.1.walked (sym (answer (view.up-After-step-step _ _ _ _ _ c.before.before)) ∙ c.in-Next.is)
 

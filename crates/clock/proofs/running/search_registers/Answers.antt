@@ -1,6 +1,6 @@
 -- The loop's invariant: no register before x has a byte over 1. The clock on buffers of its own has marked the registers.
 use mathlib.Core.Path.{◌≡◌, sym, ap, ◌∙◌}
-use Prim.Native.Nat.{ℕ, ◌-◌}
+use Prim.Native.Nat.{ℕ}
 use native.Mathlib.Omega.{arith}
 use lib.Dec.{leb}
 use lib.ListN.{get_or-replicate}
@@ -18,7 +18,7 @@ use Rattle.clock.proofs.running.search_registers.Goals as goal
 use Rattle.clock.proofs.running.search_registers.Goals.{After-register_byte}
 
 -- the byte that a turn looks at is the one that rule 18 asks of
-looked : (c : After-register_byte) → 
+looked : (c : After-register_byte) →
     c.register_byte.result ≡ nth (register_bytes (wires_of c.args.table.now) c.args.bank.now) c.loop-x.x
 looked c =
     let few = accepted-size c.requires.0.0.accepted in
@@ -41,13 +41,13 @@ pub bounds-bank-x : goal.bounds-bank-x
 bounds-bank-x c = omega (arith, c.requires.1, c.requires.0.1)
 
 pub returns-then-register_byte-gt1 : goal.returns-then-register_byte-gt1
-returns-then-register_byte-gt1 c = 
+returns-then-register_byte-gt1 c =
     record { is = ask_found bytes_ask _ c.loop-x.x c.loop-x.invariant.1 (omega (arith, register_length (wires_of c.args.table.now) c.args.bank.now, c.requires.1)) (sym (ap (λ n. leb n 1) (looked (goal.at.returns-then-register_byte-gt1 c).After-register_byte)) ∙ lt-leb _ 1 c.if-register_byte-gt1.true) }
 
 pub loop-x-preserved : goal.loop-x-preserved
-loop-x-preserved c = 
+loop-x-preserved c =
     (omega arith, ask_turn bytes_ask _ c.loop-x.x c.loop-x.invariant.1 (omega (arith, register_length (wires_of c.args.table.now) c.args.bank.now, c.requires.1)) (sym (ap (λ n. leb n 1) (looked (goal.at.loop-x-preserved c).After-register_byte)) ∙ le-leb _ 1 c.if-register_byte-gt1.false))
 
 pub returns : goal.returns
-returns c = 
+returns c =
     record { is = ask_end bytes_ask _ c.loop-x.x c.loop-x.invariant.1 (omega (arith, register_length (wires_of c.args.table.now) c.args.bank.now, c.requires.1)) }

@@ -5,7 +5,6 @@ use Prim.Native.Nat.{ℕ, ◌+◌, ◌*◌, ◌-◌, ◌≤◌}
 use native.Mathlib.Omega.{arith}
 use lib.Dec.{leb, eqb}
 use lib.ListN.{length}
-use borrow.Author.Rules.{rules}
 use borrow.Author.Tests.{eq-eqb, ne_eqb, le-leb, lt-leb}
 use Rattle.semantics.specs.Counts.{free_bits}
 use Rattle.circuit.specs.Limits.{wire_limit}
@@ -16,7 +15,6 @@ use Rattle.circuit.specs.Answer.{refused, answer}
 use Rattle.circuit.proofs.Answers.{answer-pass}
 use Rattle.semantics.specs.Calls.{bytes_rule, probes_rule, circuit_of}
 use Rattle.checker.specs.declared.Verdict.{Verdict}
-use Rattle.checker.specs.declared.Verdict.TheVariants as verdict
 use Rattle.checker.specs.Answers.{answer_of, InputsAre}
 use Rattle.gadgets.proofs.Walking.{headed}
 use Rattle.evaluation.specs.Internal.Refusing.{refusal}
@@ -97,7 +95,7 @@ by_probe c =
 from24 : (c : Else-probe-probes) → Comes (view.up-After-check-verdict _ _ _ _ c.before.before.before.before.before.before.before.before.before.before) (left24 (view.up-After-check-verdict _ _ _ _ c.before.before.before.before.before.before.before.before.before.before))
 from24 c = none_found 19 0 (probes (view.up-After-check-verdict _ _ _ _ c.before.before.before.before.before.before.before.before.before.before)) _ (left24 (view.up-After-check-verdict _ _ _ _ c.before.before.before.before.before.before.before.before.before.before)) (by_probe (view.up-After-first_missing-probe _ _ _ _ c.before.before)) c.if-probe-probes.false
 
-free : (c : Else-probe-probes) → 
+free : (c : Else-probe-probes) →
     (nth c.args.table.now 1 - 1) * c.in-Accepted.inputs + c.in-Accepted.randoms ≡ free_bits (k (view.up-After-check-verdict _ _ _ _ c.before.before.before.before.before.before.before.before.before.before))
 free c = let n = numbers (view.up-In-Accepted _ _ _ _ c.before.before.before.before.before.before.before) in ap₂ ◌+◌ (ap₂ (λ x y. (x - 1) * y) n.of.d_is n.inputs) n.randoms
 
@@ -106,7 +104,6 @@ shares c = subst (λ (m : ℕ). (nth c.args.table.now 1 - 1) * m ≤ wire_limit)
 
 pub returns-in_default : goal.returns-in_default
 returns-in_default c =
-    
     let a = c.args in
     record { answers = ap answer_of c.in_default.is ∙ checker_refuses a.table.now a.notes.now a.secrets.now a.probes.now a.room (sym (ap answer_of c.in_default.is) ∙ c.check-verdict.ensures.answered); noted = c.check-verdict.ensures.noted; inputs = c.check-verdict.ensures.inputs }
 
@@ -145,6 +142,6 @@ returns-then-table-inputs-gt16 c = refuses (goal.at.returns-then-table-inputs-gt
     (from24 (goal.at.returns-then-table-inputs-gt16 c).Else-probe-probes ∙ ap (λ b. need b 24 0 0) (lt-leb (free_bits (k (goal.at.returns-then-table-inputs-gt16 c).After-check-verdict)) 16 (omega (arith, free (goal.at.returns-then-table-inputs-gt16 c).Else-probe-probes, c.if-table-inputs-gt16.true))))
 
 pub returns : goal.returns
-returns c = 
+returns c =
     judged (goal.at.returns c).After-check-verdict (sym (ap answer_of c.in-Accepted.is) ∙ c.check-verdict.ensures.answered ∙ ap (answer (k (goal.at.returns c).After-check-verdict)) (numbers (goal.at.returns c).In-Accepted).passes)
     (from24 (goal.at.returns c).Else-probe-probes ∙ ap (λ b. need b 24 0 0) (le-leb (free_bits (k (goal.at.returns c).After-check-verdict)) 16 (omega (arith, free (goal.at.returns c).Else-probe-probes, c.if-table-inputs-gt16.false)))) (numbers (goal.at.returns c).In-Accepted).inputs

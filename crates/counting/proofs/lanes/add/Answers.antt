@@ -1,5 +1,5 @@
 -- The loop's invariant: the numbers of the lanes so far are counted, and the rest are those of the others.
-use Prim.Native.Nat.{◌-◌, ◌%◌}
+use Prim.Native.Nat.{◌%◌}
 use native.Mathlib.Omega.{arith}
 use Rattle.counting.proofs.Adding.{added_start, added_next, added_end}
 use Rattle.counting.proofs.lanes.add.Goals as goal

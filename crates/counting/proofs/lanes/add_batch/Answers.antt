@@ -1,7 +1,6 @@
 -- The loop's invariant: the pairs so far are counted under both sets, and while some are left they are those of whole words.
 use mathlib.Core.Path.{◌∙◌}
 use mathlib.Core.Bool.{true, false}
-use Prim.Native.Nat.{◌-◌}
 use native.Mathlib.Omega.{arith}
 use Rattle.counting.proofs.Adding.{adds-room, adds-all}
 use Rattle.counting.proofs.Columns.{batch_start, batch_next}
@@ -12,15 +11,15 @@ loop-done-init c = (batch_start _ false _ _ _, batch_start _ true _ _ _)
 
 pub add_word-requires : goal.add_word-requires
 add_word-requires c = let p = c.requires in let (i, j) = c.loop-done.invariant in (
-      omega (arith, c.loop-done-test.true, p.1),
-      p.0,
-      omega (arith, c.at_most-count.ensures),
-      p.2,
-      i.counted.sized ∙ p.3,
-      j.counted.sized ∙ p.4,
-      adds-room i.counted p.3 p.5 _ (omega (arith, c.at_most-count.ensures)),
-      adds-room j.counted p.4 p.6 _ (omega (arith, c.at_most-count.ensures)),
-    )
+  omega (arith, c.loop-done-test.true, p.1),
+  p.0,
+  omega (arith, c.at_most-count.ensures),
+  p.2,
+  i.counted.sized ∙ p.3,
+  j.counted.sized ∙ p.4,
+  adds-room i.counted p.3 p.5 _ (omega (arith, c.at_most-count.ensures)),
+  adds-room j.counted p.4 p.6 _ (omega (arith, c.at_most-count.ensures)),
+)
 
 pub overflow_add-done : goal.overflow_add-done
 overflow_add-done c = omega (arith, c.at_most-count.ensures)

@@ -1,6 +1,6 @@
 -- The loop's invariant: the pairs so far are counted, under both sets.
 use mathlib.Core.Path.{◌∙◌}
-use Prim.Native.Nat.{ℕ, ◌+◌, ◌-◌, ◌/◌, ◌^◌}
+use Prim.Native.Nat.{ℕ, ◌+◌, ◌/◌, ◌^◌}
 use native.Mathlib.Omega.{arith}
 use Rattle.counting.specs.Internal.Lanes.{shown_by, column_of}
 use Rattle.counting.proofs.Gathering.{shown-small}

@@ -1,6 +1,6 @@
 -- The loop's invariant: the numbers of the combinations that the wires so far show.
 use mathlib.Core.Path.{◌≡◌, sym, ap, ◌∙◌}
-use Prim.Native.Nat.{ℕ, ◌+◌, ◌*◌, ◌-◌, ◌/◌, ◌%◌, ◌^◌, ◌<◌}
+use Prim.Native.Nat.{ℕ, ◌+◌, ◌*◌, ◌/◌, ◌%◌, ◌^◌, ◌<◌}
 use native.Mathlib.Omega.{arith}
 use Rattle.counting.specs.Internal.Lanes.{spread_of, gathered, shown_by, column_of}
 use Rattle.counting.proofs.Gathering.{gathered_zero, gathered_lt, gather_turn, shown-small}

@@ -1,6 +1,5 @@
 -- The loop's invariant: the counts up to one, and those with which they are added, are sums.
 use mathlib.Core.Path.{◌∙◌}
-use Prim.Native.Nat.{◌-◌}
 use native.Mathlib.Omega.{arith}
 use Rattle.counting.proofs.Shifting.{paired_start, paired_next, paired_few, paired_end}
 use Rattle.counting.proofs.linear.add_shifted.Goals as goal

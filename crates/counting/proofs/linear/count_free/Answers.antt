@@ -1,6 +1,6 @@
 -- The loop's invariant: so many of the free bits before one are among the variables.
 use mathlib.Core.Path.{sym, ap₂, ◌∙◌}
-use Prim.Native.Nat.{◌+◌, ◌-◌, ◌≤◌}
+use Prim.Native.Nat.{◌+◌, ◌≤◌}
 use native.Mathlib.Omega.{arith}
 use Rattle.counting.specs.Internal.Linear.{varied_in}
 use Rattle.counting.proofs.WordBits.{digit-is}

@@ -1,5 +1,4 @@
 -- The loop's invariant: the numbers of the free bits up to one are written, and none is too large.
-use Prim.Native.Nat.{◌-◌}
 use native.Mathlib.Omega.{arith}
 use Rattle.counting.proofs.Shifts.{shifts_none, shifts_next, shifts_all}
 use Rattle.counting.proofs.linear.list_shifts.Goals as goal

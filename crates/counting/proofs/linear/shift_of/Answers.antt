@@ -1,6 +1,6 @@
 -- The loop's invariant: the number so far is that of the wires so far.
 use mathlib.Core.Path.{◌≡◌, refl, sym, ap₂, ◌∙◌}
-use Prim.Native.Nat.{◌+◌, ◌*◌, ◌-◌, ◌<◌}
+use Prim.Native.Nat.{◌+◌, ◌*◌, ◌<◌}
 use native.Mathlib.Omega.{arith}
 use Rattle.circuit.specs.Lists.{nth}
 use Rattle.counting.proofs.WordBits.{digit-is}

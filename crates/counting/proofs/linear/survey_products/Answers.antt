@@ -13,7 +13,7 @@ pub loop-n-smaller : goal.loop-n-smaller
 loop-n-smaller c = omega (arith, c.loop-n-test.true)
 
 pub loop-n-preserved : goal.loop-n-preserved
-loop-n-preserved c = 
+loop-n-preserved c =
     (omega (arith, c.loop-n-test.true), omega (arith, c.loop-n.invariant.1), survey_next (omega (arith, c.loop-n.invariant.1, c.loop-n-test.true)) (survey_from (omega (arith, c.loop-n-test.true)) c.loop-n.invariant.2) c.survey_product-all.ensures)
 
 pub returns : goal.returns

@@ -1,5 +1,4 @@
 -- The loop's invariant: the variables of the read wires up to one are among those found.
-use Prim.Native.Nat.{◌-◌}
 use native.Mathlib.Omega.{arith}
 use Rattle.counting.proofs.Surveying.{read_start, read_next}
 use Rattle.counting.proofs.linear.variables_read.Goals as goal

@@ -1,5 +1,4 @@
 -- The loop's invariant: writing the whole list comes to writing the combinations from this one on.
-use Prim.Native.Nat.{◌-◌}
 use native.Mathlib.Omega.{arith}
 use Rattle.counting.proofs.Written.{written_start, written_next, written_end}
 use Rattle.counting.proofs.listing.write_list.Goals as goal

@@ -1,6 +1,6 @@
 -- The loop's invariant: writing the shares for all words comes to writing those from this word on.
 use mathlib.Core.Path.{◌∙◌}
-use Prim.Native.Nat.{◌-◌, ◌+◌, ◌≤◌}
+use Prim.Native.Nat.{◌+◌, ◌≤◌}
 use native.Mathlib.Nat.{mul-le-mul_right}
 use native.Mathlib.Omega.{arith}
 use Rattle.counting.proofs.Sharing.{all_start, all-next, all_end, words_in}

@@ -1,5 +1,4 @@
 -- The loop's invariant: writing all shares comes to writing those from this one on.
-use Prim.Native.Nat.{◌-◌}
 use native.Mathlib.Omega.{arith}
 use Rattle.counting.proofs.Sharing.{one_start, one-next, one_end}
 use Rattle.counting.proofs.pairs.complete_one.Goals as goal

@@ -50,7 +50,7 @@ pub overflow_mul-count : goal.overflow_mul-count
 overflow_mul-count c = omega (arith, (numbers (goal.at.overflow_mul-count c).Start).shares)
 
 pub slice_bounds-sharing-end : goal.slice_bounds-sharing-end
-slice_bounds-sharing-end c = 
+slice_bounds-sharing-end c =
     omega (arith, buffer c.requires.0 c.requires.1 c.requires.3 c.free_sums-free.ensures c.secret_sums-lasts.ensures c.complete.ensures, (numbers (goal.at.slice_bounds-sharing-end c).Start).shares)
 
 pub offset_bounds-free-start : goal.offset_bounds-free-start

@@ -1,8 +1,6 @@
 -- The loop's invariant: the sums up to a place are written.
 use mathlib.Core.Path.{refl}
-use Prim.Native.Nat.{◌-◌}
 use native.Mathlib.Omega.{arith}
-use Rattle.counting.specs.Internal.Preparing.{secret_sum}
 use Rattle.counting.proofs.Filling.{given_start, given_next, given_end}
 use Rattle.counting.proofs.prepare.secret_sums.Goals as goal
 

@@ -1,6 +1,6 @@
 -- The loop's invariant: the marked wires so far are listed.
 use mathlib.Core.Path.{◌≡◌, subst}
-use Prim.Native.Nat.{ℕ, ◌-◌}
+use Prim.Native.Nat.{ℕ}
 use native.Mathlib.Omega.{arith}
 use Rattle.counting.specs.Internal.Reading.{Listed}
 use Rattle.counting.proofs.Marked.{listed_start}

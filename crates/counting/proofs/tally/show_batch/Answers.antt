@@ -43,6 +43,6 @@ show-requires c = let p = some (goal.at.show-requires c).Start in
 
 pub returns : goal.returns
 returns c = (
-      (λ table secrets p. batch_shown p c.fill_variables.ensures c.run.ensures c.run-2.ensures c.show.ensures),
-      c.run-2.ensures.sized ∙ c.run.ensures.sized ∙ c.fill_variables.ensures.sized,
-    )
+  (λ table secrets p. batch_shown p c.fill_variables.ensures c.run.ensures c.run-2.ensures c.show.ensures),
+  c.run-2.ensures.sized ∙ c.run.ensures.sized ∙ c.fill_variables.ensures.sized,
+)

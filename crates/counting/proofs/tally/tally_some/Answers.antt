@@ -1,7 +1,7 @@
 -- The loop's invariant: the pairs of the batches so far are counted under both sets, whatever table the sums and terms are of.
 use mathlib.Core.Path.{refl, ◌∙◌}
 use mathlib.Core.Bool.{true, false}
-use Prim.Native.Nat.{◌-◌, ◌≤◌}
+use Prim.Native.Nat.{◌≤◌}
 use native.Mathlib.Omega.{arith}
 use lib.ListN.{take, replicate}
 use Rattle.counting.specs.Internal.Linear.{varied_in}

@@ -1,5 +1,5 @@
 -- The loop's invariant: the words of the free bits up to one are written.
-use Prim.Native.Nat.{◌-◌, ◌<◌}
+use Prim.Native.Nat.{◌<◌}
 use native.Mathlib.Omega.{arith}
 use Rattle.circuit.proofs.Base.{cases}
 use Rattle.counting.specs.Internal.Lanes.{lane_bit}

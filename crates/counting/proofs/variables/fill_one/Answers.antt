@@ -21,8 +21,7 @@ pub overflow_add-result : goal.overflow_add-result
 overflow_add-result c = omega (arith, c.requires.1)
 
 pub returns : goal.returns
-returns c =
-    (
-      (λ e. absurd (true≢false (sym (digit-on c.args.i c.args.factors c.if-factors-i-eq0.false) ∙ e))),
-      (λ e. (rw (← c.free_word-one.ensures, ← c.free_word-other.ensures) c.write_words-2.ensures, refl)),
-    )
+returns c = (
+  (λ e. absurd (true≢false (sym (digit-on c.args.i c.args.factors c.if-factors-i-eq0.false) ∙ e))),
+  (λ e. (rw (← c.free_word-one.ensures, ← c.free_word-other.ensures) c.write_words-2.ensures, refl)),
+)

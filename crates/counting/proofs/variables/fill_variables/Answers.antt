@@ -24,5 +24,5 @@ pub write_words-requires-2 : goal.write_words-requires-2
 write_words-requires-2 c = (omega arith, wide (goal.at.write_words-requires-2 c).After-write_words)
 
 pub returns : goal.returns
-returns c = 
+returns c =
     filled_end c.requires.0 c.fill_free.ensures (set-written (goal.at.returns c).After-write_words) (one-words (wide (goal.at.returns c).After-write_words) c.write_words-2.ensures)

@@ -13,11 +13,11 @@ pub overflow_cast-probes : goal.overflow_cast-probes
 overflow_cast-probes c = omega (arith, c.shared_slice_known-1.given c.loop-i.i)
 
 pub returns-then-wires-probes : goal.returns-then-wires-probes
-returns-then-wires-probes c = 
+returns-then-wires-probes c =
     record { is = λ k e. ask_found (probes_ask k) c.args.probes.now c.loop-i.i (c.loop-i.invariant.1 k e) c.loop-i-test.true (rw e (le-ltb _ _ c.if-wires-probes.true)) }
 
 pub loop-i-preserved : goal.loop-i-preserved
-loop-i-preserved c = 
+loop-i-preserved c =
     (omega arith, λ k e. ask_turn (probes_ask k) c.args.probes.now c.loop-i.i (c.loop-i.invariant.1 k e) c.loop-i-test.true (rw e (lt-ltb _ _ c.if-wires-probes.false)))
 
 pub returns : goal.returns

@@ -12,11 +12,11 @@ pub loop-i-init : goal.loop-i-init
 loop-i-init c = (omega arith, passed_start bytes_rule c.args.bytes.now)
 
 pub returns-then-bytes-i-gt1 : goal.returns-then-bytes-i-gt1
-returns-then-bytes-i-gt1 c = 
+returns-then-bytes-i-gt1 c =
     record { is = ask_found bytes_ask c.args.bytes.now c.loop-i.i c.loop-i.invariant.1 c.loop-i-test.true (lt-leb _ _ c.if-bytes-i-gt1.true) }
 
 pub loop-i-preserved : goal.loop-i-preserved
-loop-i-preserved c = 
+loop-i-preserved c =
     (omega arith, ask_turn bytes_ask c.args.bytes.now c.loop-i.i c.loop-i.invariant.1 c.loop-i-test.true (le-leb _ _ c.if-bytes-i-gt1.false))
 
 pub returns : goal.returns

@@ -93,19 +93,18 @@ found rule i xs r rest = refusal rule i xs r then rest
 by_share : (c : After-first_over-share) → Comes (view.up-After-check-verdict _ _ _ _ c.before.before.before.before.before.before.before.before.before) (found 18 0 (shares (view.up-After-check-verdict _ _ _ _ c.before.before.before.before.before.before.before.before.before)) c.first_over-share.result (left-tape (view.up-After-check-verdict _ _ _ _ c.before.before.before.before.before.before.before.before.before)))
 by_share c sheets s = from18 (view.up-Else-room-lt-WIRES _ _ _ _ c.before.before) sheets s ∙ ap (λ j. j then left-tape (view.up-After-check-verdict _ _ _ _ c.before.before.before.before.before.before.before.before.before)) (c.first_over-share.ensures.is 0)
 
-by_tape : (c : After-first_over-drawn) → 
+by_tape : (c : After-first_over-drawn) →
     Comes (view.up-After-check-verdict _ _ _ _ c.before.before.before.before.before.before.before.before.before.before.before) (found 18 (0 + length (shares (view.up-After-check-verdict _ _ _ _ c.before.before.before.before.before.before.before.before.before.before.before))) (tape (view.up-After-check-verdict _ _ _ _ c.before.before.before.before.before.before.before.before.before.before.before)) c.first_over-drawn.result (left19 (view.up-After-check-verdict _ _ _ _ c.before.before.before.before.before.before.before.before.before.before.before)))
 by_tape c sheets s =
     none_found 18 0 (shares (view.up-After-check-verdict _ _ _ _ c.before.before.before.before.before.before.before.before.before.before.before)) _ (left-tape (view.up-After-check-verdict _ _ _ _ c.before.before.before.before.before.before.before.before.before.before.before)) (by_share (view.up-After-first_over-share _ _ _ _ c.before.before.before) sheets s) c.if-share-shares.false ∙ ap (λ j. j then left19 (view.up-After-check-verdict _ _ _ _ c.before.before.before.before.before.before.before.before.before.before.before)) (c.first_over-drawn.ensures.is (0 + length (shares (view.up-After-check-verdict _ _ _ _ c.before.before.before.before.before.before.before.before.before.before.before))))
 
-by_probe : (c : After-first_missing-probe) → 
+by_probe : (c : After-first_missing-probe) →
     Comes (view.up-After-check-verdict _ _ _ _ c.before.before.before.before.before.before.before.before.before.before.before.before.before) (found 19 0 (probes (view.up-After-check-verdict _ _ _ _ c.before.before.before.before.before.before.before.before.before.before.before.before.before)) c.first_missing-probe.result pass)
 by_probe c sheets s =
     none_found 18 _ (tape (view.up-After-check-verdict _ _ _ _ c.before.before.before.before.before.before.before.before.before.before.before.before.before)) _ (left19 (view.up-After-check-verdict _ _ _ _ c.before.before.before.before.before.before.before.before.before.before.before.before.before)) (by_tape (view.up-After-first_over-drawn _ _ _ _ c.before.before.before) sheets s) c.if-drawn-tape.false ∙ c.first_missing-probe.ensures.is (k (view.up-After-check-verdict _ _ _ _ c.before.before.before.before.before.before.before.before.before.before.before.before.before)) (sym (numbers (view.up-In-Accepted _ _ _ _ c.before.before.before.before.before.before.before.before.before.before)).wires) 0 ∙ sym (then_none (refusal 19 0 (probes (view.up-After-check-verdict _ _ _ _ c.before.before.before.before.before.before.before.before.before.before.before.before.before)) c.first_missing-probe.result))
 
 pub returns-in_default : goal.returns-in_default
 returns-in_default c =
-    
     record { answers = λ sheets h. ap answer_of c.in_default.is ∙ refused-first _ _ (shares (goal.at.returns-in_default c).After-check-verdict) (tape (goal.at.returns-in_default c).After-check-verdict) sheets (probes (goal.at.returns-in_default c).After-check-verdict) (sym (ap answer_of c.in_default.is) ∙ c.check-verdict.ensures.answered); noted = c.check-verdict.ensures.noted }
 
 pub bounds-table-1 : goal.bounds-table-1
@@ -118,29 +117,29 @@ pub overflow_mul-inputs : goal.overflow_mul-inputs
 overflow_mul-inputs c = omega (arith, (numbers (goal.at.overflow_mul-inputs c).In-Accepted).shares, (numbers (goal.at.overflow_mul-inputs c).In-Accepted).of.shares_few)
 
 pub returns-then-shares-inputs : goal.returns-then-shares-inputs
-returns-then-shares-inputs c = 
+returns-then-shares-inputs c =
     judged (goal.at.returns-then-shares-inputs c).After-check-verdict c.refusal.ensures (λ sheets s. broken _ 15 _ (from15 (goal.at.returns-then-shares-inputs c).In-Accepted sheets s) (ne_eqb _ _ (λ e. c.if-shares-inputs.true (e ∙ sym (numbers (goal.at.returns-then-shares-inputs c).In-Accepted).shares))))
 
 pub returns-then-tape-randoms : goal.returns-then-tape-randoms
-returns-then-tape-randoms c = 
+returns-then-tape-randoms c =
     judged (goal.at.returns-then-tape-randoms c).After-check-verdict c.refusal-then-tape-randoms.ensures (λ sheets s. broken _ 16 _ (from16 (goal.at.returns-then-tape-randoms c).Else-shares-inputs sheets s) (ne_eqb _ _ (λ e. c.if-tape-randoms.true (e ∙ sym (numbers (goal.at.returns-then-tape-randoms c).In-Accepted).randoms))))
 
 pub returns-then-room-lt-WIRES : goal.returns-then-room-lt-WIRES
 returns-then-room-lt-WIRES c = judged (goal.at.returns-then-room-lt-WIRES c).After-check-verdict c.refusal-then-room-lt-WIRES.ensures (λ sheets s. broken _ 17 _ (from17 (goal.at.returns-then-room-lt-WIRES c).Else-tape-randoms sheets s) (lt-leb _ _ c.if-room-lt-WIRES.true))
 
 pub returns-then-share-shares : goal.returns-then-share-shares
-returns-then-share-shares c = 
+returns-then-share-shares c =
     judged (goal.at.returns-then-share-shares c).After-check-verdict c.refusal-then-share-shares.ensures (λ sheets s. first_found 18 0 (shares (goal.at.returns-then-share-shares c).After-check-verdict) _ (left-tape (goal.at.returns-then-share-shares c).After-check-verdict) (by_share (goal.at.returns-then-share-shares c).After-first_over-share sheets s) c.if-share-shares.true _ (omega arith))
 
 pub returns-then-drawn-tape : goal.returns-then-drawn-tape
-returns-then-drawn-tape c = 
+returns-then-drawn-tape c =
     judged (goal.at.returns-then-drawn-tape c).After-check-verdict c.refusal-then-drawn-tape.ensures (λ sheets s. first_found 18 _ (tape (goal.at.returns-then-drawn-tape c).After-check-verdict) _ (left19 (goal.at.returns-then-drawn-tape c).After-check-verdict) (by_tape (goal.at.returns-then-drawn-tape c).After-first_over-drawn sheets s) c.if-drawn-tape.true _ (omega arith))
 
 pub returns-then-probe-probes : goal.returns-then-probe-probes
-returns-then-probe-probes c = 
+returns-then-probe-probes c =
     judged (goal.at.returns-then-probe-probes c).After-check-verdict c.refusal-then-probe-probes.ensures (λ sheets s. first_found 19 0 (probes (goal.at.returns-then-probe-probes c).After-check-verdict) _ pass (by_probe (goal.at.returns-then-probe-probes c).After-first_missing-probe sheets s) c.if-probe-probes.true _ (omega arith))
 
 pub returns : goal.returns
-returns c = 
+returns c =
     judged (goal.at.returns c).After-check-verdict (sym (ap answer_of c.in-Accepted.is) ∙ c.check-verdict.ensures.answered ∙ ap (answer (k (goal.at.returns c).After-check-verdict)) (numbers (goal.at.returns c).In-Accepted).passes)
     (λ sheets s. none_found 19 0 (probes (goal.at.returns c).After-check-verdict) _ pass (by_probe (goal.at.returns c).After-first_missing-probe sheets s) c.if-probe-probes.false)

@@ -14,7 +14,7 @@ rows s e = subst (RowsIn s.args.table.now s.args.at s.args.n) e s.requires.3
 
 pub rises-requires : goal.rises-requires
 unfolding gate_fits frame_fits
-rises-requires c = 
+rises-requires c =
     let h = rows (goal.at.rises-requires c).Start (c.in-Gate.is ∙ ap frame.Gate c.in-Out.is) in
     (has_row _ _ _ (omega (arith, h)), omega arith, omega arith, omega arith)
 

@@ -1,6 +1,5 @@
 -- The loops' invariants: the random bits of the share i and each below j are added, and the next one's place is known.
 use mathlib.Core.Path.{◌≡◌}
-use Prim.Native.Nat.{◌-◌}
 use native.Mathlib.Omega.{arith}
 use Rattle.gadgets.proofs.Slots.{mask_lt}
 use Rattle.gadgets.proofs.Masks.{below_start, below_here, below_next, below-near, below_end, above_here, above-next, above-near}

@@ -1,6 +1,5 @@
 -- The loop's invariant: the bytes below q are copied.
 use mathlib.Core.Path.{refl, sym}
-use Prim.Native.Nat.{◌-◌}
 use native.Mathlib.Omega.{arith}
 use Rattle.simulation.proofs.Filled.{fills-none, fills-at, fills-set}
 use Rattle.simulation.proofs.gadget.copy.Goals as goal

@@ -20,5 +20,5 @@ pub bounds-values-at-6 : goal.bounds-values-at-6
 bounds-values-at-6 c = rw (length-set, length-set, length-set, length-set, length-set) (omega arith)
 
 pub returns : goal.returns
-returns c = 
+returns c =
     crosses c.args.at c.args.a c.args.b c.args.r _ _ _ c.u-u.ensures c.v-v.ensures c.w-w.ensures c.args.values.now c.requires

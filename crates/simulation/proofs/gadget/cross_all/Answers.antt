@@ -1,6 +1,6 @@
 -- The loop's invariant: the rows of the shares below i are filled in, and so are their outputs.
 use mathlib.Core.Path.{ap}
-use Prim.Native.Nat.{◌+◌, ◌-◌, ◌<◌}
+use Prim.Native.Nat.{◌+◌, ◌<◌}
 use native.Mathlib.Omega.{arith}
 use Rattle.gadgets.specs.Internal.Places.{word_a}
 use Rattle.gadgets.proofs.Slots.{ShareOf, share-of}

@@ -27,7 +27,7 @@ pub cross-requires : goal.cross-requires
 cross-requires c = rw c.cross_at.ensures.0 (omega (arith, (site (goal.at.cross-requires c).Else-i-j).room, c.requires.3))
 
 pub returns : goal.returns
-returns c = 
+returns c =
     record {
       itself = λ e. absurd (apart (goal.at.returns c).Else-i-j e);
       other = λ ne. (_, rw (c.cross_at.ensures.0, c.pair_at.ensures.0, c.product_at.ensures.0) at c.cross.ensures, refl);

@@ -1,5 +1,4 @@
 -- The loop's invariant: the wires of the share i and the others below j are filled in, and their U and W are added.
-use Prim.Native.Nat.{◌-◌}
 use native.Mathlib.Omega.{arith}
 use Rattle.simulation.proofs.Rows.{all_start, all_turn, all_end}
 use Rattle.simulation.proofs.gadget.cross_row.Goals as goal

@@ -1,6 +1,5 @@
 -- The loop's invariant: r and R of the pairs below q are filled in.
 use mathlib.Core.Path.{refl, sym}
-use Prim.Native.Nat.{◌-◌}
 use native.Mathlib.Omega.{arith}
 use lib.ListN.{length-set}
 use Rattle.simulation.proofs.Filled.{fills-none, fills-at, fills-set}

@@ -1,6 +1,6 @@
 -- The loop's invariant: the outputs of the shares below i are filled in.
 use mathlib.Core.Path.{◌≡◌, refl, ap}
-use Prim.Native.Nat.{◌+◌, ◌-◌, ◌≤◌}
+use Prim.Native.Nat.{◌+◌, ◌≤◌}
 use native.Mathlib.Omega.{arith}
 use Rattle.circuit.specs.Kinds.{pairs}
 use Rattle.frames.proofs.RandomBits.{few-pairs}

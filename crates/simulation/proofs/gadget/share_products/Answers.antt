@@ -1,6 +1,6 @@
 -- The loop's invariant: the wires of the shares below i are filled in.
 use mathlib.Core.Path.{refl}
-use Prim.Native.Nat.{◌+◌, ◌-◌, ◌≤◌, ◌<◌}
+use Prim.Native.Nat.{◌+◌, ◌≤◌, ◌<◌}
 use native.Mathlib.Omega.{arith}
 use lib.ListN.{length, length-set}
 use Rattle.gadgets.specs.Internal.Places.{word_a, word_b, product_at}

@@ -1,6 +1,5 @@
 -- The loop's invariant: the words of the products below one are written.
 use mathlib.Core.Path.{◌∙◌}
-use Prim.Native.Nat.{◌-◌}
 use native.Mathlib.Omega.{arith}
 use Rattle.symbolic.proofs.Running.{runs_none, runs_end, runs_next}
 use Rattle.symbolic.proofs.evaluate.run.Goals as goal

@@ -1,6 +1,5 @@
 -- The loop's invariant: the words of the wires below a place of the list are written.
 use mathlib.Core.Path.{sym, ◌∙◌}
-use Prim.Native.Nat.{◌-◌}
 use native.Mathlib.Omega.{arith}
 use Rattle.symbolic.proofs.Running.{four, shown-next}
 use Rattle.symbolic.proofs.evaluate.show.Goals as goal

@@ -1,5 +1,5 @@
 -- The loop's invariant: what is added so far, and the variables that are left, make up each of the four sums.
-use Prim.Native.Nat.{◌-◌, ◌≤◌}
+use Prim.Native.Nat.{◌≤◌}
 use Rattle.symbolic.specs.Internal.Sums.{words_at}
 use Rattle.symbolic.proofs.Masks.{AddedTo}
 use Rattle.symbolic.proofs.evaluate.sum.Given as goal

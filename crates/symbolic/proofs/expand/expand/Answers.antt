@@ -1,6 +1,6 @@
 -- The loop's invariant: the frames before the walk's place are expanded.
 use mathlib.Core.Path.{◌≡◌, refl, sym, ap, ◌∙◌}
-use Prim.Native.Nat.{◌+◌, ◌*◌, ◌-◌, ◌≤◌}
+use Prim.Native.Nat.{◌+◌, ◌*◌, ◌≤◌}
 use native.Mathlib.Omega.{arith}
 use lib.ListN.{length}
 use Rattle.circuit.specs.Limits.{wire_limit}
@@ -29,7 +29,7 @@ answered : (c : At-loop-frame) {s : Step} → let l = c.loop-frame in let t = l.
     step_at table l.walk.d l.walk.at ≡ s → Answers t.evaluable.accepted t.between (nth table 1) l.first l.from s
 answered c e = walked-answers c.loop-frame.invariant.1.walked (ap (λ n. step_at c.args.table.now n c.loop-frame.walk.at) (sym c.loop-frame.invariant.0) ∙ e)
 
-met : (c : In-Next) → let l = c.loop-frame in let t = l.invariant.1.walked in 
+met : (c : In-Next) → let l = c.loop-frame in let t = l.invariant.1.walked in
     Met t.evaluable.accepted t.between (nth c.args.table.now 1) l.first l.from c.in-Next.frame c.in-Next.shape c.in-Next.next
 met c = answered (view.up-At-loop-frame _ _ _ _ _ c.before.before.before) (sym (answer (view.up-After-step-step _ _ _ _ _ c.before.before)) ∙ c.in-Next.is)
 

@@ -15,7 +15,7 @@ pub offset_bounds-tape-mask_at : goal.offset_bounds-tape-mask_at
 offset_bounds-tape-mask_at c = omega (arith, c.mask_at.ensures.1, c.requires.0)
 
 pub bounds-tape-mask_at : goal.bounds-tape-mask_at
-bounds-tape-mask_at c = 
+bounds-tape-mask_at c =
     omega (arith, c.mask_at.ensures.0, mask_lt c.args.d c.args.used c.args.i c.args.j c.requires.1 c.requires.2 (λ e. c.if-i-j.false (sym e)), c.requires.3)
 
 pub returns : goal.returns

@@ -1,5 +1,4 @@
 -- The loop's invariant: the random bits of the share i and each other below j are added.
-use Prim.Native.Nat.{◌-◌}
 use native.Mathlib.Omega.{arith}
 use Rattle.symbolic.proofs.Others.{others_start, others_turn, others_end}
 use Rattle.symbolic.proofs.gadget.add_masks.Goals as goal

@@ -1,5 +1,5 @@
 -- The loop's invariant: so many sums are copied.
-use Prim.Native.Nat.{◌+◌, ◌-◌, ◌<◌}
+use Prim.Native.Nat.{◌+◌, ◌<◌}
 use native.Mathlib.Omega.{arith}
 use lib.ListN.{length}
 use Rattle.symbolic.proofs.Written.{copies_none, copies_next, copies_end}

@@ -16,5 +16,5 @@ pub returns-then-part-lt4 : goal.returns-then-part-lt4
 returns-then-part-lt4 c = rw (le-ltb _ _ c.if-part-lt2.false, lt-ltb _ _ c.if-part-lt4.true) (c.alone.ensures ∙ ap alone c.v-v.ensures)
 
 pub returns : goal.returns
-returns c = 
+returns c =
     rw (le-ltb _ _ c.if-part-lt2.false, le-ltb _ _ c.if-part-lt4.false) (c.times-2.ensures ∙ ap multiplied c.w.ensures ∙ ap (times c.args.a) c.v-v.ensures)

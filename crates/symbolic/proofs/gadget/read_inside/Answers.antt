@@ -1,6 +1,5 @@
 -- The loop's invariant: the wires below a place of the list are written.
 use mathlib.Core.Path.{◌∙◌}
-use Prim.Native.Nat.{◌-◌}
 use native.Mathlib.Omega.{arith}
 use Rattle.symbolic.proofs.Reading.{reads_none, reads-next, reads_end}
 use Rattle.symbolic.proofs.gadget.read_inside.Goals as goal

@@ -1,6 +1,6 @@
 -- The loop's invariant: the outputs of the shares below i are written.
 use mathlib.Core.Path.{◌≡◌, ap}
-use Prim.Native.Nat.{◌+◌, ◌-◌, ◌≤◌, ◌<◌}
+use Prim.Native.Nat.{◌+◌, ◌≤◌, ◌<◌}
 use native.Mathlib.Omega.{arith}
 use lib.Bits.{bit_xor}
 use lib.ListN.{length}
@@ -69,12 +69,11 @@ pub loop-i-smaller : goal.loop-i-smaller
 loop-i-smaller c = omega (arith, c.loop-i-test.true)
 
 pub loop-i-preserved : goal.loop-i-preserved
-loop-i-preserved c =
-    (
-      omega (arith, c.loop-i-test.true),
-      rw c.write_term.ensures (outputs-next c.loop-i.invariant.1 _ _ _ _ _ (inside (goal.at.loop-i-preserved c).In-loop-i).0 (omega (arith, c.requires.1, (inside (goal.at.loop-i-preserved c).In-loop-i).3)) (early (goal.at.loop-i-preserved c).After-word_a)
-          (c.word_a.ensures, c.add_row-row.ensures, c.add_masks.ensures, c.out_at.ensures.0, ap (λ n. bit_xor n c.add_masks.result) c.variable.ensures)),
-    )
+loop-i-preserved c = (
+  omega (arith, c.loop-i-test.true),
+  rw c.write_term.ensures (outputs-next c.loop-i.invariant.1 _ _ _ _ _ (inside (goal.at.loop-i-preserved c).In-loop-i).0 (omega (arith, c.requires.1, (inside (goal.at.loop-i-preserved c).In-loop-i).3)) (early (goal.at.loop-i-preserved c).After-word_a)
+      (c.word_a.ensures, c.add_row-row.ensures, c.add_masks.ensures, c.out_at.ensures.0, ap (λ n. bit_xor n c.add_masks.result) c.variable.ensures)),
+)
 
 pub shape_of-sums : goal.shape_of-sums
 shape_of-sums c = c.loop-i.invariant.1.sums_sized

@@ -1,6 +1,6 @@
 -- The loop's invariant: the pairs before this one are in their places.
 use mathlib.Core.Path.{sym, ap₂, ◌∙◌}
-use Prim.Native.Nat.{◌+◌, ◌*◌, ◌-◌}
+use Prim.Native.Nat.{◌+◌, ◌*◌}
 use native.Mathlib.Omega.{arith}
 use Rattle.writer.proofs.Digits.{pairs_to, pairs_more, pair_of_lem}
 use Rattle.writer.proofs.line.pair_row.Goals as goal

@@ -1,6 +1,5 @@
 -- The loop's invariant: the rows before this one are in their places.
 use mathlib.Core.Path.{refl}
-use Prim.Native.Nat.{◌-◌}
 use native.Mathlib.Omega.{arith}
 use Rattle.writer.proofs.Digits.{pairs_to}
 use Rattle.writer.proofs.line.pairs.Goals as goal

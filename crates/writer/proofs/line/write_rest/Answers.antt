@@ -1,6 +1,5 @@
 -- The loop's invariant: the words still to write, written from their place on, give what all words with their spaces give.
 use mathlib.Core.Path.{refl, sym, ◌∙◌}
-use Prim.Native.Nat.{◌-◌}
 use native.Mathlib.Omega.{arith}
 use Rattle.writer.proofs.Lines.{words_turn, words_end}
 use Rattle.writer.proofs.line.write_rest.Goals as goal
