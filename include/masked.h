@@ -1,4 +1,4 @@
-/* The proved calls of Hawdreth under C names. Link target/staticlib/libexports.a (made by `rt staticlib exports`).
+/* The proved calls of Hawdreth under C names. Link target/staticlib/libexports.a (made by `tools/build archive`).
  * docs/FORMAT.md describes circuits and rules; examples/c has programs to start from.
  *
  * Slices. A slice is a pointer and a number of elements. The pointer is aligned as its type asks, and leads to that many elements.

@@ -1,7 +1,7 @@
 /* Runs circuit A as a pipeline for seven clocks, on new shares and a new random bit on each, and prints what its OUT shows.
  * From the repository's top, this builds and runs it (the first part proves the library, which takes some minutes once):
  *
- *   rt staticlib exports && cc -Iinclude -o target/clock examples/c/clock.c target/staticlib/libexports.a && target/clock
+ *   tools/build archive && cc -Iinclude -o target/clock examples/c/clock.c target/staticlib/libexports.a && target/clock
  */
 #include "masked.h"
 #include <inttypes.h>

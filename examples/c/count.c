@@ -2,7 +2,7 @@
  * line for each combination of the read wires' values.
  * From the repository's top, this builds and runs it (the first part proves the library, which takes some minutes once):
  *
- *   rt staticlib exports && cc -Iinclude -o target/count examples/c/count.c target/staticlib/libexports.a && target/count
+ *   tools/build archive && cc -Iinclude -o target/count examples/c/count.c target/staticlib/libexports.a && target/count
  */
 #include "masked.h"
 #include <inttypes.h>

@@ -1,7 +1,7 @@
 /* Checks circuit A, evaluates it with the shares 1,0 and 1,1 and the tape 1, and prints what a probe on wire 24 reads.
  * From the repository's top, this builds and runs it (the first part proves the library, which takes some minutes once):
  *
- *   rt staticlib exports && cc -Iinclude -o target/probe examples/c/probe.c target/staticlib/libexports.a && target/probe
+ *   tools/build archive && cc -Iinclude -o target/probe examples/c/probe.c target/staticlib/libexports.a && target/probe
  */
 #include "masked.h"
 #include <inttypes.h>

@@ -2,7 +2,7 @@
  * and of one that mixes the shares of two secrets in its OUT.
  * From the repository's top, this builds and runs it (the first part proves the library, which takes some minutes once):
  *
- *   rt staticlib exports && cc -Iinclude -o target/sharings examples/c/sharings.c target/staticlib/libexports.a && target/sharings
+ *   tools/build archive && cc -Iinclude -o target/sharings examples/c/sharings.c target/staticlib/libexports.a && target/sharings
  */
 #include "masked.h"
 #include <inttypes.h>

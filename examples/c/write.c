@@ -1,7 +1,7 @@
 /* A tool that fills a table of 16-bit words, circuit A, and files it as text: the call judges the table and writes its lines.
  * From the repository's top, this builds and runs it (the first part proves the library, which takes some minutes once):
  *
- *   rt staticlib exports && cc -Iinclude -o target/write examples/c/write.c target/staticlib/libexports.a && target/write
+ *   tools/build archive && cc -Iinclude -o target/write examples/c/write.c target/staticlib/libexports.a && target/write
  */
 #include "masked.h"
 #include <inttypes.h>
