@@ -120,7 +120,7 @@ module _ (table : List ℕ) (d at : ℕ) where
   -- its end; a word that breaks 5 or 6; or a whole frame
   abbrev pub At : Step → Type 0
   At End = length table ≤ at
-  At (Stopped rule) = (at < length table) × ((k : Circuit) → k.d ≡ d → (f : ℕ) → frame_rule k f word rest ≡ refuse rule f 0)
+  At (Stopped rule) = (at < length table) × (rule ≡ 0 → ⊥) × ((k : Circuit) → k.d ≡ d → (f : ℕ) → frame_rule k f word rest ≡ refuse rule f 0)
   At (Next fr sh w) = AtFrame sh w
 
   found : At (step_at table d at)
@@ -128,9 +128,9 @@ module _ (table : List ℕ) (d at : ℕ) where
   found = cases (ltb at (length table)) (λ a. let l = ltb-true at (length table) a in
       cases (leb 1 (nth table at)) (λ b. cases (leb (nth table at) 8) (λ c. cases (leb (words d (kind_of (nth table at))) (length (drop (at + 1) table)))
       (λ e. rw (a, b, c, e) (record { inside = l; low = leb-true _ _ b; high = leb-true _ _ c; whole = leb-true _ _ e; shape_is = refl; walk_is = refl }))
-      (λ e. rw (a, b, c, e) (l, (λ k s f. rw (s, b, c, e)))))
-      (λ c. rw (a, b, c) (l, (λ k s f. rw (b, c)))))
-      (λ b. rw (a, b) (l, (λ k s f. rw b))))
+      (λ e. rw (a, b, c, e) (l, (λ z. omega arith), (λ k s f. rw (s, b, c, e)))))
+      (λ c. rw (a, b, c) (l, (λ z. omega arith), (λ k s f. rw (b, c)))))
+      (λ b. rw (a, b) (l, (λ z. omega arith), (λ k s f. rw b))))
       (λ a. rw a (ltb-false at (length table) a))
 
   pub met : {s : Step} → s ≡ step_at table d at → At s

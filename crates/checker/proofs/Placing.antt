@@ -18,6 +18,7 @@ use Rattle.circuit.proofs.Building.{size-extend}
 use Rattle.frames.specs.declared.kinds.Shape.{Shape as ShapeCode}
 use Rattle.frames.specs.Walk.{form_of, shape_code}
 use Rattle.frames.proofs.KindTable.{means}
+use Rattle.checker.specs.declared.forms.Spot.{Spot}
 use Rattle.checker.specs.declared.span.Span.{Span}
 use Rattle.checker.specs.declared.frame.Tally.{Tally}
 use Rattle.checker.specs.declared.frame.Added.{Added}
@@ -122,3 +123,11 @@ module _ {k : Circuit} {kind : Kind} {tally : Tally} {sh : ShapeCode} {d : ℕ} 
         by_rule : (n w : ℕ) → notes_with n (made_new tally sh d ops old) tally.wires old ≡ notes_added (judged n tally.frames w) old (size k) (made k ops kind)
         by_rule zero w = ap₂ (λ t ws. sets old (2 * t.wires) ws) p.tally_is words
         by_rule (suc n) w = refl
+
+-- a frame is refused by a rule
+pub refused_rule : {tally : Tally} {sh : ShapeCode} {d : ℕ} {ops old new : List ℕ} {r : Added} → Adds tally sh d ops old new r → {s : Spot} → r ≡ Refused s → s.rule ≡ 0 → ⊥
+refused_rule {tally} {sh} {d} {ops} {old} a {s} e = by_rule (broken tally sh d ops old).rule _ _ (sym a.added_is ∙ e)
+  where
+    by_rule : (n w : ℕ) (span : Span) → added_by n w tally (numbers_of sh) span ≡ Refused s → s.rule ≡ 0 → ⊥
+    by_rule zero w span e h = let z : ◌≡◌ {A = ℕ} 0 1 = cc in omega arith
+    by_rule (suc n) w span e h = let q : spot (suc n) w ≡ s = cc in omega (arith, ap (λ x. x.rule) q)

@@ -1,7 +1,8 @@
 -- The ways out of the loop over the frames, and its turn.
 use mathlib.Core.Path.{◌≡◌, refl, sym, ap, ap₂, subst, ◌∙◌}
+use mathlib.Core.Bool.{Bool, true, false, false≢true}
 use mathlib.Core.List.{List}
-use Prim.Native.Nat.{ℕ, ◌+◌, ◌*◌, ◌-◌, ◌≤◌, ◌<◌}
+use Prim.Native.Nat.{ℕ, zero, suc, ◌+◌, ◌*◌, ◌-◌, ◌≤◌, ◌<◌}
 use native.Mathlib.Omega.{arith}
 use lib.ListN.{length, take, drop, length-drop, drop_of_length-le}
 use lib.Seq.{sets, drop-drop, length-take-le}
@@ -64,7 +65,7 @@ module _ {table notes₀ notes : List ℕ} {d : ℕ} {walk : Walk} {tally : Tall
       (Refused rule tally.frames word) refl tt
 
   pub way_refused : (rule : ℕ) → step.Refused rule ≡ step_at table walk.d walk.at → Promised table notes₀ notes (Refused rule tally.frames 0)
-  way_refused rule e = let (h, r) = met table walk.d walk.at e in
+  way_refused rule e = let (h, _, r) = met table walk.d walk.at e in
       refused-at rule 0 h (r w.k (w.shares ∙ sym w.walk_shares) tally.frames)
 
   -- a whole frame at the walk's place
@@ -105,8 +106,8 @@ module _ {table notes₀ notes : List ℕ} {d : ℕ} {walk : Walk} {tally : Tall
     unfolding frame_rule
     judged-is = rw (le-leb 1 (nth table walk.at) frame_at.low, le-leb (nth table walk.at) 8 frame_at.high, le-leb (words w.k.d kind) (length rest) whole, ops-is)
 
-    pub frame-of : FrameOf sh d ops
-    frame-of = record { kind = kind; later = later; whole = placed.whole; shape_is = placed.shape_is; least = omega (arith, w.shares, w.least); most = omega (arith, w.shares, w.most) }
+    pub frame_of : FrameOf sh d ops
+    frame_of = record { kind = kind; later = later; whole = placed.whole; shape_is = placed.shape_is; least = omega (arith, w.shares, w.least); most = omega (arith, w.shares, w.most) }
 
     module _ (new : List ℕ) (r : Added) (a : Adds tally sh d ops notes new r) where
       -- the frame is refused, and the notes stay
@@ -173,3 +174,34 @@ bounded w = record {
   frames = omega (arith, w.counted, w.inside, w.short);
   inputs = omega (arith, ap (λ t. t.inputs) w.tally_is, w.inputs);
 }
+
+-- the answer by a spot: accepted where it names no rule
+abbrev pub verdict_by : (rule word : ℕ) → Tally → Verdict
+verdict_by zero w tally = Accepted tally.wires tally.randoms (latency_in tally.span) tally.inputs
+verdict_by (suc r) w tally = Refused (suc r) tally.frames w
+
+pub refused_by : (rule word : ℕ) (tally : Tally) → (rule ≡ 0 → ⊥) → verdict_by rule word tally ≡ Refused rule tally.frames word
+refused_by zero word tally h = absurd (h refl)
+refused_by (suc n) word tally h = refl
+
+-- the loop: going on, the frames so far break no rule; ended, the answer is that of the spot
+pub record Loop (table notes₀ notes : List ℕ) (d : ℕ) (walk : Walk) (tally : Tally) (broken : Spot) (going : Bool) : Type 0 where
+  pub walking : going ≡ true → Walking table notes₀ notes d walk tally
+  pub clean : going ≡ true → broken.rule ≡ 0
+  pub promised : going ≡ false → Promised table notes₀ notes (verdict_by broken.rule broken.word tally)
+  pub kept : length notes ≡ length notes₀
+
+pub goes : {table notes₀ notes : List ℕ} {d : ℕ} {walk : Walk} {tally : Tally} {broken : Spot} → Walking table notes₀ notes d walk tally → broken.rule ≡ 0 → Loop table notes₀ notes d walk tally broken true
+goes w e = record { walking = λ h. w; clean = λ h. e; promised = λ h. absurd (false≢true (sym h)); kept = same_length w }
+
+pub ended : {table notes₀ notes : List ℕ} {d : ℕ} {walk : Walk} {tally : Tally} {broken : Spot} → length notes ≡ length notes₀
+    → Promised table notes₀ notes (verdict_by broken.rule broken.word tally) → Loop table notes₀ notes d walk tally broken false
+ended l q = record { walking = λ h. absurd (false≢true h); clean = λ h. absurd (false≢true h); promised = λ h. q; kept = l }
+
+-- the answer of a loop that has ended
+module _ {table notes₀ notes : List ℕ} {d : ℕ} {walk : Walk} {tally : Tally} {broken : Spot} {going : Bool} (l : Loop table notes₀ notes d walk tally broken going) (end : going ≡ false) where
+  pub refused_end : (broken.rule ≡ 0 → ⊥) → Promised table notes₀ notes (Refused broken.rule tally.frames broken.word)
+  refused_end h = subst (Promised table notes₀ notes) (refused_by broken.rule broken.word tally h) (l.promised end)
+
+  pub accepted_end : broken.rule ≡ 0 → Promised table notes₀ notes (Accepted tally.wires tally.randoms (latency_in tally.span) tally.inputs)
+  accepted_end h = subst (λ n. Promised table notes₀ notes (verdict_by n broken.word tally)) h (l.promised end)

@@ -12,7 +12,7 @@ use Rattle.frames.specs.Walk.{step_at}
 use Rattle.frames.proofs.KindTable.{right_step}
 use Rattle.frames.proofs.RandomBits.{listed-right}
 use Rattle.checker.proofs.Checking.{headed, start}
-use Rattle.checker.proofs.Ways.{way_end, way_refused, frame-of, broken_kept, way_broken, turn, less_left, bounded, same_length as kept}
+use Rattle.checker.proofs.Ways.{way_end, way_refused, frame_of, broken_kept, way_broken, turn, less_left, bounded, same_length as kept}
 use Rattle.checker.proofs.check_frames.Goals as goal
 use Rattle.checker.proofs.check_frames.Goals.{After-operands-ops, After-step-step, At-loop-rule}
 use Rattle.checker.proofs.check_frames.Lts.View as view
@@ -65,7 +65,7 @@ pub returns-in-Refused-clause-inputs : goal.returns-in-Refused-clause-inputs
 returns-in-Refused-clause-inputs c = rw c.refused.ensures (((way_refused c.loop-rule.invariant _ (sym c.in-Refused.is ∙ answered (goal.at.returns-in-Refused-clause-inputs c).After-step-step))).1.1)
 
 pub add-added-requires : goal.add-added-requires
-add-added-requires c = let w = c.loop-rule.invariant in (bounded w, frame-of w (met (goal.at.add-added-requires c).After-operands-ops) c.operands-ops.result.now c.operands-ops.ensures)
+add-added-requires c = let w = c.loop-rule.invariant in (bounded w, frame_of w (met (goal.at.add-added-requires c).After-operands-ops) c.operands-ops.result.now c.operands-ops.ensures)
 
 pub loop-rule-smaller : goal.loop-rule-smaller
 loop-rule-smaller c = less_left c.loop-rule.invariant (met (goal.at.loop-rule-smaller c).After-operands-ops) c.operands-ops.result.now c.operands-ops.ensures
