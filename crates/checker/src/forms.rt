@@ -17,6 +17,7 @@ pub struct Spot {
 }
 
 // The wires written, unless they break rule 13 or 14.
+#[tactic(auto, using(std::proofs::lemmas::Bool::Decides::nat_tests))]
 fn put(made: Made, wires: usize, notes: &mut [u16]) -> Spot
     requires { (wires ≤ wire_limit) × (notes_room ≤ length notes.old) × (made.label + made.named ≤ most_shares) }
     ensures { Judges none made wires notes.old notes.new result }

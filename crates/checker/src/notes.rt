@@ -85,6 +85,7 @@ pub(crate) fn stage_shown(notes: &[u16], wires: usize, wire: u16) -> usize
 
 // The first of rules 8 to 11 and 22 that a wire breaks which has to have a label, and a stage that much before another, and,
 // where that is asked, to be registered; 0 for none.
+#[tactic(auto, using(std::proofs::lemmas::Bool::Decides::nat_tests))]
 pub(crate) fn wire_rule(
     notes: &[u16],
     wires: usize,

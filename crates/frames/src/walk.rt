@@ -144,6 +144,7 @@ impl Walk {
     }
 
     // The frame at the walk's place, and the walk behind it, where a gadget takes so many random bits.
+    #[tactic(auto, using(std::proofs::lemmas::Bool::Decides::nat_tests))]
     pub fn step(self, table: &[u16], randoms: u16) -> Step
         ensures { result ≡ step_with (shape_taking randoms self.d) table.now self.d self.at }
     {

@@ -5,7 +5,7 @@ use Prim.Native.Nat.{ℕ, ◌+◌, ◌-◌, ◌≤◌}
 use native.Mathlib.Omega.{arith}
 use lib.ListN.{length, take, drop, length-drop}
 use lib.Seq.{take_all}
-use borrow.Author.Tests.{le-ltb, lt-ltb, le-leb, lt-leb}
+use borrow.Author.Tests.{lt-ltb, le-leb}
 use Rattle.circuit.specs.Kinds.{Kind, kind_of, words}
 use Rattle.circuit.specs.Lists.{nth}
 use Rattle.frames.specs.Walk.{kind_code, shape_taking, frame_code, behind}
@@ -40,25 +40,16 @@ found c =
 whole : (c : After-frame_of-framed) {f : Frame} → c.frame_of-framed.result ≡ Whole f → (words (shares c) (kind c) ≤ length (rest c)) × (f ≡ frame_code (kind_code (kind c)) (rest c))
 whole c {f} e = framed_whole f (frame_code (kind_code (kind c)) (rest c)) (words (shares c) (kind c)) (rest c) (sym e ∙ found c)
 
-pub returns-then-table-at : goal.returns-then-table-at
-returns-then-table-at c = rw (le-ltb _ _ c.if-table-at.true)
-
-pub returns-then-word-lt1 : goal.returns-then-word-lt1
-returns-then-word-lt1 c = rw (lt-ltb _ _ c.if-table-at.false, lt-leb _ _ c.if-word-lt1.true)
-
-pub returns-then-word-gt8 : goal.returns-then-word-gt8
-returns-then-word-gt8 c = rw (lt-ltb _ _ c.if-table-at.false, le-leb _ _ c.if-word-lt1.false, lt-leb _ _ c.if-word-gt8.true)
-
 pub overflow_add-end : goal.overflow_add-end
 overflow_add-end c =
     omega (arith, (whole (goal.at.overflow_add-end c).After-frame_of-framed c.in-Whole.is).0, ap (λ s. s.words) (decided (goal.at.overflow_add-end c).After-frame_of-framed), length-drop (c.args.self.at + 1) c.args.table.now)
 
 pub returns-in-Short : goal.returns-in-Short
 returns-in-Short c =
-    rw (lt-ltb _ _ c.if-table-at.false, le-leb _ _ c.if-word-lt1.false, le-leb _ _ c.if-word-gt8.false, framed_short _ _ (rest (goal.at.returns-in-Short c).After-frame_of-framed) (sym c.in-Short.is ∙ found (goal.at.returns-in-Short c).After-frame_of-framed))
+    rw (lt-ltb _ _ c.if-table-at.false, le-leb _ _ c.if-word-lt1.false, le-leb (nth c.args.table.now c.args.self.at) 8 (omega arith), framed_short _ _ (rest (goal.at.returns-in-Short c).After-frame_of-framed) (sym c.in-Short.is ∙ found (goal.at.returns-in-Short c).After-frame_of-framed))
 
 pub returns-in-Whole : goal.returns-in-Whole
 returns-in-Whole c =
     let (all, same) = whole (goal.at.returns-in-Whole c).After-frame_of-framed c.in-Whole.is in
-    rw (lt-ltb _ _ c.if-table-at.false, le-leb _ _ c.if-word-lt1.false, le-leb _ _ c.if-word-gt8.false, le-leb _ _ all)
+    rw (lt-ltb _ _ c.if-table-at.false, le-leb _ _ c.if-word-lt1.false, le-leb (nth c.args.table.now c.args.self.at) 8 (omega arith), le-leb _ _ all)
     (ap₂ (λ f s. Next f s (behind (shares (goal.at.returns-in-Whole c).After-frame_of-framed) c.args.self.at s.words)) (same ∙ frame_part (shares (goal.at.returns-in-Whole c).After-frame_of-framed) (kind (goal.at.returns-in-Whole c).After-frame_of-framed) (rest (goal.at.returns-in-Whole c).After-frame_of-framed)) (decided (goal.at.returns-in-Whole c).After-frame_of-framed))
