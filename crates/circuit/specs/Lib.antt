@@ -8,5 +8,7 @@ pub mod Circuit
 pub mod Latency
 pub mod Rules
 pub mod Answer
+-- The rules and refusals of the code, by their numbers.
+pub mod Refusals
 -- The same said a second way, for the theorem of exactness and for statements about frames.
 pub mod Composition

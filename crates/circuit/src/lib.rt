@@ -1,5 +1,9 @@
-// Document 01's limits, for the code. specs/Limits.antt has them for the definitions.
+// Document 01's limits and rules, for the code. specs/Limits.antt has the limits for the definitions.
 #![tactic(auto)]
+
+pub mod rules;
+
+pub use rules::{Refusal, Rule};
 
 // The most words of a table.
 pub const TABLE_WORDS: usize = 8192;

@@ -10,15 +10,15 @@ use lib.Seq.{get_or-take}
 use borrow.Author.Tests.{leb-true}
 use Rattle.circuit.specs.Kinds.{Kind, HEAD, IN, CON, XOR, NOT, REG, AND, REF, OUT, shape, words}
 use Rattle.circuit.proofs.Base.{cases}
+use Rattle.std.specs.Prelude.{Some, None}
 use Rattle.frames.specs.declared.walk.Frame.{Frame}
-use Rattle.frames.specs.declared.walk.Framed.TheVariants.{Whole, Short}
 use Rattle.frames.specs.Walk.{kind_code, form_of, frame_code}
 use Rattle.frames.specs.Internal.Framed.{frame_in, framed_by}
 
-pub framed_short : (fr : Frame) (n : ℕ) (rest : List ℕ) → Short ≡ framed_by fr n rest → leb n (length rest) ≡ false
+pub framed_short : (fr : Frame) (n : ℕ) (rest : List ℕ) → None ≡ framed_by fr n rest → leb n (length rest) ≡ false
 framed_short fr n rest e = cases (leb n (length rest)) (λ a. let b = rw a at e in let z : ◌≡◌ {A = ℕ} 0 1 = cc in absurd (omega arith)) (λ a. a)
 
-pub framed_whole : (f fr : Frame) (n : ℕ) (rest : List ℕ) → Whole f ≡ framed_by fr n rest → (n ≤ length rest) × (f ≡ fr)
+pub framed_whole : (f fr : Frame) (n : ℕ) (rest : List ℕ) → Some f ≡ framed_by fr n rest → (n ≤ length rest) × (f ≡ fr)
 framed_whole f fr n rest e = cases (leb n (length rest)) (λ a. let b = rw a at e in (leb-true n (length rest) a, cc)) (λ a. let b = rw a at e in let z : ◌≡◌ {A = ℕ} 0 1 = cc in absurd (omega arith))
 
 pub frame_part : (d : ℕ) (kind : Kind) (rest : List ℕ) → frame_code (kind_code kind) rest ≡ frame_code (kind_code kind) (take (words d kind) rest)

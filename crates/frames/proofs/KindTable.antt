@@ -9,7 +9,9 @@ use Rattle.circuit.specs.Circuit.{new_stage}
 use Rattle.frames.specs.declared.kinds.Kind.{Kind as KindCode}
 use Rattle.frames.specs.declared.kinds.Form.{Form}
 use Rattle.frames.specs.declared.kinds.Shape.{Shape as ShapeCode}
-use Rattle.frames.specs.declared.walk.Step.{Step}
+use Rattle.frames.specs.declared.walk.Next.{Next}
+use Rattle.circuit.specs.declared.rules.Rule.{Rule}
+use Rattle.std.specs.Prelude.{Option, Result}
 use Rattle.frames.specs.Walk.{form_of, Means, kind_line, shape_code, shape_taking, step_with, step_at}
 
 -- d(d−1) as the code computes it
@@ -62,5 +64,5 @@ right-line d AND = refl
 right-line d REF = refl
 right-line d OUT = refl
 
-pub right_step : (table : List ℕ) (randoms d at : ℕ) {s : Step} → s ≡ step_with (shape_taking randoms d) table d at → randoms ≡ pairs d → s ≡ step_at table d at
+pub right_step : (table : List ℕ) (randoms d at : ℕ) {s : Result (Option Next) Rule} → s ≡ step_with (shape_taking randoms d) table d at → randoms ≡ pairs d → s ≡ step_at table d at
 right_step table randoms d at e given = e ∙ ap (λ n. step_with (shape_taking n d) table d at) given ∙ ap (λ shapes. step_with shapes table d at) (fun_ext (right-line d))

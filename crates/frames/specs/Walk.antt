@@ -1,5 +1,5 @@
 -- What the walk over the frames of a table answers, by the kind table and rules 5 and 6.
-use Rattle.std.specs.Prelude.{cond, ◌&&◌, ◌≡◌, List, [], ◌∷◌, ◌++◌, ℕ, ◌+◌, ◌*◌, leb, ltb, length, take, drop}
+use Rattle.std.specs.Prelude.{cond, ◌&&◌, ◌≡◌, List, [], ◌∷◌, ◌++◌, ℕ, ◌+◌, ◌*◌, leb, ltb, length, take, drop, Option, Some, None, Result, Ok, Err}
 use Rattle.circuit.specs.Lists.{nth}
 use Rattle.circuit.specs.Kinds.{Kind, HEAD, IN, CON, XOR, NOT, REG, AND, REF, OUT, kind_of, WordRule, share_count, label, value, stage, random, like, share, before, registered, row, shape, words}
 use Rattle.circuit.specs.Circuit.{Circuit, stage_shown, new_stage, look_up}
@@ -12,8 +12,9 @@ use Rattle.frames.specs.declared.walk.Gate.TheVariants as gate
 use Rattle.frames.specs.declared.walk.Frame.{Frame}
 use Rattle.frames.specs.declared.walk.Frame.TheVariants as frame
 use Rattle.frames.specs.declared.walk.Walk.{Walk}
-use Rattle.frames.specs.declared.walk.Step.{Step}
-use Rattle.frames.specs.declared.walk.Step.TheVariants.{Next, Refused, End}
+use Rattle.frames.specs.declared.walk.Next.{Next}
+use Rattle.circuit.specs.declared.rules.Rule.{Rule}
+use Rattle.circuit.specs.declared.rules.Rule.TheVariants as rule
 
 -- the code's name of a kind, and the form of its words
 abbrev pub kind_code : Kind → KindCode
@@ -111,18 +112,22 @@ operands_at table d at = take (words d (kind_of (nth table at))) (drop (at + 1) 
 abbrev pub behind : (d at count : ℕ) → Walk
 behind d at count = record { d = d; at = at + 1 + count }
 
--- what stands at a place of the table: its end; 5, no kind; 6, too few words; or a frame, with what its kind decides
-abbrev pub step_with : (Kind → ShapeCode) → List ℕ → (d at : ℕ) → Step
+-- a frame, what its kind decides, and the walk behind it
+abbrev pub next : Frame → ShapeCode → Walk → Next
+next frame shape walk = record { frame = frame; shape = shape; walk = walk }
+
+-- what stands at a place of the table: its end; rule 5, no kind; 6, too few words; or a frame, with what its kind decides
+abbrev pub step_with : (Kind → ShapeCode) → List ℕ → (d at : ℕ) → Result (Option Next) Rule
 step_with shapes table d at =
     let kind = kind_of (nth table at) in
     cond (ltb at (length table))
     (cond (leb 1 (nth table at) && leb (nth table at) 8)
     (cond (leb (words d kind) (length (drop (at + 1) table)))
-    (Next (frame_code (kind_code kind) (operands_at table d at)) (shapes kind) (behind d at (words d kind)))
-    (Refused 6))
-    (Refused 5))
-    End
+    (Ok (Some (next (frame_code (kind_code kind) (operands_at table d at)) (shapes kind) (behind d at (words d kind)))))
+    (Err rule.WordCount))
+    (Err rule.Kind))
+    (Ok None)
 
 -- with the kind table's numbers
-abbrev pub step_at : List ℕ → (d at : ℕ) → Step
+abbrev pub step_at : List ℕ → (d at : ℕ) → Result (Option Next) Rule
 step_at table d at = step_with (shape_code d) table d at

@@ -5,6 +5,7 @@ ghost use Rattle.frames.specs.Walk.{shape_taking, operands_at, step_with};
 ghost use Rattle.frames.specs.Internal.Framed.{gate_after, frame_in, framed_by};
 
 use super::kinds;
+use circuit::Rule;
 use kinds::{Form, Shape};
 
 // A gate, with its words. OUT's stay in the table.
@@ -33,19 +34,12 @@ pub struct Walk {
     pub at: usize,
 }
 
-// What stands at a walk's place: a whole frame, with what its kind decides and the walk behind it; the rule that the words
-// there break, 5 or 6; or the table's end.
+// A frame that stands whole at a walk's place, what its kind decides, and the walk behind it.
 #[derive(Clone, Copy)]
-pub enum Step {
-    Next {
-        frame: Frame,
-        shape: Shape,
-        walk: Walk,
-    },
-    Refused {
-        rule: usize,
-    },
-    End,
+pub struct Next {
+    pub frame: Frame,
+    pub shape: Shape,
+    pub walk: Walk,
 }
 
 // The word at a place of a part of the table; 0 past its end.
@@ -55,21 +49,14 @@ fn word_at(words: &[u16], i: usize) -> u16
     if i < words.len() { words[i] } else { 0 }
 }
 
-// A frame whose words the table has, or one in which the table ends.
-#[derive(Clone, Copy)]
-pub enum Framed {
-    Whole(Frame),
-    Short,
-}
-
-// A frame of so many words after the kind, `rest` being the table after the kind word.
-fn whole(frame: Frame, words: usize, rest: &[u16]) -> Framed
+// A frame of so many words after the kind, where the table has them, `rest` being the table after the kind word.
+fn whole(frame: Frame, words: usize, rest: &[u16]) -> Option<Frame>
     ensures { result ≡ framed_by frame words rest.now }
 {
     if rest.len() < words {
-        Framed::Short
+        None
     } else {
-        Framed::Whole(frame)
+        Some(frame)
     }
 }
 
@@ -86,7 +73,7 @@ fn copying(after: u16, wire: u16) -> Gate
 
 // The frame of a form, from the table after the kind word. (No HEAD comes here: rule 5 refuses it before.) Each form asks for
 // its words by itself, so that the compiler leads each from the kind's decision straight to what the frame is taken for.
-fn frame_of(form: Form, words: usize, rest: &[u16]) -> Framed
+fn frame_of(form: Form, words: usize, rest: &[u16]) -> Option<Frame>
     ensures { result ≡ framed_by (frame_in form rest.now) words rest.now }
 {
     match form {
@@ -143,40 +130,37 @@ impl Walk {
         &table[start..end]
     }
 
-    // The frame at the walk's place, and the walk behind it, where a gadget takes so many random bits.
+    // The frame at the walk's place, and the walk behind it, where a gadget takes so many random bits; none at the table's end; or
+    // which of rules 5 and 6 the words there break.
     #[tactic(auto, using(std::proofs::lemmas::Bool::Decides::nat_tests))]
-    pub fn step(self, table: &[u16], randoms: u16) -> Step
+    pub fn step(self, table: &[u16], randoms: u16) -> Result<Option<Next>, Rule>
         ensures { result ≡ step_with (shape_taking randoms self.d) table.now self.d self.at }
     {
         let at = self.at;
         let d = self.d;
         if table.len() <= at {
-            return Step::End;
+            return Ok(None);
         }
         let word = table[at];
         if word < 1 {
-            return Step::Refused { rule: 5 };
+            return Err(Rule::Kind);
         }
         if 8 < word {
-            return Step::Refused { rule: 5 };
+            return Err(Rule::Kind);
         }
         let start = at + 1;
-        let n = table.len();
-        let rest = &table[start..n];
+        let rest = &table[start..];
         let shape = kinds::decide(word, d, randoms);
         let form = shape.form;
         let words = shape.words;
         let framed = frame_of(form, words, rest);
-        match framed {
-            Framed::Short => Step::Refused { rule: 6 },
-            Framed::Whole(frame) => {
-                let end = start + words;
-                Step::Next {
-                    frame,
-                    shape,
-                    walk: Walk { d, at: end },
-                }
-            }
-        }
+        let Some(frame) = framed else {
+            return Err(Rule::WordCount);
+        };
+        let walk = Walk {
+            d,
+            at: start + words,
+        };
+        Ok(Some(Next { frame, shape, walk }))
     }
 }

@@ -5,6 +5,7 @@ use mathlib.Core.List.{List, [], ◌∷◌, ◌++◌, append_assoc}
 use Prim.Native.Nat.{ℕ, suc, ◌+◌, ◌*◌, ◌≤◌, ◌<◌}
 use native.Mathlib.Omega.{arith}
 use lib.Dec.{leb}
+use Rattle.std.specs.Prelude.{Option, Some, None, Result, Ok, Err}
 use lib.ListN.{length, get_or, drop, length-append, length-drop}
 use lib.Seq.{drop-drop, get_or-drop, take_at, drop_at}
 use borrow.Author.Tests.{lt-ltb, le-ltb, le-leb}
@@ -22,11 +23,11 @@ use Rattle.circuit.proofs.Exact.{Accepted, complete, accepted-size}
 use Rattle.semantics.proofs.Earlier.{accepted-early}
 use Rattle.frames.specs.declared.walk.Frame.{Frame as FrameCode}
 use Rattle.frames.specs.declared.walk.Walk.{Walk}
-use Rattle.frames.specs.declared.walk.Step.{Step}
-use Rattle.frames.specs.declared.walk.Step.TheVariants.{Next, Refused, End}
+use Rattle.frames.specs.declared.walk.Next.{Next}
+use Rattle.circuit.specs.declared.rules.Rule.{Rule}
 use Rattle.frames.specs.declared.kinds.Shape.{Shape as ShapeCode}
 use Rattle.frames.specs.Randoms.{listed_pairs}
-use Rattle.frames.specs.Walk.{kind_code, shape_code, frame_code, operands_at, behind, step_at}
+use Rattle.frames.specs.Walk.{kind_code, shape_code, frame_code, operands_at, behind, next as next_frame, step_at}
 use Rattle.frames.proofs.RandomBits.{listed-right}
 use Rattle.semantics.proofs.Solving.{nothing, gate_at, OrderedFrom}
 use Rattle.gadgets.specs.Internal.Gates.{FrameGates}
@@ -131,7 +132,7 @@ module _ {table : List ℕ} (a : AcceptedTable table) {at : ℕ} (b : Between ta
   named-whole : (x l t : ℕ) → place k x ≡ named l t → is_named (look_up (whole a) x) ≡ true
   named-whole x l t h = ap (λ (c : Circuit). is_named (look_up c x)) all-built ∙ ap (λ w. is_named (shown_by w)) (wire_kept k b.after x (named-made k x l t h)) ∙ named-told k x h
 
-  pub ended : b.after ≡ [] → step_at table a.d at ≡ End
+  pub ended : b.after ≡ [] → step_at table a.d at ≡ Ok None
   ended e = rw (le-ltb at (length table) (omega (arith, length-drop at table, ap length (b.rest ∙ ap words_of e))))
 
   module _ (f : Frame) (later : List Frame) (e : b.after ≡ f ∷ later) (fits : Fits k f.kind f.ops) (few : size k + (shape k.d f.kind).wires ≤ wire_limit) where
@@ -161,7 +162,7 @@ module _ {table : List ℕ} (a : AcceptedTable table) {at : ℕ} (b : Between ta
     ops-are : operands_at table a.d at ≡ f.ops
     ops-are = rw (word-is, kind-known kind, tail_is, take_at f.ops (words_of later) (words a.d kind) meets.2)
 
-    pub step_is : step_at table a.d at ≡ Next (frame_code (kind_code kind) f.ops) (shape_code a.d kind) (behind a.d at (words a.d kind))
+    pub step_is : step_at table a.d at ≡ Ok (Some (next_frame (frame_code (kind_code kind) f.ops) (shape_code a.d kind) (behind a.d at (words a.d kind))))
     step_is =
         let n = words a.d kind in
         let known : (leb 1 (kind_word kind) && leb (kind_word kind) 8) ≡ true = and_both _ _ (le-leb 1 (kind_word kind) meets.0) (le-leb (kind_word kind) 8 meets.1) in
@@ -220,10 +221,10 @@ module _ {table : List ℕ} (a : AcceptedTable table) {at : ℕ} (b : Between ta
         }
 
   -- what the step's answer says: a frame is met, or no frame is left; a refusal never comes
-  abbrev pub Answers : (d w from : ℕ) → Step → Type 0
-  Answers d w from (Next fr sh wk) = Met a b d w from fr sh wk
-  Answers d w from (Refused rule) = ⊥
-  Answers d w from End = b.after ≡ []
+  abbrev pub Answers : (d w from : ℕ) → Result (Option Next) Rule → Type 0
+  Answers d w from (Ok (Some n)) = Met a b d w from n.frame n.shape n.walk
+  Answers d w from (Ok None) = b.after ≡ []
+  Answers d w from (Err rule) = ⊥
 
   answers : Answers a.d (size k) (k.inputs * a.d) (step_at table a.d at)
   answers = go b.after refl fitting.1
@@ -233,5 +234,5 @@ module _ {table : List ℕ} (a : AcceptedTable table) {at : ℕ} (b : Between ta
       go (f ∷ later) e (next fits few more) = subst (Answers a.d (size k) (k.inputs * a.d)) (sym (step_is f later e fits few)) (met f later e fits few)
 
   -- with the numbers that the code has
-  pub step_answers : {d w from : ℕ} {s : Step} → d ≡ a.d → w ≡ size k → from ≡ k.inputs * a.d → step_at table d at ≡ s → Answers d w from s
+  pub step_answers : {d w from : ℕ} {s : Result (Option Next) Rule} → d ≡ a.d → w ≡ size k → from ≡ k.inputs * a.d → step_at table d at ≡ s → Answers d w from s
   step_answers {d} same w_is from_is e = rw (same, w_is, from_is) (subst (Answers a.d (size k) (k.inputs * a.d)) (sym (ap (λ n. step_at table n at) same) ∙ e) answers)

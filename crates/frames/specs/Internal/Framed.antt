@@ -1,5 +1,5 @@
 -- A frame as the walk makes it: by its form, where the table has its words.
-use Rattle.std.specs.Prelude.{cond, List, ℕ, zero, suc, leb, length}
+use Rattle.std.specs.Prelude.{cond, List, ℕ, zero, suc, leb, length, Option, Some, None}
 use Rattle.circuit.specs.Lists.{nth}
 use Rattle.frames.specs.declared.kinds.Form.{Form}
 use Rattle.frames.specs.declared.kinds.Form.TheVariants.{ShareCount, Stage, Constant, Sum, Copy, Product, Refresh, Row}
@@ -7,8 +7,6 @@ use Rattle.frames.specs.declared.walk.Gate.{Gate}
 use Rattle.frames.specs.declared.walk.Gate.TheVariants as gate
 use Rattle.frames.specs.declared.walk.Frame.{Frame}
 use Rattle.frames.specs.declared.walk.Frame.TheVariants as frame
-use Rattle.frames.specs.declared.walk.Framed.{Framed}
-use Rattle.frames.specs.declared.walk.Framed.TheVariants.{Whole, Short}
 
 -- NOT, or REG, whose wire stands a stage later
 abbrev pub gate_after : (after wire : ℕ) → Gate
@@ -27,5 +25,5 @@ frame_in Refresh ops = frame.Ref
 frame_in Row ops = frame.Gate gate.Out
 
 -- a frame of so many words, of which the table has what is left of it
-abbrev pub framed_by : Frame → (count : ℕ) (rest : List ℕ) → Framed
-framed_by fr n rest = cond (leb n (length rest)) (Whole fr) Short
+abbrev pub framed_by : Frame → (count : ℕ) (rest : List ℕ) → Option Frame
+framed_by fr n rest = cond (leb n (length rest)) (Some fr) None
