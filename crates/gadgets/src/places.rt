@@ -1,5 +1,6 @@
 // Where the wires of AND and REF stand, behind the wires before the gadget.
 ghost use Rattle.std.specs.Prelude.{◌≡◌, ◌+◌, ◌*◌, ◌/◌, ◌-◌, ◌≤◌, ◌<◌, length};
+ghost use Rattle.circuit.specs.Kinds.{pairs as pairs_of};
 ghost use Rattle.gadgets.specs.Internal.Places.{word_a, word_b, row_start, pair_site, slot_of, cross_start, pair_at, product_at, cross_at, out_at, mask_at, sum_at};
 ghost use Rattle.gadgets.specs.Internal.Frames.{Small};
 
@@ -35,8 +36,8 @@ fn pair_offset(d: usize, i: usize, j: usize) -> usize
     requires { (i < d) × (j < d) × (d ≤ 8) × (j ≡ i → ⊥) }
     ensures { (result ≡ 2 * pair_site d i j) × (result ≤ 144) }
 {
-    let low = if i < j { i } else { j };
-    let high = if i < j { j } else { i };
+    let low = i.min(j);
+    let high = i.max(j);
     twice_row_start(d, low) + 2 * (high - low) - 2
 }
 
@@ -55,38 +56,6 @@ pub fn cross_start(d: usize, i: usize) -> usize
     d * (d - 1) + 3 * d + 6 * (i * (d - 1))
 }
 
-// AND's wire r of the shares i and j; R stands behind it.
-pub fn pair_at(d: usize, first: usize, i: usize, j: usize) -> usize
-    requires { Small first d × (i < d) × (j < d) × (j ≡ i → ⊥) }
-    ensures { (result ≡ pair_at d first i j) × (result ≤ first + 144) }
-{
-    first + pair_offset(d, i, j)
-}
-
-// AND's wire B of the share i; m and M stand behind it.
-pub fn product_at(d: usize, first: usize, i: usize) -> usize
-    requires { Small first d × (i ≤ d) }
-    ensures { (result ≡ product_at d first i) × (result ≤ first + 88) }
-{
-    first + d * (d - 1) + 3 * i
-}
-
-// AND's wire u of the shares i and j; U, v, V, w and W stand behind it.
-pub fn cross_at(d: usize, first: usize, i: usize, j: usize) -> usize
-    requires { Small first d × (i < d) × (j < d) }
-    ensures { (result ≡ cross_at d first i j) × (result ≤ first + 560) }
-{
-    first + cross_start(d, i) + 6 * slot(i, j)
-}
-
-// The output of the share i.
-pub fn out_at(d: usize, first: usize, i: usize) -> usize
-    requires { Small first d × (i < d) }
-    ensures { (result ≡ out_at d first i) × (result ≤ first + 520) }
-{
-    first + cross_start(d, d) + i
-}
-
 // Where a random bit of the shares i and j stands, behind those before its gadget.
 pub fn mask_at(d: usize, first: usize, i: usize, j: usize) -> usize
     requires { Small first d × (i < d) × (j < d) }
@@ -99,22 +68,6 @@ pub fn mask_at(d: usize, first: usize, i: usize, j: usize) -> usize
         return first + row_start(d, j) + (i - j - 1);
     }
     first
-}
-
-// REF's sum of the share i.
-pub fn sum_at(d: usize, first: usize, i: usize) -> usize
-    requires { Small first d × (i ≤ d) }
-    ensures { (result ≡ sum_at d first i) × (result ≤ first + 40) }
-{
-    first + pairs(d) + i
-}
-
-// How many wires AND has.
-pub fn and_wires(d: usize) -> usize
-    requires { (0 < d) × (d ≤ 8) }
-    ensures { (result ≡ 7 * (d * (d - 1)) + 4 * d) × (result ≤ 480) }
-{
-    7 * (d * (d - 1)) + 4 * d
 }
 
 // The wires a and b of the share i, among a gadget's words.
@@ -130,4 +83,66 @@ pub fn word_b(ops: &[u16], d: usize, i: usize) -> usize
     ensures { result ≡ word_b d ops.now i }
 {
     ops[1 + d + i] as usize
+}
+
+// Where a gadget stands, AND or REF, in an accepted table.
+#[derive(Clone, Copy)]
+pub struct Gadget {
+    // the number of shares, and of pairs of them: a gadget takes so many random bits
+    pub d: usize,
+    pub pairs: usize,
+    // how many wires and random bits come before it
+    pub first: usize,
+    pub used: usize,
+    ghost small: { Small first d },
+    ghost paired: { pairs ≡ pairs_of d },
+}
+
+impl Gadget {
+    // AND's wire r of the shares i and j; R stands behind it.
+    pub fn pair_at(self, i: usize, j: usize) -> usize
+        requires { (i < self.d) × (j < self.d) × (j ≡ i → ⊥) }
+        ensures { (result ≡ pair_at self.d self.first i j) × (result ≤ self.first + 144) }
+    {
+        self.first + pair_offset(self.d, i, j)
+    }
+
+    // AND's wire B of the share i; m and M stand behind it.
+    pub fn product_at(self, i: usize) -> usize
+        requires { i ≤ self.d }
+        ensures { (result ≡ product_at self.d self.first i) × (result ≤ self.first + 88) }
+    {
+        self.first + self.d * (self.d - 1) + 3 * i
+    }
+
+    // AND's wire u of the shares i and j; U, v, V, w and W stand behind it.
+    pub fn cross_at(self, i: usize, j: usize) -> usize
+        requires { (i < self.d) × (j < self.d) }
+        ensures { (result ≡ cross_at self.d self.first i j) × (result ≤ self.first + 560) }
+    {
+        self.first + cross_start(self.d, i) + 6 * slot(i, j)
+    }
+
+    // AND's output of the share i.
+    pub fn out_at(self, i: usize) -> usize
+        requires { i < self.d }
+        ensures { (result ≡ out_at self.d self.first i) × (result ≤ self.first + 520) }
+    {
+        self.first + cross_start(self.d, self.d) + i
+    }
+
+    // How many wires AND has.
+    pub fn and_wires(self) -> usize
+        ensures { (result ≡ 7 * (self.d * (self.d - 1)) + 4 * self.d) × (result ≤ 480) }
+    {
+        7 * (self.d * (self.d - 1)) + 4 * self.d
+    }
+
+    // REF's sum of the share i.
+    pub fn sum_at(self, i: usize) -> usize
+        requires { i ≤ self.d }
+        ensures { (result ≡ sum_at self.d self.first i) × (result ≤ self.first + 40) }
+    {
+        self.first + self.pairs + i
+    }
 }

@@ -5,7 +5,7 @@ use native.Mathlib.Omega.{arith}
 use Rattle.gadgets.proofs.places.word_a.Goals as goal
 
 pub overflow_cast-result : goal.overflow_cast-result
-overflow_cast-result c = omega (arith, c.shared_slice_known-1.given (1 + c.args.i))
+overflow_cast-result c = omega (arith, c.type_inv.ops (1 + c.args.i))
 
 pub returns : goal.returns
 returns c = refl
