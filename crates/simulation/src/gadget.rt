@@ -28,10 +28,9 @@ fn share_products(values: &mut [u8], g: Gadget, ops: &[u16])
     ensures { Fills (ShareProducts g.d g.first (word_a ops.now) (word_b g.d ops.now)) (product_at g.d g.first 0) (product_at g.d g.first g.d) values.old values.new }
 {
     for i in 0..g.d {
-        let x = places::word_a(ops, i);
-        let y = places::word_b(ops, g.d, i);
-        let b = values[y];
-        let m = gate_values::m(values[x], b);
+        let a = values[places::word_a(ops, i)];
+        let b = values[places::word_b(ops, g.d, i)];
+        let m = gate_values::m(a, b);
         let at = g.product_at(i);
         values[at] = b;
         values[at + 1] = m;
@@ -205,7 +204,7 @@ pub(crate) fn refresh(values: &mut [u8], g: Gadget, ops: &[u16], tape: &[u8])
     ensures { Writes frame.Ref g ops.now tape.now values.old values.new }
 {
     // a slice of its own: the loop over frames then needs no copy of `ops` for the other frames
-    let row = &ops[0..1 + g.d];
+    let row = &ops[..1 + g.d];
     mask(values, g, row, tape);
     holds(values, g);
 }

@@ -19,7 +19,7 @@ use gadgets::places::Gadget;
 fn bit(word: u16) -> u8
     ensures { result ≡ cond (is_set word) 1 0 }
 {
-    if word < 1 { 0 } else { 1 }
+    u8::from(word != 0)
 }
 
 // The wire of a CON.
@@ -35,9 +35,7 @@ pub fn sum(values: &mut [u8], first: usize, one: u16, other: u16)
     requires { (first + 1 ≤ length values.old) × (one < first) × (other < first) }
     ensures { Fills (λ v. v first ≡ bit_xor (v one) (v other)) first (first + 1) values.old values.new }
 {
-    let x = one as usize;
-    let y = other as usize;
-    values[first] = values[x] ^ values[y];
+    values[first] = values[one as usize] ^ values[other as usize];
 }
 
 // The wire of a NOT.
@@ -45,8 +43,7 @@ pub fn inverse(values: &mut [u8], first: usize, wire: u16)
     requires { (first + 1 ≤ length values.old) × (wire < first) }
     ensures { Fills (λ v. v first ≡ bit_xor 1 (v wire)) first (first + 1) values.old values.new }
 {
-    let x = wire as usize;
-    values[first] = 1 ^ values[x];
+    values[first] = 1 ^ values[wire as usize];
 }
 
 // The wire of a REG.
@@ -54,8 +51,7 @@ fn register(values: &mut [u8], first: usize, wire: u16)
     requires { (first + 1 ≤ length values.old) × (wire < first) }
     ensures { Fills (λ v. v first ≡ v wire) first (first + 1) values.old values.new }
 {
-    let x = wire as usize;
-    values[first] = values[x];
+    values[first] = values[wire as usize];
 }
 
 // The wire of an XOR, a NOT or a REG, behind so many wires. The answer is whether the frame is one of these.
@@ -79,15 +75,15 @@ fn write_gate(values: &mut [u8], frame: Frame, first: usize) -> bool
 
 // What comes before a frame: so many wires, shares and random bits.
 #[derive(Clone, Copy)]
-struct Before {
-    first: usize,
-    from: usize,
-    used: usize,
+pub struct Before {
+    pub first: usize,
+    pub from: usize,
+    pub used: usize,
 }
 
 impl Before {
     // The same of the frame behind one of this shape, where each input has d shares.
-    fn behind(self, shape: Shape, d: usize) -> Before
+    pub fn behind(self, shape: Shape, d: usize) -> Before
         requires { (self.first + shape.wires < 2 ^ 64) × (self.from + d * shape.inputs < 2 ^ 64) × (self.used + shape.randoms < 2 ^ 64) × (shape.wires ≤ 1 → (shape.inputs ≡ 0) × (shape.randoms ≡ 0)) }
         ensures { (result.first ≡ self.first + shape.wires) × (result.from ≡ self.from + d * shape.inputs) × (result.used ≡ self.used + shape.randoms) }
     {
