@@ -126,7 +126,8 @@ fn propagate_frames(table: &[u16], list: &[Listed], count: usize, marks: &mut [u
         let from = to.saturating_sub(FRAME_BLOCK);
         let low = list[from].first as usize;
         let high = list[to].first as usize;
-        if 0 < bytes::largest(&marks[low..high]) {
+        let marked = 0 < bytes::largest(&marks[low..high]);
+        if marked {
             propagate_block(table, list, from, to, marks);
         }
         to = from;

@@ -26,21 +26,21 @@ slice_bounds-largest-start c = let s = (goal.at.slice_bounds-largest-start c).Af
 pub slice_bounds-largest-end : goal.slice_bounds-largest-end
 slice_bounds-largest-end c = let s = (goal.at.slice_bounds-largest-end c).After-saturating_sub-from in omega (arith, low s, high s)
 
-pub propagate_block-requires-then-largest-gt0 : goal.propagate_block-requires-then-largest-gt0
-propagate_block-requires-then-largest-gt0 c =
+pub propagate_block-requires-then-marked : goal.propagate_block-requires-then-marked
+propagate_block-requires-then-marked c =
     let p = c.requires in
     (lists_first p.0 c.loop-to.invariant.0, omega (arith, c.saturating_sub-from.ensures), p.1, omega (arith, p.2, c.loop-to.invariant.1.size))
 
-pub loop-to-preserved-then-largest-gt0 : goal.loop-to-preserved-then-largest-gt0
-loop-to-preserved-then-largest-gt0 c =
+pub loop-to-preserved-then-marked : goal.loop-to-preserved-then-marked
+loop-to-preserved-then-marked c =
     let (most, moves) = c.loop-to.invariant in
-    (omega (arith, c.saturating_sub-from.ensures), moves_then (rising c.requires.0 most (omega arith)) moves c.propagate_block-then-largest-gt0.ensures)
+    (omega (arith, c.saturating_sub-from.ensures), moves_then (rising c.requires.0 most (omega arith)) moves c.propagate_block-then-marked.ensures)
 
 pub loop-to-preserved : goal.loop-to-preserved
 loop-to-preserved c =
     let (most, moves) = c.loop-to.invariant in
     let s = (goal.at.loop-to-preserved c).After-saturating_sub-from in
-    (omega (arith, c.saturating_sub-from.ensures), moves_then (rising c.requires.0 most (omega arith)) moves (moves_unmarked _ _ _ (none_over c.loop-to.marks _ _ (high s) c.largest.ensures c.if-largest-gt0.false)))
+    (omega (arith, c.saturating_sub-from.ensures), moves_then (rising c.requires.0 most (omega arith)) moves (moves_unmarked _ _ _ (none_over c.loop-to.marks _ _ (high s) c.largest-marked.ensures c.if-marked.false)))
 
 pub returns : goal.returns
 returns c = let e : c.loop-to.to ≡ 0 = omega arith in moves_at (ap (first_of c.args.list.now) e ∙ none_before c.requires.0) refl c.loop-to.invariant.1
