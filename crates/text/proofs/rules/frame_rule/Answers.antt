@@ -1,11 +1,8 @@
 -- A line of the form breaks what its kind, its number of words and the room break.
-use mathlib.Core.Path.{◌≡◌, sym, ap, ◌∙◌}
-use Prim.Native.Nat.{ℕ, ◌-◌, ◌<◌}
+use mathlib.Core.Path.{sym}
 use lib.ListN.{drop}
-use Rattle.text.specs.Internal.Scan.{count_from, value_in, ruled}
-use Rattle.text.specs.Internal.Blocks.{line_rule}
+use Rattle.text.specs.Internal.Scan.{count_from}
 use Rattle.text.proofs.Scanning.{counted-word, line_count-some}
-use Rattle.text.proofs.Blocks.{frame-number}
 use Rattle.text.proofs.rules.frame_rule.Goals as goal
 
 pub value-requires : goal.value-requires

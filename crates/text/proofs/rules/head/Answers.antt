@@ -1,7 +1,6 @@
 -- Each return decides the tests of `head_by_count` before it; a first line of two words has its second.
-use mathlib.Core.Path.{◌≡◌, sym, ◌∙◌}
+use mathlib.Core.Path.{sym, ◌∙◌}
 use native.Mathlib.Omega.{arith}
-use lib.ListN.{drop}
 use Rattle.text.specs.Internal.Scan.{count_from}
 use Rattle.text.proofs.Scanning.{counted-word, second_word, line_count-some}
 use Rattle.text.proofs.Reading.{line-fits}
