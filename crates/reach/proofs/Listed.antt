@@ -15,12 +15,9 @@ use Rattle.circuit.specs.Circuit.{size, empty}
 use Rattle.circuit.specs.Composition.{Frame, build, words_of}
 use Rattle.circuit.proofs.Base.{cases}
 use Rattle.circuit.proofs.Building.{build_more, build-append}
-use Rattle.frames.specs.declared.walk.Frame.{Frame as FrameCode}
-use Rattle.frames.specs.declared.walk.Walk.{Walk}
 use Rattle.frames.specs.declared.walk.Next.{Next}
-use Rattle.circuit.specs.declared.rules.Rule.{Rule}
 use Rattle.circuit.specs.declared.rules.Rule.TheVariants.{Kind, WordCount}
-use Rattle.std.specs.Prelude.{Option, Some, None, Result, Ok, Err}
+use Rattle.std.specs.Prelude.{Some, Ok, Err}
 use Rattle.frames.specs.declared.kinds.Shape.{Shape as ShapeCode}
 use Rattle.frames.specs.Walk.{kind_code, shape_taking, frame_code, operands_at, behind, step_with}
 use Rattle.frames.proofs.KindTable.{right_step}

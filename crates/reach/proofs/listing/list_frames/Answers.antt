@@ -1,5 +1,5 @@
 -- The loop's invariant: the frames before the place are listed, and the shape is that of the kind.
-use mathlib.Core.Path.{◌≡◌, refl, sym, ap, ◌∙◌}
+use mathlib.Core.Path.{◌≡◌, refl, sym, ◌∙◌}
 use Prim.Native.Nat.{◌+◌, ◌<◌}
 use native.Mathlib.Omega.{arith}
 use lib.ListN.{length}
@@ -20,9 +20,9 @@ here c = elim c.if-table-at.branch [ then-table-at w ↦ sym w.kind-is | else-ta
 
 shaped : (c : Joined-table-at) → c.if-table-at.shape ≡ shape_taking c.random_bits-randoms.result (nth c.args.table.now 1) (kind_of c.if-table-at.kind)
 shaped c = elim c.if-table-at.branch [
-    then-table-at w ↦ rw (w.shape-is, w.kind-is) w.decide-shape-then-table-at.ensures.shaped
+  | then-table-at w ↦ rw (w.shape-is, w.kind-is) w.decide-shape-then-table-at.ensures.shaped
   | else-table-at w ↦ rw (w.shape-is, w.kind-is) c.loop-first.invariant.1
-  ]
+]
 
 decided : (c : Joined-table-at) → c.if-table-at.shape ≡ shape_taking c.random_bits-randoms.result (nth c.args.table.now 1) (kind_of (nth c.args.table.now c.loop-first.at))
 decided c = rw (here c) (shaped c)

@@ -1,7 +1,7 @@
 -- The loops' invariants: marking all random bits comes to marking those that are left, and the next one's place is known.
 use mathlib.Core.Path.{◌≡◌, refl, ap, ◌∙◌}
 use mathlib.Core.List.{map}
-use Prim.Native.Nat.{ℕ, ◌+◌, ◌-◌, ◌<◌}
+use Prim.Native.Nat.{◌+◌, ◌-◌}
 use native.Mathlib.Omega.{arith}
 use Rattle.circuit.specs.Lists.{range}
 use Rattle.gadgets.specs.Internal.Places.{mask_at}

@@ -1,6 +1,6 @@
 -- The loop's invariant: the marks of the share i and each from j on are moved on.
 use mathlib.Core.Path.{◌≡◌, refl, ap}
-use Prim.Native.Nat.{◌-◌, ◌<◌}
+use Prim.Native.Nat.{◌-◌}
 use native.Mathlib.Omega.{arith}
 use Rattle.gadgets.specs.Internal.Places.{word_a, word_b, cross_at}
 use Rattle.gadgets.proofs.Slots.{Sites, sites}

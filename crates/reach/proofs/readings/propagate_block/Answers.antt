@@ -1,6 +1,6 @@
 -- The loop's invariant: the frames from the i-th on have moved their marks on.
 use mathlib.Core.Path.{◌≡◌, refl, sym, ap, subst, ◌∙◌}
-use Prim.Native.Nat.{ℕ, ◌-◌, ◌<◌}
+use Prim.Native.Nat.{ℕ, ◌-◌}
 use native.Mathlib.Omega.{arith}
 use Rattle.std.specs.Prelude.{Ok, Some, None}
 use Rattle.std.proofs.Common.{rules}
@@ -8,7 +8,7 @@ use Rattle.circuit.specs.Kinds.{pairs}
 use Rattle.circuit.specs.Lists.{nth}
 use Rattle.frames.specs.Walk.{step_at}
 use Rattle.frames.proofs.KindTable.{right_step}
-use Rattle.gadgets.proofs.Walking.{headed, second_word, given_bits}
+use Rattle.gadgets.proofs.Walking.{headed, given_bits}
 use Rattle.reach.specs.Internal.Listing.{start_of, first_of}
 use Rattle.reach.specs.Internal.Marks.{Moves, GatesOf}
 use Rattle.reach.proofs.Moved.{moves_none}

@@ -1,7 +1,7 @@
 -- The loops' invariant: writing all bytes comes to writing those from wire x on. From `wires` on no wire is marked, so each is 2.
 use mathlib.Core.Path.{◌≡◌, subst}
 use native.Mathlib.Omega.{arith}
-use Rattle.reach.proofs.Showing.{ShownTo, shown_start, shown-next, shown_end, unmarked}
+use Rattle.reach.proofs.Showing.{ShownTo, shown-next, shown_end, unmarked}
 use Rattle.reach.proofs.readings.show.Goals as goal
 use Rattle.reach.proofs.readings.show.Goals.{At-loop-x-2}
 
