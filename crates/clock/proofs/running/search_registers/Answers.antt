@@ -1,6 +1,6 @@
 -- The loop's invariant: no register before x has a byte over 1. The clock on buffers of its own has marked the registers.
 use mathlib.Core.Path.{◌≡◌, ◌∙◌}
-use Prim.Native.Nat.{ℕ, ◌<◌}
+use Prim.Native.Nat.{ℕ}
 use native.Mathlib.Omega.{arith}
 use Rattle.std.proofs.Common.{below_more}
 use lib.ListN.{get_or-replicate}
