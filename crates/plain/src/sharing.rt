@@ -51,24 +51,22 @@ impl Places {
     {
         self.alike(table) && notes::label(notes, wire) == 0 && self.rises(table, 1, 1)
     }
-}
 
-// Whether n XORs stand from a place on, over wires in a row by their first words and by their second.
-fn run_of_sums(table: &[u16], notes: &[u16], at: usize, n: usize, wire: u16) -> bool
-    requires { (at < length table.now) × (n ≤ 8) × (1 ≤ n) }
-    ensures { result ≡ (over_row table.now notes.now at 3 n wire && rising table.now (at + 2) 3 n 1) }
-{
-    let run = Places { at, by: 3, n };
-    run.over_row(table, notes, wire) && run.rises(table, 2, 1)
-}
+    // Whether they do so by their first words and by their second, as XORs do.
+    fn over_rows(self, table: &[u16], notes: &[u16], wire: u16) -> bool
+        requires { (self.at < length table.now) × (3 ≤ self.by) }
+        ensures { result ≡ (over_row table.now notes.now self.at self.by self.n wire && rising table.now (self.at + 2) self.by self.n 1) }
+    {
+        self.over_row(table, notes, wire) && self.rises(table, 2, 1)
+    }
 
-// Whether n CONs stand from a place on, with labels from 0 on and one stage.
-fn run_of_constants(table: &[u16], at: usize, n: usize, label: u16) -> bool
-    requires { (at < length table.now) × (n ≤ 8) × (1 ≤ n) }
-    ensures { result ≡ (eqb label 0 && alike_from table.now at 4 n && rising table.now (at + 1) 4 n 1 && rising table.now (at + 3) 4 n 0) }
-{
-    let run = Places { at, by: 4, n };
-    label == 0 && run.alike(table) && run.rises(table, 1, 1) && run.rises(table, 3, 0)
+    // Whether such frames, the first of which has this label, have labels from 0 on and one stage, as CONs do.
+    fn labelled(self, table: &[u16], label: u16) -> bool
+        requires { (self.at < length table.now) × (4 ≤ self.by) }
+        ensures { result ≡ (eqb label 0 && alike_from table.now self.at self.by self.n && rising table.now (self.at + 1) self.by self.n 1 && rising table.now (self.at + 3) self.by self.n 0) }
+    {
+        label == 0 && self.alike(table) && self.rises(table, 1, 1) && self.rises(table, 3, 0)
+    }
 }
 
 // Whether a frame at a place, or the run of n frames that it begins, is as document 02 asks. (The check has asked that a row begins with
@@ -79,11 +77,13 @@ fn fits(table: &[u16], notes: &[u16], at: usize, n: usize, frame: Frame) -> bool
 {
     let row = Places { at, by: 1, n };
     let copies = Places { at, by: 2, n };
+    let sums = Places { at, by: 3, n };
+    let constants = Places { at, by: 4, n };
     match frame {
         Frame::Gate(gate) => match gate {
             Gate::In { .. } => true,
-            Gate::Con { label, .. } => run_of_constants(table, at, n, label),
-            Gate::Xor { first, .. } => run_of_sums(table, notes, at, n, first),
+            Gate::Con { label, .. } => constants.labelled(table, label),
+            Gate::Xor { first, .. } => sums.over_rows(table, notes, first),
             Gate::Not { wire } => copies.over_row(table, notes, wire),
             Gate::Reg { wire } => copies.over_row(table, notes, wire),
             Gate::Out => row.rises(table, 1, 1),

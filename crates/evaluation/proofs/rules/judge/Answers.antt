@@ -61,7 +61,7 @@ returns-then-shares-inputs c =
     let n = numbers (goal.at.returns-then-shares-inputs c).In-Ok in
     let shares = ap (λ (x : Accepted). x.inputs * nth a.table.now 1) c.in-Ok.field-0-is ∙ n.shares_are in
     let at15 = from15 a.table.now a.notes.now a.shares.now a.tape.now a.probes.now a.room n.passed in
-    judged a.table.now a.notes.now a.shares.now a.tape.now a.probes.now a.room c.check-answer.ensures.noted (ap refusal_answer c.of_call.ensures) (breaks15 a.table.now a.notes.now a.shares.now a.tape.now a.probes.now a.room at15 (λ e. c.if-shares-inputs.true (e ∙ sym shares)))
+    judged a.table.now a.notes.now a.shares.now a.tape.now a.probes.now a.room c.check-answer.ensures.noted (ap refusal_answer c.of_call.ensures) (breaks15 a.table.now a.notes.now a.shares.now a.tape.now a.probes.now a.room at15 (λ e. omega (arith, shares)))
 
 pub returns-then-tape-randoms : goal.returns-then-tape-randoms
 returns-then-tape-randoms c =
@@ -70,8 +70,8 @@ returns-then-tape-randoms c =
     let shares = ap (λ (x : Accepted). x.inputs * nth a.table.now 1) c.in-Ok.field-0-is ∙ n.shares_are in
     let randoms = ap (λ (x : Accepted). x.randoms) c.in-Ok.field-0-is ∙ n.randoms_are in
     let at15 = from15 a.table.now a.notes.now a.shares.now a.tape.now a.probes.now a.room n.passed in
-    let at16 = from16 a.table.now a.notes.now a.shares.now a.tape.now a.probes.now a.room at15 (c.if-shares-inputs.false ∙ shares) in
-    judged a.table.now a.notes.now a.shares.now a.tape.now a.probes.now a.room c.check-answer.ensures.noted (ap refusal_answer c.of_call-then-tape-randoms.ensures) (breaks16 a.table.now a.notes.now a.shares.now a.tape.now a.probes.now a.room at16 (λ e. c.if-tape-randoms.true (e ∙ sym randoms)))
+    let at16 = from16 a.table.now a.notes.now a.shares.now a.tape.now a.probes.now a.room at15 (omega (arith, shares)) in
+    judged a.table.now a.notes.now a.shares.now a.tape.now a.probes.now a.room c.check-answer.ensures.noted (ap refusal_answer c.of_call-then-tape-randoms.ensures) (breaks16 a.table.now a.notes.now a.shares.now a.tape.now a.probes.now a.room at16 (λ e. omega (arith, randoms)))
 
 pub returns-then-room-lt-WIRES : goal.returns-then-room-lt-WIRES
 returns-then-room-lt-WIRES c =
@@ -80,9 +80,9 @@ returns-then-room-lt-WIRES c =
     let shares = ap (λ (x : Accepted). x.inputs * nth a.table.now 1) c.in-Ok.field-0-is ∙ n.shares_are in
     let randoms = ap (λ (x : Accepted). x.randoms) c.in-Ok.field-0-is ∙ n.randoms_are in
     let at15 = from15 a.table.now a.notes.now a.shares.now a.tape.now a.probes.now a.room n.passed in
-    let at16 = from16 a.table.now a.notes.now a.shares.now a.tape.now a.probes.now a.room at15 (c.if-shares-inputs.false ∙ shares) in
-    let at17 = from17 a.table.now a.notes.now a.shares.now a.tape.now a.probes.now a.room at16 (c.if-tape-randoms.false ∙ randoms) in
-    judged a.table.now a.notes.now a.shares.now a.tape.now a.probes.now a.room c.check-answer.ensures.noted (ap refusal_answer c.of_call-then-room-lt-WIRES.ensures) (breaks17 a.table.now a.notes.now a.shares.now a.tape.now a.probes.now a.room at17 c.if-room-lt-WIRES.true)
+    let at16 = from16 a.table.now a.notes.now a.shares.now a.tape.now a.probes.now a.room at15 (omega (arith, shares)) in
+    let at17 = from17 a.table.now a.notes.now a.shares.now a.tape.now a.probes.now a.room at16 (omega (arith, randoms)) in
+    judged a.table.now a.notes.now a.shares.now a.tape.now a.probes.now a.room c.check-answer.ensures.noted (ap refusal_answer c.of_call-then-room-lt-WIRES.ensures) (breaks17 a.table.now a.notes.now a.shares.now a.tape.now a.probes.now a.room at17 (omega arith))
 
 pub returns-in-Some : goal.returns-in-Some
 returns-in-Some c =
@@ -91,9 +91,9 @@ returns-in-Some c =
     let shares = ap (λ (x : Accepted). x.inputs * nth a.table.now 1) c.in-Ok.field-0-is ∙ n.shares_are in
     let randoms = ap (λ (x : Accepted). x.randoms) c.in-Ok.field-0-is ∙ n.randoms_are in
     let at15 = from15 a.table.now a.notes.now a.shares.now a.tape.now a.probes.now a.room n.passed in
-    let at16 = from16 a.table.now a.notes.now a.shares.now a.tape.now a.probes.now a.room at15 (c.if-shares-inputs.false ∙ shares) in
-    let at17 = from17 a.table.now a.notes.now a.shares.now a.tape.now a.probes.now a.room at16 (c.if-tape-randoms.false ∙ randoms) in
-    let at18 = from18 a.table.now a.notes.now a.shares.now a.tape.now a.probes.now a.room at17 c.if-room-lt-WIRES.false in
+    let at16 = from16 a.table.now a.notes.now a.shares.now a.tape.now a.probes.now a.room at15 (omega (arith, shares)) in
+    let at17 = from17 a.table.now a.notes.now a.shares.now a.tape.now a.probes.now a.room at16 (omega (arith, randoms)) in
+    let at18 = from18 a.table.now a.notes.now a.shares.now a.tape.now a.probes.now a.room at17 (omega arith) in
     judged a.table.now a.notes.now a.shares.now a.tape.now a.probes.now a.room c.check-answer.ensures.noted (ap refusal_answer c.of_call-in-Some.ensures) (breaks_share a.table.now a.notes.now a.shares.now a.tape.now a.probes.now a.room c.first_over.ensures at18 c.in-Some.is)
 
 pub returns-in-Some-first_over : goal.returns-in-Some-first_over
@@ -103,9 +103,9 @@ returns-in-Some-first_over c =
     let shares = ap (λ (x : Accepted). x.inputs * nth a.table.now 1) c.in-Ok.field-0-is ∙ n.shares_are in
     let randoms = ap (λ (x : Accepted). x.randoms) c.in-Ok.field-0-is ∙ n.randoms_are in
     let at15 = from15 a.table.now a.notes.now a.shares.now a.tape.now a.probes.now a.room n.passed in
-    let at16 = from16 a.table.now a.notes.now a.shares.now a.tape.now a.probes.now a.room at15 (c.if-shares-inputs.false ∙ shares) in
-    let at17 = from17 a.table.now a.notes.now a.shares.now a.tape.now a.probes.now a.room at16 (c.if-tape-randoms.false ∙ randoms) in
-    let at18 = from18 a.table.now a.notes.now a.shares.now a.tape.now a.probes.now a.room at17 c.if-room-lt-WIRES.false in
+    let at16 = from16 a.table.now a.notes.now a.shares.now a.tape.now a.probes.now a.room at15 (omega (arith, shares)) in
+    let at17 = from17 a.table.now a.notes.now a.shares.now a.tape.now a.probes.now a.room at16 (omega (arith, randoms)) in
+    let at18 = from18 a.table.now a.notes.now a.shares.now a.tape.now a.probes.now a.room at17 (omega arith) in
     let at_tape = from_tape a.table.now a.notes.now a.shares.now a.tape.now a.probes.now a.room c.first_over.ensures at18 c.in_default-first_over.is in
     judged a.table.now a.notes.now a.shares.now a.tape.now a.probes.now a.room c.check-answer.ensures.noted (ap refusal_answer c.of_call-in-Some-first_over.ensures) (breaks_tape a.table.now a.notes.now a.shares.now a.tape.now a.probes.now a.room c.first_over-2.ensures at_tape c.in-Some-first_over.is)
 
@@ -117,9 +117,9 @@ returns-in-Some-first_missing c =
     let randoms = ap (λ (x : Accepted). x.randoms) c.in-Ok.field-0-is ∙ n.randoms_are in
     let wires = n.wires_are ∙ sym (ap (λ (x : Accepted). x.wires) c.in-Ok.field-0-is) in
     let at15 = from15 a.table.now a.notes.now a.shares.now a.tape.now a.probes.now a.room n.passed in
-    let at16 = from16 a.table.now a.notes.now a.shares.now a.tape.now a.probes.now a.room at15 (c.if-shares-inputs.false ∙ shares) in
-    let at17 = from17 a.table.now a.notes.now a.shares.now a.tape.now a.probes.now a.room at16 (c.if-tape-randoms.false ∙ randoms) in
-    let at18 = from18 a.table.now a.notes.now a.shares.now a.tape.now a.probes.now a.room at17 c.if-room-lt-WIRES.false in
+    let at16 = from16 a.table.now a.notes.now a.shares.now a.tape.now a.probes.now a.room at15 (omega (arith, shares)) in
+    let at17 = from17 a.table.now a.notes.now a.shares.now a.tape.now a.probes.now a.room at16 (omega (arith, randoms)) in
+    let at18 = from18 a.table.now a.notes.now a.shares.now a.tape.now a.probes.now a.room at17 (omega arith) in
     let at_tape = from_tape a.table.now a.notes.now a.shares.now a.tape.now a.probes.now a.room c.first_over.ensures at18 c.in_default-first_over.is in
     let at19 = from19 a.table.now a.notes.now a.shares.now a.tape.now a.probes.now a.room c.first_over-2.ensures at_tape c.in_default-first_over-2.is in
     judged a.table.now a.notes.now a.shares.now a.tape.now a.probes.now a.room c.check-answer.ensures.noted (ap refusal_answer c.of_call-in-Some-first_missing.ensures) (breaks19 a.table.now a.notes.now a.shares.now a.tape.now a.probes.now a.room c.first_missing.ensures wires at19 c.in-Some-first_missing.is)
@@ -132,9 +132,9 @@ returns c =
     let randoms = ap (λ (x : Accepted). x.randoms) c.in-Ok.field-0-is ∙ n.randoms_are in
     let wires = n.wires_are ∙ sym (ap (λ (x : Accepted). x.wires) c.in-Ok.field-0-is) in
     let at15 = from15 a.table.now a.notes.now a.shares.now a.tape.now a.probes.now a.room n.passed in
-    let at16 = from16 a.table.now a.notes.now a.shares.now a.tape.now a.probes.now a.room at15 (c.if-shares-inputs.false ∙ shares) in
-    let at17 = from17 a.table.now a.notes.now a.shares.now a.tape.now a.probes.now a.room at16 (c.if-tape-randoms.false ∙ randoms) in
-    let at18 = from18 a.table.now a.notes.now a.shares.now a.tape.now a.probes.now a.room at17 c.if-room-lt-WIRES.false in
+    let at16 = from16 a.table.now a.notes.now a.shares.now a.tape.now a.probes.now a.room at15 (omega (arith, shares)) in
+    let at17 = from17 a.table.now a.notes.now a.shares.now a.tape.now a.probes.now a.room at16 (omega (arith, randoms)) in
+    let at18 = from18 a.table.now a.notes.now a.shares.now a.tape.now a.probes.now a.room at17 (omega arith) in
     let at_tape = from_tape a.table.now a.notes.now a.shares.now a.tape.now a.probes.now a.room c.first_over.ensures at18 c.in_default-first_over.is in
     let at19 = from19 a.table.now a.notes.now a.shares.now a.tape.now a.probes.now a.room c.first_over-2.ensures at_tape c.in_default-first_over-2.is in
     judged a.table.now a.notes.now a.shares.now a.tape.now a.probes.now a.room c.check-answer.ensures.noted (c.check-answer.ensures.answered ∙ ap (answer (circuit_of a.table.now a.notes.now)) n.passed) (passes a.table.now a.notes.now a.shares.now a.tape.now a.probes.now a.room c.first_missing.ensures wires at19 c.in_default-first_missing.is)

@@ -1,5 +1,4 @@
 -- The loop's invariant: the words before the i-th are on step.
-use mathlib.Core.Path.{◌≡◌}
 use Prim.Native.Nat.{ℕ, ◌<◌}
 use Rattle.plain.proofs.Rising.{OnStep}
 use Rattle.plain.proofs.sharing.Places.rises.Given as goal
