@@ -3,17 +3,19 @@ use mathlib.Core.Path.{◌≡◌, refl, ap, sym, ◌∙◌}
 use Prim.Native.Nat.{◌+◌, ◌*◌, ◌≤◌}
 use native.Mathlib.Omega.{arith}
 use lib.ListN.{length}
-use Rattle.std.specs.Prelude.{Ok}
+use Rattle.std.specs.Prelude.{Some, Ok}
 use Rattle.std.proofs.lemmas.List.{take_rest}
 use Rattle.circuit.specs.Limits.{wire_limit}
 use Rattle.circuit.specs.Lists.{nth}
+use Rattle.frames.specs.declared.walk.Next.{Next}
 use Rattle.frames.specs.Walk.{operands_at}
 use Rattle.gadgets.proofs.Walking.{second_word, given_bits, Met}
 use Rattle.simulation.proofs.Walked.{inputs_in, draws_in}
+use Rattle.symbolic.specs.Internal.Expanding.{Expanded}
 use Rattle.symbolic.proofs.Expanding.{expanded_start, stepped, none_met, expanded-next, all-expanded}
 use Rattle.symbolic.proofs.Making.{frame_asks, frame_made}
 use Rattle.symbolic.proofs.expand.expand.Goals as goal
-use Rattle.symbolic.proofs.expand.expand.Goals.{After-operands-ops, In-Ok-Some}
+use Rattle.symbolic.proofs.expand.expand.Goals.{After-operands-ops, After-step, In-Ok-Some}
 
 -- the frame that is met
 met : (c : In-Ok-Some) → let l = c.loop-next in let t = l.invariant.here.walked in let n = c.in-Ok-Some.next in
@@ -31,6 +33,13 @@ record Counts (c : In-Ok-Some) : Type 0 where
 
 counts : (c : In-Ok-Some) → Counts c
 counts c = let f = c.loop-next.invariant.here.walked in record { wires = (met c).few; shares = inputs_in f (second_word f.evaluable.accepted) (met c); randoms = draws_in f (second_word f.evaluable.accepted) (met c) }
+
+-- no frame is left
+ended : (c : After-step) → ((n : Next) → c.step.result ≡ Ok (Some n) → ⊥) → let l = c.loop-next in
+    Expanded c.args.table.now c.args.shares.now c.args.tape.now c.args.read.now (length c.args.read.now) l.sums l.terms l.outputs
+ended c none =
+    let i = c.loop-next.invariant in
+    all-expanded i.here (none_met i.here _ i.same c.random_bits-randoms.ensures.0 c.step.ensures none) c.requires.1 c.requires.6
 
 pub loop-next-init : goal.loop-next-init
 loop-next-init c = let p = c.requires in record { same = refl; here = rw p.7 (expanded_start p.0) }
@@ -86,11 +95,7 @@ loop-next-preserved c =
     }
 
 pub returns-in_default : goal.returns-in_default
-returns-in_default c =
-    let i = c.loop-next.invariant in
-    all-expanded i.here (none_met i.here _ i.same c.random_bits-randoms.ensures.0 c.step.ensures (λ n e. cc)) c.requires.1 c.requires.6
+returns-in_default c = ended (goal.at.returns-in_default c).After-step (λ n e. cc)
 
 pub returns-in_default-2 : goal.returns-in_default-2
-returns-in_default-2 c =
-    let i = c.loop-next.invariant in
-    all-expanded i.here (none_met i.here _ i.same c.random_bits-randoms.ensures.0 c.step.ensures (λ n e. cc)) c.requires.1 c.requires.6
+returns-in_default-2 c = ended (goal.at.returns-in_default-2 c).After-step (λ n e. cc)
