@@ -1,16 +1,17 @@
 // AND and REF by sums of variables: each output of AND is a product of two sums with a third added, and so is each wire inside it that
 // is read; the product is a variable of its own. What REF makes are sums.
-ghost use Rattle.std.specs.Prelude.{◌≡◌, cond, ℕ, ◌+◌, ◌*◌, ◌^◌, ◌≤◌, ◌<◌, eqb, length, set};
+ghost use Rattle.std.specs.Prelude.{◌≡◌, ℕ, ◌+◌, ◌^◌, ◌≤◌, ◌<◌, length, set};
 ghost use Rattle.std.specs.Int.Bits.{bit_xor};
 ghost use Rattle.circuit.specs.Lists.{nth, range};
 ghost use Rattle.circuit.specs.Gadgets.{others};
-ghost use Rattle.circuit.specs.Kinds.{pairs};
-ghost use Rattle.gadgets.specs.Internal.Places.{word_a, word_b, mask_at, cross_start};
-ghost use Rattle.gadgets.specs.Internal.Frames.{Small};
+ghost use Rattle.gadgets.specs.Internal.Places.{word_a, word_b, mask_at};
 ghost use Rattle.simulation.specs.Internal.Filling.{word_sum};
-ghost use Rattle.symbolic.specs.Internal.Terms.{alone, times, product_term, cross_term, share_at, inner_term, sum_with, with_term, AndAsks, RefAsks, read_sums, read_terms, ReadsInside, WritesOutputs, Refreshes};
+ghost use Rattle.symbolic.specs.Internal.Inside.{WireOf};
+ghost use Rattle.symbolic.specs.Internal.Terms.{alone, times, wire_term, sum_with, with_term, Drawn, AndAsks, RefAsks, read_sums, read_terms, ReadsInside, WritesOutputs, Refreshes};
 
 use super::expand::ONE;
+use super::offsets;
+use super::offsets::Inner;
 use gadgets::equations::Factors;
 use gadgets::places::Gadget;
 use gadgets::{equations, places};
@@ -70,25 +71,24 @@ fn share_b(sums: &[u64], ops: &[u16], d: usize, i: usize) -> u64
     sums[places::word_b(ops, d, i)]
 }
 
-// A sum, with a gadget's random bit of the shares i and j added, where they are two.
-fn add_mask(tape: &[u64], gadget: Gadget, i: usize, j: usize, sum: u64) -> u64
-    requires { (gadget.used ≤ 16) × (i < gadget.d) × (j < gadget.d) × (gadget.used + pairs gadget.d ≤ length tape.now) }
-    ensures { result ≡ cond (eqb i j) sum (bit_xor sum (nth tape.now (mask_at gadget.d gadget.used i j))) }
+// A gadget's random bit of two shares, as the sum that it is.
+fn mask(tape: &[u64], gadget: Gadget, i: usize, j: usize) -> u64
+    requires { Drawn gadget.d gadget.used (length tape.now) × (i < gadget.d) × (j < gadget.d) × (j ≡ i → ⊥) }
+    ensures { result ≡ nth tape.now (mask_at gadget.d gadget.used i j) }
 {
-    if i == j {
-        return sum;
-    }
-    sum ^ tape[places::mask_at(gadget.d, gadget.used, i, j)]
+    tape[places::mask_at(gadget.d, gadget.used, i, j)]
 }
 
 // A sum, with a gadget's random bits of the share i and each other added.
 fn add_masks(tape: &[u64], gadget: Gadget, i: usize, sum: u64) -> u64
-    requires { (gadget.used ≤ 16) × (i < gadget.d) × (gadget.used + pairs gadget.d ≤ length tape.now) }
+    requires { Drawn gadget.d gadget.used (length tape.now) × (i < gadget.d) }
     ensures { result ≡ bit_xor sum (word_sum (others gadget.d i) (λ j. nth tape.now (mask_at gadget.d gadget.used i j))) }
 {
     let mut all = sum;
     for j in 0..gadget.d {
-        all = add_mask(tape, gadget, i, j, all);
+        if j != i {
+            all = all ^ mask(tape, gadget, i, j);
+        }
     }
     all
 }
@@ -105,60 +105,29 @@ fn add_row(sums: &[u64], ops: &[u16], d: usize) -> u64
     all
 }
 
-// B, m or M, from the sums that a and b are.
-fn product_term(a: u64, b: u64, part: usize) -> Term
-    ensures { result ≡ product_term a b part }
-{
-    if part < 1 {
-        return Term::alone(b);
-    }
-    Term::times(equations::m(a, b))
-}
-
-// u, U, v, V, w or W, from the sums that a, b and r are.
-fn cross_term(a: u64, b: u64, r: u64, part: usize) -> Term
-    ensures { result ≡ cross_term a b r part }
-{
-    if part < 2 {
-        return Term::times(equations::u(ONE, a, r));
-    }
-    let v = equations::v(b, r);
-    if part < 4 {
-        return Term::alone(v);
-    }
-    Term::times(equations::w(a, v))
-}
-
-// The share at a place among those other than i.
-fn share_at(i: usize, slot: usize) -> usize
-    requires { slot < 8 }
-    ensures { result ≡ share_at i slot }
-{
-    if i <= slot { slot + 1 } else { slot }
-}
-
-// The wire that stands so far behind AND's first, of those inside.
-fn inner_term(sums: &[u64], gadget: Gadget, ops: &[u16], tape: &[u64], offset: usize) -> Term
-    requires { AndAsks gadget.d gadget.first ops.now (length sums.now) (length tape.now) gadget.used × (offset < cross_start gadget.d gadget.d) }
-    ensures { result ≡ inner_term gadget.d ops.now sums.now tape.now gadget.used offset }
+// A wire inside AND.
+fn wire_term(sums: &[u64], gadget: Gadget, ops: &[u16], tape: &[u64], wire: Inner) -> Term
+    requires { AndAsks gadget.d gadget.first ops.now (length sums.now) (length tape.now) gadget.used × WireOf gadget.d wire }
+    ensures { result ≡ wire_term gadget.d ops.now sums.now tape.now gadget.used wire }
 {
     let d = gadget.d;
-    let masks = d * (d - 1);
-    if offset < masks {
-        return Term::alone(tape[gadget.used + offset / 2]);
+    match wire {
+        Inner::R { pair } => Term::alone(tape[gadget.used + pair]),
+        Inner::B { i } => Term::alone(share_b(sums, ops, d, i)),
+        Inner::M { i } => {
+            Term::times(equations::m(share_a(sums, ops, i), share_b(sums, ops, d, i)))
+        }
+        Inner::U { i, j } => {
+            Term::times(equations::u(ONE, share_a(sums, ops, i), mask(tape, gadget, i, j)))
+        }
+        Inner::V { i, j } => {
+            Term::alone(equations::v(share_b(sums, ops, d, j), mask(tape, gadget, i, j)))
+        }
+        Inner::W { i, j } => {
+            let v = equations::v(share_b(sums, ops, d, j), mask(tape, gadget, i, j));
+            Term::times(equations::w(share_a(sums, ops, i), v))
+        }
     }
-    let crosses = masks + 3 * d;
-    if offset < crosses {
-        let rest = offset - masks;
-        let i = rest / 3;
-        return product_term(share_a(sums, ops, i), share_b(sums, ops, d, i), rest % 3);
-    }
-    let row = 6 * (d - 1);
-    let i = (offset - crosses) / row;
-    let rest = (offset - crosses) % row;
-    let j = share_at(i, rest / 6);
-    let r = tape[places::mask_at(d, gadget.used, i, j)];
-    cross_term(share_a(sums, ops, i), share_b(sums, ops, d, j), r, rest % 6)
 }
 
 // A wire that is a term: its product is a variable, of a place on the list of terms.
@@ -191,7 +160,8 @@ fn read_one(
     if places::cross_start(gadget.d, gadget.d) <= offset {
         return;
     }
-    let term = inner_term(sums, gadget, ops, tape, offset);
+    let inner = offsets::inner_at(gadget.d, offset);
+    let term = wire_term(sums, gadget, ops, tape, inner);
     write_term(sums, terms, wire, 32 + n, term);
 }
 
