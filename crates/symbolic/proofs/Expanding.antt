@@ -17,14 +17,12 @@ use Rattle.frames.specs.declared.walk.Frame.{Frame as FrameCode}
 use Rattle.frames.specs.declared.walk.Next.{Next}
 use Rattle.frames.specs.declared.walk.Walk.{Walk}
 use Rattle.frames.specs.declared.kinds.Shape.{Shape as ShapeCode}
-use Rattle.frames.specs.Randoms.{listed_pairs}
-use Rattle.frames.specs.Walk.{shape_taking, operands_at, step_with, step_at}
-use Rattle.frames.proofs.KindTable.{right_step}
-use Rattle.gadgets.proofs.Walking.{whole, whole_ordered, randoms-grow, given_bits, Met, Answers}
+use Rattle.frames.specs.Walk.{operands_at}
+use Rattle.gadgets.proofs.Walking.{whole, whole_ordered, randoms-grow, Met, Answers}
 use Rattle.simulation.specs.Internal.Filling.{Values, FrameValues}
 use Rattle.simulation.specs.Internal.Evaluating.{packed, Evaluable}
 use Rattle.simulation.specs.Internal.Walked.{WalkedTo, values_at}
-use Rattle.simulation.proofs.Walked.{walked_start, walked-answers, rank_is, frame-within, walked_next, walked_all}
+use Rattle.simulation.proofs.Walked.{walked_start, rank_is, frame-within, walked_next, walked_all}
 use Rattle.simulation.proofs.Equations.{frame-values}
 use Rattle.symbolic.specs.declared.gadget.Term.{Term}
 use Rattle.symbolic.specs.Internal.Sums.{added, Before}
@@ -81,15 +79,11 @@ module _ {room : ℕ} {table shares tape read : List ℕ} {found : ℕ} {sums te
   abbrev k : Circuit
   k = whole a
 
-  -- what the walk's step answers at the place
-  pub stepped : {d randoms : ℕ} {s s' : Result (Option Next) Rule} → d ≡ nth table 1 → randoms ≡ listed_pairs (nth table 1) → s ≡ step_with (shape_taking randoms d) table d place → s ≡ s' → Answers a t.walked.between (nth table 1) w from s'
-  stepped {d} {randoms} same bits e is = walked-answers t.walked (ap (λ n. step_at table n place) (sym same) ∙ sym (right_step table randoms d place e (given_bits a bits same)) ∙ is)
-
   -- no frame: none is left
-  pub none_met : {d randoms : ℕ} (s : Result (Option Next) Rule) → d ≡ nth table 1 → randoms ≡ listed_pairs (nth table 1) → s ≡ step_with (shape_taking randoms d) table d place → ((n : Next) → s ≡ Ok (Some n) → ⊥) → t.walked.between.after ≡ []
-  none_met (Ok (Some n)) same bits e h = absurd (h n refl)
-  none_met (Ok None) same bits e h = stepped same bits e refl
-  none_met (Err rule) same bits e h = absurd (stepped same bits e refl)
+  pub none_met : (s : Result (Option Next) Rule) → Answers a t.walked.between (nth table 1) w from s → ((n : Next) → s ≡ Ok (Some n) → ⊥) → t.walked.between.after ≡ []
+  none_met (Ok (Some n)) h none = absurd (none n refl)
+  none_met (Ok None) h none = h
+  none_met (Err rule) h none = absurd h
 
   -- words of variables that are right behind a frame are right before it
   pub earlier : {terms' : List ℕ} {r w' : ℕ} (f : Values) → outputs ≤ r → w ≤ w' → ((n : ℕ) → n < outputs → term_at terms' n ≡ term_at terms n) → ((i : ℕ) → i < found → nth read i < w → term_at terms' (32 + i) ≡ term_at terms (32 + i))

@@ -12,6 +12,7 @@ use super::gadget;
 use frames::randoms::random_bits;
 use frames::walk::{Frame, Gate, Walk};
 use gadgets::places::Gadget;
+use simulation::values::Before;
 
 // The sum that is 1.
 pub const ONE: u64 = 0x2_0000;
@@ -112,33 +113,26 @@ pub fn expand(
     let n = d as usize;
     let randoms = random_bits(d);
     let mut walk = Walk { d, at: 2 };
-    let mut first = 0;
-    let mut from = 0;
-    let mut used = 0;
+    let mut before = Before {
+        first: 0,
+        from: 0,
+        used: 0,
+    };
     let mut outputs = 0;
-    // (a frame has as many words as its kind says, so the walk goes on by steps of many lengths)
+    // a walk's step goes over as many words as the frame has
     while let Ok(Some(next)) = walk.step(table, randoms) {
         let ops = walk.operands(table);
         let place = Gadget {
             d: n,
             pairs: randoms as usize,
-            first,
-            used,
+            first: before.first,
+            used: before.used,
         };
+        let given = &shares[before.from..];
         outputs = write_frame(
-            sums,
-            terms,
-            next.frame,
-            place,
-            ops,
-            &shares[from..],
-            tape,
-            read,
-            outputs,
+            sums, terms, next.frame, place, ops, given, tape, read, outputs,
         );
-        first += next.shape.wires;
-        from += n * next.shape.inputs;
-        used += next.shape.randoms;
+        before = before.behind(next.shape, n);
         walk = next.walk;
     }
     outputs
