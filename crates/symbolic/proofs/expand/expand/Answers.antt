@@ -79,9 +79,6 @@ behind-before-requires c =
     let s = counts h.In-Ok-Some in
     (omega (arith, s.wires), omega (arith, s.shares, c.well_formed), omega (arith, s.randoms, c.requires.1), (met h.In-Ok-Some).few_takes)
 
-pub loop-next-smaller : goal.loop-next-smaller
-loop-next-smaller c = let m = met (goal.at.loop-next-smaller c).In-Ok-Some in omega (arith, m.later, m.onward.most)
-
 pub loop-next-preserved : goal.loop-next-preserved
 loop-next-preserved c =
     let h = goal.at.loop-next-preserved c in
