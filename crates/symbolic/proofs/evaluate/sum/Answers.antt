@@ -24,7 +24,7 @@ loop-rest-preserved c =
     let i = c.loop-rest.invariant in
     let h = goal.at.loop-rest-preserved c in
     let e = c.add-all.ensures in
-    let r = c.read_four.ensures in
+    let r = c.variable_words.ensures in
     record {
       most = omega (arith, less h.In-loop-rest);
       a = added_next i.a (next h.In-loop-rest _) e.0 r.0;
