@@ -60,11 +60,10 @@ fn read_frames(
             });
         }
         let words = block.words(taken);
-        let end = stored + words.len();
-        table[stored..end].copy_from_slice(words);
+        line::store(words, table, stored);
         text = &text[5 * words.len()..];
         line += taken;
-        stored = end;
+        stored += words.len();
     }
     Ok(stored)
 }

@@ -1,5 +1,6 @@
 // The lines of the text, one by one and a block at a time.
-ghost use Rattle.std.specs.Prelude.{◌≡◌, ◌≤◌, ◌<◌, take};
+ghost use Rattle.std.specs.Prelude.{◌≡◌, ◌+◌, ◌≤◌, ◌<◌, length, take};
+ghost use Rattle.std.proofs.Math.Seq.{paste};
 ghost use Rattle.text.specs.Internal.Scan.{count_from, line_count};
 ghost use Rattle.text.specs.Internal.Blocks.{Lines, start_of, Split, Taken};
 
@@ -88,5 +89,15 @@ impl Block {
         ensures { result.now ≡ take (start_of self.now.ends lines) self.now.words }
     {
         &self.words[..self.ends[lines - 1] as usize]
+    }
+}
+
+// Words stored in the table, from one of its words on. The table is written by index, as everywhere.
+pub(crate) fn store(words: &[u16], table: &mut [u16], from: usize)
+    requires { from + length words.now ≤ length table.old }
+    ensures { table.new ≡ paste table.old from words.now (length words.now) }
+{
+    for (i, word) in words.iter().enumerate() {
+        table[from + i] = *word;
     }
 }

@@ -6,9 +6,7 @@ use lib.ListN.{length, drop, length-drop, length-take}
 use lib.Seq.{paste, take-take, length-take-le}
 use borrow.Author.Rules.{rules}
 use borrow.Author.Tests.{eqb-true, eqb-false}
-use borrow.Rule.Slice.PartMut.{put_mid}
 use Rattle.std.proofs.lemmas.List.{take_rest}
-use Rattle.std.proofs.lemmas.Slice.{put_mid-paste}
 use Rattle.std.specs.Prelude.{Result, Ok, Err, ⊤, IsErr}
 use Rattle.circuit.specs.declared.rules.Rule.{Rule}
 use Rattle.circuit.specs.Refusals.{number_of}
@@ -88,11 +86,10 @@ loop-text-preserved c =
     let block = c.split.new.self.words in
     let k = start_of c.split.new.self.ends c.taken-taken.result in
     let next = turn l.invariant.progress c.requires.0 c.split.ensures (told (goal.at.loop-text-preserved c).After-taken-taken) in
-    let table : put_mid l.stored (l.stored + length w - l.stored) l.table c.copy_from_slice.new.self ≡ paste l.table l.stored block k
-    = put_mid-paste l.stored (l.stored + length w - l.stored) l.table c.copy_from_slice.new.self w (length w) c.copy_from_slice.ensures.after (omega arith) refl
-    ∙ rw (n.count, c.words-words.ensures, take-take k k block (omega arith)) in
+    let table : paste l.table l.stored w (length w) ≡ paste l.table l.stored block k
+    = rw (n.count, c.words-words.ensures, take-take k k block (omega arith)) in
     record {
-      progress = rw (table, take_rest, n.count) next;
+      progress = rw (c.store.ensures, table, take_rest, n.count) next;
       lines = omega (arith, l.invariant.lines, n.some, n.within, length-drop (5 * length w) l.text.now, length-take (length l.text.now - 5 * length w) (drop (5 * length w) l.text.now));
     }
 
@@ -102,8 +99,11 @@ slice_bounds-text-start c = let h = (numbers (goal.at.slice_bounds-text-start c)
 pub slice_bounds-text-count : goal.slice_bounds-text-count
 slice_bounds-text-count c = (numbers (goal.at.slice_bounds-text-count c).After-words-words).within
 
-pub slice_bounds-copy_from_slice-end : goal.slice_bounds-copy_from_slice-end
-slice_bounds-copy_from_slice-end c = let h = (numbers (goal.at.slice_bounds-copy_from_slice-end c).After-words-words).room in search rules
+pub store-requires : goal.store-requires
+store-requires c = (numbers (goal.at.store-requires c).After-words-words).room
+
+pub overflow_add-stored : goal.overflow_add-stored
+overflow_add-stored c = omega (arith, (numbers (goal.at.overflow_add-stored c).After-words-words).room)
 
 pub returns-then-taken-eq0 : goal.returns-then-taken-eq0
 returns-then-taken-eq0 c =
