@@ -23,10 +23,6 @@ use Rattle.text.proofs.Hex.{coded_value, coded_mark}
 pub start_next : (ends : List ℕ) (g : ℕ) → start_of ends (g + 1) ≡ get_or ends g 0
 start_next ends g = let e : g + 1 ≡ suc g = omega arith in rw e
 
-pub start_last : (ends : List ℕ) (g : ℕ) → 0 < g → start_of ends g ≡ get_or ends (g - 1) 0
-start_last ends zero h = absurd (omega arith)
-start_last ends (suc g) h = let e : suc g - 1 ≡ g = omega arith in rw e
-
 start_set : (ends : List ℕ) (lines v g : ℕ) → g ≤ lines → start_of (set ends lines v) g ≡ start_of ends g
 start_set ends lines v zero h = refl
 start_set ends lines v (suc g) h = get_or-set_other ends lines g v 0 (λ e. omega arith)
@@ -39,16 +35,6 @@ pub record Cut (bytes block ends : List ℕ) (lines k : ℕ) : Type 0 where
   pub whole : (g : ℕ) → g < lines → Whole bytes ends k g
   pub values : (j : ℕ) → j < k → get_or block j 0 ≡ value_in (drop (5 * j) bytes)
   pub count : count_from 1 (drop (5 * start_of ends lines) bytes) ≡ count_from (k - start_of ends lines + 1) (drop (5 * k) bytes)
-
-pub cut_start : (bytes block ends : List ℕ) → Cut bytes block ends 0 0
-cut_start bytes block ends = record {
-  held = omega arith;
-  few = omega arith;
-  reached = omega arith;
-  whole = λ g h. absurd (omega arith);
-  values = λ j h. absurd (omega arith);
-  count = refl;
-}
 
 module _ {bytes block ends : List ℕ} {lines k high low mark : ℕ} (p : Cut bytes block ends lines k)
     (fits : k < length block) (room : lines < length ends) (w : Coded (drop (5 * k) bytes) high low mark) (is : is_word (drop (5 * k) bytes) ≡ true) where

@@ -15,10 +15,9 @@ use Rattle.circuit.proofs.Base.{and_left, and_right}
 use Rattle.text.specs.Lines.{lines_of}
 use Rattle.text.specs.Reader.{Read, frame_lines, read_text, room_rule}
 use Rattle.text.specs.Answer.{table_after}
-use Rattle.text.specs.Internal.Scan.{is_word, value_in, count_from, words_at, limit_of, head_by_count, frame_by_count}
+use Rattle.text.specs.Internal.Scan.{value_in, count_from, words_at, limit_of, head_by_count, frame_by_count}
 use Rattle.circuit.proofs.Judging.{then_pass, need-pass, need_then}
 use Rattle.text.specs.Internal.Blocks.{rest_read}
-use Rattle.text.proofs.Scanning.{second_word}
 use Rattle.text.proofs.Reading.{stop, frame-line, head_line, line-fits}
 
 -- at the head of the loop: what is read is found from here on, and the table is touched only up to `stored`
@@ -107,9 +106,6 @@ module _ (text table : List ℕ) (room : ℕ) (e : pass ≡ head_here text room)
 
   pub head_fits : (10 ≤ length text) × (2 ≤ room)
   head_fits = (omega (arith, headed, line-fits text), omega (arith, headed, (room_passes room 0 count parts.1).0))
-
-  pub head_word_lem : is_word (drop 5 text) ≡ true
-  head_word_lem = second_word text (omega (arith, head_fits)) headed.0
 
   -- what is read is found behind the first line, whose words the table has
   pub start : (d : ℕ) → d ≡ value_in (drop 5 text) → length table ≡ room

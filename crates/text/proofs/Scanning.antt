@@ -9,7 +9,7 @@ use lib.ListN.{length, get_or, drop, length-drop}
 use borrow.Author.Tests.{leb-true, leb-false, le-leb, lt-leb}
 use Rattle.circuit.proofs.Base.{cases}
 use Rattle.circuit.proofs.Sizes.{words-AND, words-REF, words-OUT}
-use Rattle.std.specs.Prelude.{Some, None}
+use Rattle.std.specs.Prelude.{Some}
 use Rattle.circuit.specs.Limits.{table_limit}
 use Rattle.circuit.specs.Circuit.{empty}
 use Rattle.circuit.specs.Kinds.{Kind, HEAD, IN, CON, XOR, NOT, REG, AND, REF, OUT, share_count, shape, kind_of, words}
@@ -79,10 +79,6 @@ line_count-some (suc n) k h = (cc, omega arith)
 
 pub line_count_more : (n : ℕ) → line_count (n + 1) ≡ Some (n + 1)
 line_count_more n = let e : n + 1 ≡ suc n = omega arith in rw e
-
-pub line_count-none : (n : ℕ) → line_count n ≡ None → n ≡ 0
-line_count-none zero h = refl
-line_count-none (suc n) h = let z : ◌≡◌ {A = ℕ} 0 1 = cc in absurd (omega arith)
 
 -- a kind's number of words
 pub words-most : (d : ℕ) (kind : Kind) → words d kind ≤ 3 + d + d
