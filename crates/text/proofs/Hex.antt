@@ -19,9 +19,9 @@ digit-small b h = cases (is_decimal b)
     let l = leb-true b 70 (and_right (leb 65 b) (leb b 70) k) in rw e (omega arith))
 
 -- the codes of a byte
-pub digit-most : (b : ℕ) → digit_code b ≤ 4096
+pub digit_most : (b : ℕ) → digit_code b ≤ 4096
 unfolding digit_code
-digit-most b = cases (is_digit b) (λ e. rw e (omega (arith, digit-small b e))) (λ e. rw e (omega arith))
+digit_most b = cases (is_digit b) (λ e. rw e (omega (arith, digit-small b e))) (λ e. rw e (omega arith))
 
 pub feed_most : (b : ℕ) → feed_of b ≤ 1
 feed_most b = cases (eqb b line_feed) (λ e. rw e (omega arith)) (λ e. rw e (omega arith))
@@ -100,7 +100,7 @@ pub word_test : (l : List ℕ) (i : ℕ) → i + 5 ≤ length l
 unfolding is_word
 word_test l i h = rw (five l i h)
 
-word_long : (bytes : List ℕ) → is_word bytes ≡ true → 5 ≤ length bytes
+pub word_long : (bytes : List ℕ) → is_word bytes ≡ true → 5 ≤ length bytes
 unfolding is_word
 word_long [] h = absurd (false≢true h)
 word_long (a ∷ []) h = absurd (false≢true h)
@@ -128,16 +128,16 @@ module _ (l : List ℕ) (i : ℕ) (h : is_word (drop i l) ≡ true) where
   unfolding value_in
   word_value_lem = rw (five l i word-inside)
 
--- the codes at a place: the test tells whether they are a word's, and a word's give its value and whether the line ends
-module _ {l : List ℕ} {i high low mark : ℕ} (k : Coded l i high low mark) where
-  pub coded_word : leb (high + low + mark) 511 ≡ is_word (drop i l)
-  coded_word = rw (k.first, k.second, k.behind) (sum-of_codes _ _ _ _ _ ∙ sym (word_test l i k.inside))
+-- the codes of five bytes: the test tells whether they are a word's, and a word's give its value and whether the line ends
+module _ {bytes : List ℕ} {high low mark : ℕ} (k : Coded bytes high low mark) where
+  pub coded_word : leb (high + low + mark) 511 ≡ is_word bytes
+  coded_word = rw (k.first, k.second, k.behind) (sum-of_codes _ _ _ _ _ ∙ sym (word_test bytes 0 k.inside))
 
-  pub coded_value : is_word (drop i l) ≡ true → (high ≤ 255) × (low ≤ 255) × (high * 256 + low ≡ value_in (drop i l))
+  pub coded_value : is_word bytes ≡ true → (high ≤ 255) × (low ≤ 255) × (high * 256 + low ≡ value_in bytes)
   coded_value h =
-      let p = pair_value (word-digits l i h).first (word-digits l i h).second in
-      let q = pair_value (word-digits l i h).third (word-digits l i h).last in
-      (omega arith, omega arith, omega (arith, word_value_lem l i h))
+      let p = pair_value (word-digits bytes 0 h).first (word-digits bytes 0 h).second in
+      let q = pair_value (word-digits bytes 0 h).third (word-digits bytes 0 h).last in
+      (omega arith, omega arith, omega (arith, word_value_lem bytes 0 h))
 
-  pub coded_mark : is_word (drop i l) ≡ true → mark ≡ feed_of (get_or l (i + 4) 0)
-  coded_mark h = k.behind ∙ word_mark l i h
+  pub coded_mark : is_word bytes ≡ true → mark ≡ feed_of (get_or bytes 4 0)
+  coded_mark h = k.behind ∙ word_mark bytes 0 h

@@ -1,36 +1,36 @@
 -- The loop over the lines: what holds at its head, its turn, and its ends.
-use mathlib.Core.Path.{◌≡◌, sym, ap, ◌∙◌}
+use mathlib.Core.Path.{◌≡◌, refl, sym, ap, ◌∙◌}
 use mathlib.Core.Bool.{true, ◌&&◌}
 use mathlib.Core.List.{List, [], ◌∷◌}
-use Prim.Native.Nat.{ℕ, suc, ◌+◌, ◌≤◌, ◌<◌}
+use Prim.Native.Nat.{ℕ, suc, ◌+◌, ◌-◌, ◌≤◌, ◌<◌}
 use native.Mathlib.Omega.{arith}
 use lib.Dec.{leb, ltb, eqb}
-use lib.ListN.{length, set, take, drop, length-set, length-drop, take-append-drop, drop_of_length-le}
-use lib.Seq.{sets-eq, length-take-le}
+use lib.ListN.{length, set, take, drop, length-set, take-append-drop}
+use lib.Seq.{sets-eq, length-take-le, drop-drop}
 use borrow.Author.Tests.{eqb-true, leb-true, ltb-true}
 use Rattle.circuit.specs.Kinds.{kind_of, words}
 use Rattle.circuit.specs.Limits.{table_limit}
 use Rattle.circuit.specs.Rules.{Judgement, pass, refuse, need, ◌then◌}
 use Rattle.circuit.proofs.Base.{and_left, and_right}
 use Rattle.text.specs.Lines.{lines_of}
-use Rattle.text.specs.Reader.{frame_lines, read_text, room_rule}
+use Rattle.text.specs.Reader.{Read, frame_lines, read_text, room_rule}
 use Rattle.text.specs.Answer.{table_after}
-use Rattle.text.specs.Internal.Scan.{is_word, value_in, count_from, words_at, limit_of, head_by_count, frame_by_count}
+use Rattle.text.specs.Internal.Scan.{value_in, count_from, words_at, limit_of, head_by_count, frame_by_count}
 use Rattle.circuit.proofs.Judging.{then_pass, need-pass, need_then}
-use Rattle.text.specs.Internal.Blocks.{Begun}
-use Rattle.text.proofs.Scanning.{limit-least, limit-room, second_word}
+use Rattle.text.specs.Internal.Blocks.{rest_read}
 use Rattle.text.proofs.Reading.{stop, frame-line, head_line, line-fits}
 
--- at the head of the loop: the answer is that of the lines from here on, and the table is touched only up to `stored`
-pub record Progress (text table₀ : List ℕ) (room d : ℕ) (table : List ℕ) (at line stored : ℕ) : Type 0 where
-  pub reads : read_text text room ≡ frame_lines room d line (take stored table) (lines_of (drop at text))
+-- at the head of the loop: what is read is found from here on, and the table is touched only up to `stored`
+pub record Progress (reading : Read) (table₀ : List ℕ) (d : ℕ) (table text : List ℕ) (line stored : ℕ) : Type 0 where
+  pub reads : reading ≡ frame_lines (length table₀) d line (take stored table) (lines_of text)
   pub rest : drop stored table ≡ drop stored table₀
-  pub size : length table ≡ room
-  pub within : at ≤ length text
-  pub lines : line ≤ at
+  pub size : length table ≡ length table₀
   pub head : 2 ≤ stored
-  pub fits : stored ≤ limit_of room
-  pub small : d ≤ 8
+  pub fits : stored ≤ limit_of (length table₀)
+
+length-zero : (xs : List ℕ) → length xs ≡ 0 → xs ≡ []
+length-zero [] h = refl
+length-zero (x ∷ xs) h = absurd (omega arith)
 
 -- what a passing line tells in numbers
 pub room_passes : (room n count : ℕ) → room_rule room n count ≡ pass → (count ≤ room) × (count ≤ table_limit)
@@ -54,23 +54,24 @@ module _ (room d n stored kind count : ℕ) (h : frame_by_count room d n stored 
   frame-words = eqb-true count (suc (words d (kind_of kind)))
       (need-pass (eqb count (suc (words d (kind_of kind)))) 6 n 0 (need_then (leb 1 kind && leb kind 8) 5 n 0 (need (eqb count (suc (words d (kind_of kind)))) 6 n 0) rules.1).1)
 
-module _ {text table₀ : List ℕ} {room d : ℕ} {table : List ℕ} {at line stored : ℕ}
-    (p : Progress text table₀ room d table at line stored) where
+module _ {reading : Read} {table₀ : List ℕ} {d : ℕ} {table text : List ℕ} {line stored : ℕ} (p : Progress reading table₀ d table text line stored) where
   -- the judgement on the line here
   abbrev pub judgement : Judgement
-  judgement = frame_by_count room d line stored (value_in (drop at text)) (count_from 1 (drop at text))
+  judgement = frame_by_count (length table₀) d line stored (value_in text) (count_from 1 text)
+
+  pub front : length (take stored table) ≡ stored
+  front = length-take-le stored table (omega (arith, p.fits, p.size))
 
   -- a line that breaks a rule ends the reading
-  pub refused : at < length text → (r w : ℕ) → refuse r line w ≡ judgement → read_text text room ≡ stop (take stored table) (refuse r line w)
+  pub refused : 0 < length text → (r w : ℕ) → refuse r line w ≡ judgement → reading ≡ stop (take stored table) (refuse r line w)
   refused h r w e =
-      let z : length (take stored table) ≡ stored = length-take-le stored table (omega (arith, p.fits, p.size, limit-room room)) in
-      let f = frame-line room d line (take stored table) (drop at text) (simp length-drop (omega arith)) in
-      p.reads ∙ rw z at f ∙ rw (sym e)
+      let f = frame-line (length table₀) d line (take stored table) text h in
+      p.reads ∙ rw front at f ∙ rw (sym e)
 
   -- the end of the text ends it too
-  pub ended : length text ≤ at → read_text text room ≡ stop (take stored table) pass
+  pub ended : length text ≡ 0 → reading ≡ stop (take stored table) pass
   unfolding frame_lines lines_of
-  ended h = p.reads ∙ rw (drop_of_length-le text h)
+  ended h = p.reads ∙ rw (length-zero text h)
 
 -- the first line: it breaks a rule, or the loop starts behind it
 abbrev pub head_here : List ℕ → ℕ → Judgement
@@ -106,27 +107,20 @@ module _ (text table : List ℕ) (room : ℕ) (e : pass ≡ head_here text room)
   pub head_fits : (10 ≤ length text) × (2 ≤ room)
   head_fits = (omega (arith, headed, line-fits text), omega (arith, headed, (room_passes room 0 count parts.1).0))
 
-  pub head_word_lem : is_word (drop 5 text) ≡ true
-  head_word_lem = second_word text (omega (arith, head_fits)) headed.0
-
-  pub start : (d : ℕ) → d ≡ value_in (drop 5 text) → length table ≡ room → Begun text (set (set table 0 0) 1 d) d (limit_of room)
+  -- what is read is found behind the first line, whose words the table has
+  pub start : (d : ℕ) → d ≡ value_in (drop 5 text) → length table ≡ room
+      → read_text text room ≡ rest_read d (set (set table 0 0) 1 d) (drop 10 text)
   unfolding words_at
   start d u z =
       let n : length (set (set table 0 0) 1 d) ≡ room = simp length-set z in
       let front : take 2 (set (set table 0 0) 1 d) ≡ 0 ∷ d ∷ [] = ap (take 2) (sets-eq (0 ∷ d ∷ []) table 0 (omega (arith, z, head_fits.1))) in
-      record {
-        limit = rw n;
-        least = limit-least room 2 head_fits.1 (omega arith);
-        small = omega (arith, headed);
-        inside = head_fits.0;
-        reads = rw (n, front) (head_line room text ∙ rw (sym e, headed.0, headed.1, u));
-      }
+      rw (n, front) (head_line room text ∙ rw (sym e, headed.0, headed.1, u))
 
--- the two promises, from how the reading ends
-module _ (text table table₀ : List ℕ) (room stored : ℕ) (j : Judgement)
-    (e : read_text text room ≡ stop (take stored table) j) (h : stored ≤ length table) (r : drop stored table ≡ drop stored table₀) where
-  pub found-length : length (take stored table) ≡ stored
-  found-length = length-take-le stored table h
-
-  pub table-after : table ≡ table_after (read_text text room) table₀
-  table-after = sym (rw (e, found-length, sym r) (take-append-drop stored table))
+-- what the table holds where the reading ends, told of a table that was lent
+pub table-after : {reading : Read} {table₀ : List ℕ} {d : ℕ} {table text : List ℕ} {line stored : ℕ} → Progress reading table₀ d table text line stored
+    → (j : Judgement) → reading ≡ stop (take stored table) j → (lent : List ℕ) → drop 2 lent ≡ drop 2 table₀ → table ≡ table_after reading lent
+table-after {table₀ = table₀} {table = table} {stored = stored} p j e lent h =
+    let z : 2 + (stored - 2) ≡ stored = omega (arith, p.head) in
+    let kept : drop stored table ≡ drop stored lent
+    = p.rest ∙ rw (sym z, sym (drop-drop (stored - 2) 2 table₀), sym (drop-drop (stored - 2) 2 lent)) (ap (drop (stored - 2)) (sym h)) in
+    sym (rw (e, front p, sym kept) (take-append-drop stored table))

@@ -6,10 +6,10 @@ use Prim.Native.Nat.{ℕ, zero, suc, ◌+◌, ◌≤◌, ◌<◌}
 use native.Mathlib.Omega.{arith}
 use lib.Dec.{leb, ltb, eqb}
 use lib.ListN.{length, get_or, drop, length-drop}
-use borrow.Author.Tests.{leb-true, leb-false, le-leb}
+use borrow.Author.Tests.{leb-true, leb-false, le-leb, lt-leb}
 use Rattle.circuit.proofs.Base.{cases}
 use Rattle.circuit.proofs.Sizes.{words-AND, words-REF, words-OUT}
-use Rattle.std.specs.Prelude.{Some, None}
+use Rattle.std.specs.Prelude.{Some}
 use Rattle.circuit.specs.Limits.{table_limit}
 use Rattle.circuit.specs.Circuit.{empty}
 use Rattle.circuit.specs.Kinds.{Kind, HEAD, IN, CON, XOR, NOT, REG, AND, REF, OUT, share_count, shape, kind_of, words}
@@ -38,18 +38,18 @@ pub count_turn : (n : ℕ) (l : List ℕ) (i : ℕ) → i + 5 ≤ length l
 unfolding count_from is_word
 count_turn n l i h = let u : n + 1 ≡ suc n = omega arith in rw (u, five l i h)
 
--- the same by the codes at the place: they are no word's; or a word's that ends the line, or not
-module _ {l : List ℕ} {i high low mark : ℕ} (k : Coded l i high low mark) (n : ℕ) where
-  pub no_word : is_word (drop i l) ≡ false → count_from n (drop i l) ≡ 0
-  no_word h = count_turn n l i k.inside ∙ rw h
+-- the same by the codes of the first bytes: they are no word's; or a word's that ends the line, or not
+module _ {bytes : List ℕ} {high low mark : ℕ} (k : Coded bytes high low mark) (n : ℕ) where
+  pub no_word : is_word bytes ≡ false → count_from n bytes ≡ 0
+  no_word h = count_turn n bytes 0 k.inside ∙ rw h
 
-  pub last_word : is_word (drop i l) ≡ true → mark ≡ 1 → count_from n (drop i l) ≡ n
-  last_word h m = count_turn n l i k.inside ∙ rw h (cases (eqb (get_or l (i + 4) 0) line_feed)
+  pub last_word : is_word bytes ≡ true → mark ≡ 1 → count_from n bytes ≡ n
+  last_word h m = count_turn n bytes 0 k.inside ∙ rw h (cases (eqb (get_or bytes 4 0) line_feed)
       (λ e. rw e)
       (λ e. let z : mark ≡ 0 = coded_mark k h ∙ rw e in absurd (omega arith)))
 
-  pub more_words : is_word (drop i l) ≡ true → (mark ≡ 1 → ⊥) → count_from n (drop i l) ≡ count_from (n + 1) (drop (i + 5) l)
-  more_words h m = count_turn n l i k.inside ∙ rw h (cases (eqb (get_or l (i + 4) 0) line_feed)
+  pub more_words : is_word bytes ≡ true → (mark ≡ 1 → ⊥) → count_from n bytes ≡ count_from (n + 1) (drop 5 bytes)
+  more_words h m = count_turn n bytes 0 k.inside ∙ rw h (cases (eqb (get_or bytes 4 0) line_feed)
       (λ e. let z : mark ≡ 1 = coded_mark k h ∙ rw e in absurd (m z))
       (λ e. rw e))
 
@@ -80,10 +80,6 @@ line_count-some (suc n) k h = (cc, omega arith)
 pub line_count_more : (n : ℕ) → line_count (n + 1) ≡ Some (n + 1)
 line_count_more n = let e : n + 1 ≡ suc n = omega arith in rw e
 
-pub line_count-none : (n : ℕ) → line_count n ≡ None → n ≡ 0
-line_count-none zero h = refl
-line_count-none (suc n) h = let z : ◌≡◌ {A = ℕ} 0 1 = cc in absurd (omega arith)
-
 -- a kind's number of words
 pub words-most : (d : ℕ) (kind : Kind) → words d kind ≤ 3 + d + d
 unfolding shape
@@ -99,19 +95,11 @@ words-most d OUT = omega (arith, words-OUT d)
 
 -- the words that fit a table are those that fit its limit
 pub same-room : (room n count : ℕ) → room_rule (limit_of room) n count ≡ room_rule room n count
-same-room room n count = cases (leb room table_limit) (λ e. rw e)
-    (λ e. cases (leb count table_limit)
-    (λ f. rw (e, f, le-leb count room (omega (arith, leb-true, leb-false))))
-    (λ f. cases (leb count room) (λ g. rw (e, f, g)) (λ g. rw (e, f, g))))
-
-pub limit-most : (room : ℕ) → limit_of room ≤ table_limit
-limit-most room = cases (leb room table_limit) (λ e. rw e (omega (arith, leb-true))) (λ e. rw e (omega arith))
-
-pub limit-room : (room : ℕ) → limit_of room ≤ room
-limit-room room = cases (leb room table_limit) (λ e. rw e (omega arith)) (λ e. rw e (omega (arith, leb-false room table_limit e)))
-
-pub limit-least : (room stored : ℕ) → stored ≤ room → stored ≤ table_limit → stored ≤ limit_of room
-limit-least room stored h k = cases (leb room table_limit) (λ e. rw e h) (λ e. rw e k)
+same-room room n count = cases (leb count table_limit)
+    (λ e. cases (leb count room)
+    (λ f. rw (e, f, le-leb count (limit_of room) (omega (arith, leb-true count table_limit e, leb-true count room f))))
+    (λ f. rw (e, f, lt-leb count (limit_of room) (omega (arith, leb-false count room f)))))
+    (λ e. rw (e, lt-leb count (limit_of room) (omega (arith, leb-false count table_limit e))) (cases (leb count room) (λ f. rw f) (λ f. rw f)))
 
 pub same_head : (room size count kind d : ℕ) → head_by_count (limit_of room) size count kind d ≡ head_by_count room size count kind d
 same_head room size count kind d =

@@ -5,10 +5,10 @@ use mathlib.Core.List.{List, [], ◌∷◌}
 use Prim.Native.Nat.{ℕ, zero, suc, ◌+◌, ◌-◌, ◌<◌}
 use native.Mathlib.Omega.{arith}
 use lib.Dec.{ltb, eqb}
-use lib.ListN.{length, get_or}
+use lib.ListN.{length, get_or, set, replicate}
 use borrow.Author.Tests.{eqb-true, lt-ltb, le-ltb}
 use Rattle.circuit.proofs.Base.{and_left, and_right}
-use Rattle.text.specs.Internal.Scan.{digit_code, mark_code, code_table}
+use Rattle.text.specs.Internal.Scan.{no_code, digit_code, mark_code, code_table}
 
 -- whether a test passes at each entry and its place, counted from i
 abbrev pub every : (ℕ → ℕ → Bool) → ℕ → List ℕ → Bool
@@ -35,12 +35,29 @@ code_entry : (k : ℕ) → k < 512 → get_or code_table k 0 ≡ code_at k
 unfolding right code_at code_table digit_code mark_code
 code_entry k h = eqb-true (get_or code_table k 0) (code_at k) (concat_map-entry right code_table refl k h)
 
-pub digit-entry : (b : ℕ) → b < 256 → get_or code_table b 0 ≡ digit_code b
+pub digit_entry : (b : ℕ) → b < 256 → get_or code_table b 0 ≡ digit_code b
 unfolding code_at
-digit-entry b h = code_entry b (omega arith) ∙ rw (lt-ltb b 256 h)
+digit_entry b h = code_entry b (omega arith) ∙ rw (lt-ltb b 256 h)
 
 pub mark_entry : (b : ℕ) → b < 256 → get_or code_table (256 + b) 0 ≡ mark_code b
 unfolding code_at
 mark_entry b h =
     let e : 256 + b - 256 ≡ b = omega arith in
     code_entry (256 + b) (omega arith) ∙ rw (le-ltb (256 + b) 256 (omega arith), e)
+
+-- the bytes of the digits
+abbrev pub hex_digits : List ℕ
+hex_digits = 48 ∷ 49 ∷ 50 ∷ 51 ∷ 52 ∷ 53 ∷ 54 ∷ 55 ∷ 56 ∷ 57 ∷ 65 ∷ 66 ∷ 67 ∷ 68 ∷ 69 ∷ 70 ∷ []
+
+-- the table as the code writes it, digit by digit, and then a space and a line feed
+unfoldable pub written : ℕ → List ℕ
+written zero = replicate 512 no_code
+written (suc n) = set (written n) (get_or hex_digits n 0) n
+
+pub written_more : (n : ℕ) → set (written n) (get_or hex_digits n 0) n ≡ written (n + 1)
+unfolding written
+written_more n = let e : n + 1 ≡ suc n = omega arith in rw e
+
+pub written_all : set (set (written 16) 288 0) 266 1 ≡ code_table
+unfolding written code_table
+written_all = refl

@@ -1,18 +1,20 @@
 // Reads lines of hexadecimal words into a lent table, one frame a line.
 #![tactic(auto)]
 
-ghost use Rattle.std.specs.Prelude.{◌≡◌, List, ℕ, length, drop};
+ghost use Rattle.std.specs.Prelude.{◌≡◌, ◌≤◌, List, ℕ, length, drop};
 ghost use Rattle.text.specs.Reader.{read_text};
 ghost use Rattle.text.specs.Answer.{text_answer, text_answer_of, table_after};
-ghost use Rattle.text.specs.Internal.Scan.{code_table};
-ghost use Rattle.text.specs.Internal.Blocks.{block_words, Begun};
+ghost use Rattle.text.specs.Internal.Scan.{limit_of};
+ghost use Rattle.text.specs.Internal.Blocks.{rest_read, rest_answer};
 
 mod digits;
 mod line;
 mod rules;
 
 use circuit::Refusal;
-use line::BLOCK;
+use digits::Codes;
+use line::Block;
+use rules::Lengths;
 
 // The text read block by block: how many words, or the first rule broken and the line, as the refusal's frame. The words of the
 // lines that break no rule are stored, up to the first line that breaks one.
@@ -20,60 +22,48 @@ pub fn read(text: &[u8], table: &mut [u16]) -> Result<usize, Refusal>
     ensures answered { text_answer result ≡ text_answer_of text.now (length table.old) }
     ensures stored { table.new ≡ table_after (read_text text.now (length table.old)) table.old }
 {
-    let codes = digits::codes();
-    read_by(&codes, text, table)
-}
-
-// The same, by the codes of the bytes.
-fn read_by(codes: &[u16; 512], text: &[u8], table: &mut [u16]) -> Result<usize, Refusal>
-    requires { codes.now ≡ code_table }
-    ensures answered { text_answer result ≡ text_answer_of text.now (length table.old) }
-    ensures stored { table.new ≡ table_after (read_text text.now (length table.old)) table.old }
-{
-    let room = rules::limit(table.len());
-    let d = rules::head(codes, text, room)?;
+    let codes = Codes::new();
+    let room = table.len().min(circuit::TABLE_WORDS);
+    let d = rules::head(&codes, text, room)?;
     table[0] = 0;
     table[1] = d;
-    let mut block = [0u16; BLOCK];
-    let mut ends = [0u16; BLOCK];
-    read_frames(codes, text, d, room, table, &mut block, &mut ends)
+    read_frames(&codes, &text[10..], d, room, table)
 }
 
 // The lines behind the first, whose two words the table has already; at most `room` words are stored. What the table then holds is
 // told of every table that may have been lent: what stood in its first two words does not matter.
 fn read_frames(
-    codes: &[u16; 512],
-    text: &[u8],
+    codes: &Codes,
+    mut text: &[u8],
     d: u16,
     room: usize,
     table: &mut [u16],
-    block: &mut [u16],
-    ends: &mut [u16],
 ) -> Result<usize, Refusal>
-    requires { (codes.now ≡ code_table) × Begun text.now table.old d room × (length block.old ≡ block_words) × (length ends.old ≡ block_words) }
-    ensures answered { text_answer result ≡ text_answer_of text.now (length table.old) }
-    ensures stored { (lent : List ℕ) → drop 2 lent ≡ drop 2 table.old → table.new ≡ table_after (read_text text.now (length table.old)) lent }
+    requires { (room ≡ limit_of (length table.old)) × (2 ≤ room) × (d ≤ 8) }
+    ensures answered { text_answer result ≡ rest_answer d table.old text.now }
+    ensures stored { (lent : List ℕ) → drop 2 lent ≡ drop 2 table.old → table.new ≡ table_after (rest_read d table.old text.now) lent }
 {
-    let lengths = rules::lengths(d);
-    let mut at: usize = 10;
+    let lengths = Lengths::new(d);
+    let mut block = Block::new();
     let mut line: usize = 1;
     let mut stored: usize = 2;
-    while at < text.len() {
-        let lines = line::split(codes, text, at, block, ends);
-        let taken = rules::taken(&lengths, block, ends, lines, room - stored);
+    while !text.is_empty() {
+        block.split(codes, text);
+        let taken = block.taken(&lengths, room - stored);
         if taken == 0 {
-            let broken = rules::frame_rule(codes, text, at, &lengths, stored, room);
+            // the line here breaks a rule, and none of its block's words are stored
+            let broken = lengths.first(codes, text, room - stored);
             return Err(Refusal {
                 rule: broken.unwrap_err(),
                 frame: line,
                 word: 0,
             });
         }
-        let count = ends[taken - 1] as usize;
-        line::store(block, count, table, stored);
-        at += 5 * count;
+        let words = block.words(taken);
+        line::store(words, table, stored);
+        text = &text[5 * words.len()..];
         line += taken;
-        stored += count;
+        stored += words.len();
     }
     Ok(stored)
 }

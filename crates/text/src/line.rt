@@ -1,23 +1,23 @@
 // The lines of the text, one by one and a block at a time.
-ghost use Rattle.std.specs.Prelude.{◌≡◌, ◌+◌, ◌*◌, ◌≤◌, ◌<◌, length, drop};
+ghost use Rattle.std.specs.Prelude.{◌≡◌, ◌+◌, ◌≤◌, ◌<◌, length, take};
 ghost use Rattle.std.proofs.Math.Seq.{paste};
-ghost use Rattle.text.specs.Internal.Scan.{code_table, count_from, line_count};
-ghost use Rattle.text.specs.Internal.Blocks.{block_words, Split};
+ghost use Rattle.text.specs.Internal.Scan.{count_from, line_count};
+ghost use Rattle.text.specs.Internal.Blocks.{Lines, start_of, Split, Taken};
 
-use super::digits;
+use super::digits::Codes;
+use super::rules::Lengths;
 
 // How many words are looked at together. A line that keeps the rules has far fewer.
-pub(crate) const BLOCK: usize = 256;
+const BLOCK: usize = 256;
 
-// How many words the line at a place has; none where it is not of the form.
-pub(crate) fn count(codes: &[u16; 512], text: &[u8], at: usize) -> Option<usize>
-    requires { (codes.now ≡ code_table) × (at ≤ length text.now) }
-    ensures { result ≡ line_count (count_from 1 (drop at text.now)) }
+// How many words the first line has; none where it is not of the form.
+pub(crate) fn count(codes: &Codes, text: &[u8]) -> Option<usize>
+    ensures { result ≡ line_count (count_from 1 text.now) }
 {
-    let whole = (text.len() - at) / 5;
+    let whole = text.len() / 5;
     for k in 0..whole {
-        let word = digits::word_at(codes, text, at + 5 * k);
-        if !digits::is_whole(word) {
+        let word = codes.word(&text[5 * k..]);
+        if !word.is_whole() {
             return None;
         }
         if word.mark == 1 {
@@ -27,49 +27,77 @@ pub(crate) fn count(codes: &[u16; 512], text: &[u8], at: usize) -> Option<usize>
     None
 }
 
-// How many words, five bytes each, a block has at most behind which so many bytes are left.
-fn most_words(left: usize) -> usize
-    ensures { (result ≤ block_words) × (5 * result ≤ left) × (result < block_words → left < 5 * result + 5) }
-{
-    let whole = left / 5;
-    if whole < BLOCK { whole } else { BLOCK }
+// Some words of a text, and the whole lines among them.
+#[derive(Drop)]
+pub(crate) struct Block {
+    words: [u16; BLOCK],
+    // behind which word each line ends
+    ends: [u16; BLOCK],
+    lines: usize,
+    ghost whole: { Lines ends lines },
 }
 
-// The whole lines from a place on that a block holds, and how many: their words, and behind which word each line ends.
-pub(crate) fn split(
-    codes: &[u16; 512],
-    text: &[u8],
-    at: usize,
-    block: &mut [u16],
-    ends: &mut [u16],
-) -> usize
-    requires { (codes.now ≡ code_table) × (at ≤ length text.now) × (length block.old ≡ block_words) × (length ends.old ≡ block_words) }
-    ensures { Split text.now at block.new ends.new result }
-{
-    let most = most_words(text.len() - at);
-    let mut lines = 0;
-    let mut k = 0;
-    while k < most {
-        let word = digits::word_at(codes, text, at + 5 * k);
-        if !digits::is_whole(word) {
-            return lines;
+impl Block {
+    pub(crate) fn new() -> Self {
+        Block {
+            words: [0; BLOCK],
+            ends: [0; BLOCK],
+            lines: 0,
         }
-        block[k] = digits::number(word);
-        k += 1;
-        ends[lines] = k as u16;
-        lines += word.mark;
     }
-    lines
+
+    // Takes the whole lines at the start of a text that a block holds.
+    pub(crate) fn split(&mut self, codes: &Codes, text: &[u8])
+        ensures { Split text.now self.new.words self.new.ends self.new.lines }
+    {
+        self.lines = 0;
+        let most = (text.len() / 5).min(BLOCK);
+        let mut lines = 0;
+        for k in 0..most {
+            let word = codes.word(&text[5 * k..]);
+            if !word.is_whole() {
+                break;
+            }
+            self.words[k] = word.number();
+            self.ends[lines] = (k + 1) as u16;
+            lines += word.mark;
+        }
+        self.lines = lines;
+    }
+
+    // How many of the lines come before the first that breaks one of rules 5, 6 and 21.
+    pub(crate) fn taken(&self, lengths: &Lengths, room: usize) -> usize
+        ensures { Taken lengths.now.d self.now.words self.now.ends self.now.lines room result }
+    {
+        let mut start = 0;
+        for i in 0..self.lines {
+            let end = self.ends[i] as usize;
+            if lengths
+                .rule(self.words[start], end - start, room - start)
+                .is_err()
+            {
+                return i;
+            }
+            start = end;
+        }
+        self.lines
+    }
+
+    // The words of the first lines.
+    pub(crate) fn words(&self, lines: usize) -> &[u16]
+        requires { (0 < lines) × (lines ≤ self.now.lines) }
+        ensures { result.now ≡ take (start_of self.now.ends lines) self.now.words }
+    {
+        &self.words[..self.ends[lines - 1] as usize]
+    }
 }
 
-// The block's first words stored, from a word of the table on.
-pub(crate) fn store(block: &[u16], count: usize, table: &mut [u16], from: usize)
-    requires { (count ≤ length block.now) × (from + count ≤ length table.old) }
-    ensures { table.new ≡ paste table.old from block.now count }
+// Words stored in the table, from one of its words on. The table is written by index, as everywhere.
+pub(crate) fn store(words: &[u16], table: &mut [u16], from: usize)
+    requires { from + length words.now ≤ length table.old }
+    ensures { table.new ≡ paste table.old from words.now (length words.now) }
 {
-    let mut i = 0;
-    while i < count {
-        table[from + i] = block[i];
-        i += 1;
+    for (i, word) in words.iter().enumerate() {
+        table[from + i] = *word;
     }
 }

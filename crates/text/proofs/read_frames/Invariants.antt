@@ -1,14 +1,15 @@
--- At the head of the loop `Progress` holds, and block and ends keep their length; the measure is what is left of the text.
-use mathlib.Core.Path.{◌≡◌}
-use Prim.Native.Nat.{◌-◌}
+-- The loop's invariant: `Progress`, and there are no more lines than bytes; the measure is what is left of the text.
+use Prim.Native.Nat.{◌+◌, ◌≤◌}
 use lib.ListN.{length}
-use Rattle.text.specs.Internal.Blocks.{block_words}
+use Rattle.text.specs.Internal.Blocks.{rest_read}
 use Rattle.text.proofs.Progress.{Progress}
 use Rattle.text.proofs.read_frames.Given as goal
 
-abbrev pub invariant-loop-at : goal.invariant-loop-at
-invariant-loop-at l =
-    Progress l.text l.initial.table (length l.initial.table) l.d l.table l.at l.line l.stored × (length l.block ≡ block_words) × (length l.ends ≡ block_words)
+abbrev pub invariant-loop-text : goal.invariant-loop-text
+invariant-loop-text l = record {
+  progress : Progress (rest_read l.d l.initial.table l.initial.text) l.initial.table l.d l.table l.text l.line l.stored;
+  lines : l.line + length l.text ≤ 1 + length l.initial.text;
+}
 
-abbrev pub decreases-loop-at : goal.decreases-loop-at
-decreases-loop-at l = length l.text - l.at
+abbrev pub decreases-loop-text : goal.decreases-loop-text
+decreases-loop-text l = length l.text

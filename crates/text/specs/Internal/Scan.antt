@@ -1,11 +1,12 @@
 -- For the contracts of the private functions: a line by its count of words. The promise of `read` names none of this.
-use Rattle.std.specs.Prelude.{◌≡◌, Bool, false, cond, ◌&&◌, ◌||◌, List, [], ◌∷◌, ℕ, zero, suc, ◌+◌, ◌*◌, ◌≤◌, leb, ltb, eqb, length, get_or, drop, Option, Some, None, Result, Ok, Err, ⊤}
+use Rattle.std.specs.Prelude.{◌≡◌, Bool, false, cond, ◌&&◌, ◌||◌, List, [], ◌∷◌, ℕ, zero, suc, ◌+◌, ◌*◌, ◌≤◌, min, leb, ltb, eqb, length, get_or, drop, Option, Some, None, Result, Ok, Err, ⊤}
 use Rattle.circuit.specs.Limits.{table_limit}
 use Rattle.circuit.specs.Circuit.{empty}
 use Rattle.circuit.specs.Rules.{Judgement, pass, refuse, need, ◌then◌, word_rule}
 use Rattle.circuit.specs.Refusals.{number_of}
 use Rattle.circuit.specs.declared.rules.Refusal.{Refusal}
 use Rattle.circuit.specs.declared.rules.Rule.{Rule}
+use Rattle.circuit.specs.declared.rules.Rule.TheVariants.{Kind as KindRule, WordCount, TableRoom, Line}
 use Rattle.circuit.specs.Kinds.{share_count, kind_of, words}
 use Rattle.text.specs.Lines.{line_feed, space, is_digit, digit, are_digits, word}
 use Rattle.text.specs.Reader.{room_rule}
@@ -49,13 +50,12 @@ pair_code a b = digit_code a * 16 + digit_code b
 abbrev pub most_codes : ℕ
 most_codes = 143360
 
--- the codes of the bytes at a place of a text: two digits, two more, and what stands behind them
-pub record Coded (text : List ℕ) (at high low mark : ℕ) : Type 0 where
-  pub first : high ≡ pair_code (get_or text at 0) (get_or text (at + 1) 0)
-  pub second : low ≡ pair_code (get_or text (at + 2) 0) (get_or text (at + 3) 0)
-  pub behind : mark ≡ mark_code (get_or text (at + 4) 0)
-  pub inside : at + 5 ≤ length text
-  pub most : high + low + mark ≤ most_codes
+-- the codes of the first five bytes: two digits, two more, and what stands behind them
+pub record Coded (bytes : List ℕ) (high low mark : ℕ) : Type 0 where
+  pub first : high ≡ pair_code (get_or bytes 0 0) (get_or bytes 1 0)
+  pub second : low ≡ pair_code (get_or bytes 2 0) (get_or bytes 3 0)
+  pub behind : mark ≡ mark_code (get_or bytes 4 0)
+  pub inside : 5 ≤ length bytes
 
 -- whether bytes begin with a word: four digits and a mark
 unfoldable pub is_word : List ℕ → Bool
@@ -106,7 +106,7 @@ ruled n (Err rule) = refuse (number_of rule) n 0
 
 -- how many words are stored at most, in a table with room for `room`
 abbrev pub limit_of : ℕ → ℕ
-limit_of room = cond (leb room table_limit) room table_limit
+limit_of room = min room table_limit
 
 -- the rules of the first line in numbers: the text's length, the count of words, the first two
 abbrev pub head_by_count : (room size count kind d : ℕ) → Judgement
@@ -122,3 +122,12 @@ frame_by_count room d n stored kind count = (need (ltb 0 count) 20 n 0
     then need (leb 1 kind && leb kind 8) 5 n 0
     then need (eqb count (suc (words d (kind_of kind)))) 6 n 0)
     then room_rule room n (stored + count)
+
+-- the first of rules 5, 6 and 21 that a line of so many words breaks which begins with a kind, with so much room; d is known
+abbrev pub line_rule : (d kind count room : ℕ) → Result ⊤ Rule
+line_rule d kind count room =
+    cond (leb 1 kind && leb kind 8) (cond (eqb count (suc (words d (kind_of kind)))) (cond (leb count room) (Ok tt) (Err TableRoom)) (Err WordCount)) (Err KindRule)
+
+-- the same, and rule 20 before them: no words are counted on a line that is not of the form
+abbrev pub frame_rule : (d room kind count : ℕ) → Result ⊤ Rule
+frame_rule d room kind count = cond (ltb 0 count) (line_rule d kind count room) (Err Line)

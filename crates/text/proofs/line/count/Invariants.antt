@@ -6,4 +6,4 @@ use Rattle.text.specs.Internal.Scan.{count_from}
 use Rattle.text.proofs.line.count.Given as goal
 
 abbrev pub invariant-loop-k : goal.invariant-loop-k
-invariant-loop-k l = count_from 1 (drop l.at l.text) ≡ count_from (l.k + 1) (drop (l.at + 5 * l.k) l.text)
+invariant-loop-k l = count_from 1 l.text ≡ count_from (l.k + 1) (drop (5 * l.k) l.text)
