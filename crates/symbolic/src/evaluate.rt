@@ -2,6 +2,7 @@
 ghost use Rattle.std.specs.Prelude.{◌≡◌, ℕ, ◌+◌, ◌*◌, ◌≤◌, ◌<◌, length};
 ghost use Rattle.std.specs.Int.Bits.{bit_and, bit_xor};
 ghost use Rattle.circuit.specs.Lists.{nth};
+ghost use Rattle.symbolic.specs.Internal.Terms.{Listed};
 ghost use Rattle.symbolic.specs.Internal.Sums.{added, words_at, four_at, FourOf, Before, BoundedTerms, Runs, Shows};
 
 // Four words.
@@ -106,7 +107,7 @@ pub fn run(terms: &[u64; 80], from: usize, to: usize, words: &mut [u64; 256])
 
 // The words of wires on a list, from the sums that they are.
 pub fn show(sums: &[u64], read: &[u16], words: &[u64; 256], shown: &mut [u64; 32])
-    requires { (length read.now ≤ 8) × ((i : ℕ) → i < length read.now → nth read.now i < length sums.now) }
+    requires { Listed read.now (length sums.now) }
     ensures { Shows sums.now read.now (length read.now) words.now shown.new }
 {
     for (i, &wire) in read.iter().enumerate() {

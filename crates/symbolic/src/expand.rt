@@ -5,7 +5,7 @@ ghost use Rattle.circuit.specs.Lists.{nth};
 ghost use Rattle.circuit.specs.Circuit.{is_set, size};
 ghost use Rattle.gadgets.specs.Internal.Accepting.{circuit_in};
 ghost use Rattle.simulation.specs.Internal.Evaluating.{Evaluable};
-ghost use Rattle.symbolic.specs.Internal.Terms.{one, AndAsks};
+ghost use Rattle.symbolic.specs.Internal.Terms.{one, AndTakes, Listed};
 ghost use Rattle.symbolic.specs.Internal.Expanding.{GateAsks, GateWrites, AndWrites, FrameAsks, FrameWrites, Expanded};
 
 use super::gadget;
@@ -56,7 +56,7 @@ fn write_and(
     read: &[u16],
     outputs: usize,
 )
-    requires { AndAsks gadget.d gadget.first ops.now (length sums.old) (length tape.now) gadget.used × (length read.now ≤ 8) × ((i : ℕ) → i < length read.now → nth read.now i < length sums.old) × (outputs + gadget.d ≤ 32) }
+    requires { AndTakes gadget ops.now sums.old tape.now × (outputs + gadget.d ≤ 32) × Listed read.now (length sums.old) }
     ensures { AndWrites gadget.d gadget.first ops.now tape.now gadget.used read.now (length read.now) outputs sums.old terms.old sums.new terms.new }
 {
     gadget::read_inside(sums, terms, gadget, ops, tape, read);
@@ -76,7 +76,7 @@ fn write_frame(
     read: &[u16],
     outputs: usize,
 ) -> usize
-    requires { FrameAsks frame place.d place.first place.used ops.now (length sums.old) (length shares.now) (length tape.now) outputs × (length read.now ≤ 8) × ((i : ℕ) → i < length read.now → nth read.now i < length sums.old) }
+    requires { FrameAsks frame place.d place.first place.used ops.now (length sums.old) (length shares.now) (length tape.now) outputs × Listed read.now (length sums.old) }
     ensures { FrameWrites frame place.d place.first place.used ops.now shares.now tape.now read.now (length read.now) outputs sums.old terms.old sums.new terms.new result }
 {
     match frame {

@@ -7,7 +7,7 @@ ghost use Rattle.circuit.specs.Gadgets.{others};
 ghost use Rattle.gadgets.specs.Internal.Places.{word_a, word_b, mask_at};
 ghost use Rattle.simulation.specs.Internal.Filling.{word_sum};
 ghost use Rattle.symbolic.specs.Internal.Inside.{WireOf};
-ghost use Rattle.symbolic.specs.Internal.Terms.{alone, times, wire_term, sum_with, with_term, Drawn, AndAsks, RefAsks, read_sums, read_terms, ReadsInside, WritesOutputs, Refreshes};
+ghost use Rattle.symbolic.specs.Internal.Terms.{alone, times, wire_term, sum_with, with_term, Drawn, AndTakes, RefAsks, Listed, read_sums, read_terms, ReadsInside, WritesOutputs, Refreshes};
 
 use super::expand::ONE;
 use super::offsets;
@@ -107,7 +107,7 @@ fn add_row(sums: &[u64], ops: &[u16], d: usize) -> u64
 
 // A wire inside AND.
 fn wire_term(sums: &[u64], gadget: Gadget, ops: &[u16], tape: &[u64], wire: Inner) -> Term
-    requires { AndAsks gadget.d gadget.first ops.now (length sums.now) (length tape.now) gadget.used × WireOf gadget.d wire }
+    requires { AndTakes gadget ops.now sums.now tape.now × WireOf gadget.d wire }
     ensures { result ≡ wire_term gadget.d ops.now sums.now tape.now gadget.used wire }
 {
     let d = gadget.d;
@@ -150,7 +150,7 @@ fn read_one(
     wire: usize,
     n: usize,
 )
-    requires { AndAsks gadget.d gadget.first ops.now (length sums.old) (length tape.now) gadget.used × (n < 8) × (wire < length sums.old) }
+    requires { AndTakes gadget ops.now sums.old tape.now × (n < 8) × (wire < length sums.old) }
     ensures { (sums.new ≡ read_sums gadget.d gadget.first ops.now sums.old tape.now gadget.used wire n) × (terms.new ≡ read_terms gadget.d gadget.first ops.now sums.old tape.now gadget.used wire n terms.old) }
 {
     if wire < gadget.first {
@@ -174,7 +174,7 @@ pub(crate) fn read_inside(
     tape: &[u64],
     read: &[u16],
 )
-    requires { AndAsks gadget.d gadget.first ops.now (length sums.old) (length tape.now) gadget.used × (length read.now ≤ 8) × ((i : ℕ) → i < length read.now → nth read.now i < length sums.old) }
+    requires { AndTakes gadget ops.now sums.old tape.now × Listed read.now (length sums.old) }
     ensures { ReadsInside gadget.d gadget.first ops.now tape.now gadget.used read.now (length read.now) sums.old terms.old sums.new terms.new }
 {
     for (n, &wire) in read.iter().enumerate() {
@@ -191,7 +191,7 @@ pub(crate) fn write_outputs(
     tape: &[u64],
     outputs: usize,
 )
-    requires { AndAsks gadget.d gadget.first ops.now (length sums.old) (length tape.now) gadget.used × (outputs + gadget.d ≤ 32) }
+    requires { AndTakes gadget ops.now sums.old tape.now × (outputs + gadget.d ≤ 32) }
     ensures { WritesOutputs gadget.d gadget.first ops.now tape.now gadget.used outputs sums.old terms.old sums.new terms.new }
 {
     let row = add_row(sums, ops, gadget.d);
