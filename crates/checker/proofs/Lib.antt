@@ -15,3 +15,4 @@ pub mod Adding
 pub mod Placing
 pub mod Checking
 pub mod Ways
+pub mod Listed

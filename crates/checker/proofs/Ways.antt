@@ -1,76 +1,77 @@
 -- The ways out of the loop over the frames, and its turn.
 use mathlib.Core.Path.{◌≡◌, refl, sym, ap, ap₂, subst, ◌∙◌}
-use mathlib.Core.Bool.{Bool, true, false, false≢true}
 use mathlib.Core.List.{List}
-use Prim.Native.Nat.{ℕ, zero, suc, ◌+◌, ◌*◌, ◌-◌, ◌≤◌, ◌<◌}
+use Prim.Native.Nat.{ℕ, ◌+◌, ◌*◌, ◌-◌, ◌≤◌, ◌<◌}
 use native.Mathlib.Omega.{arith}
 use lib.ListN.{length, take, drop, length-drop, drop_of_length-le}
 use lib.Seq.{sets, drop-drop, length-take-le}
 use borrow.Author.Tests.{le-leb}
 use Rattle.circuit.specs.Limits.{stage_limit}
 use Rattle.circuit.specs.Lists.{nth}
-use Rattle.circuit.specs.Kinds.{Kind, HEAD, kind_of, words}
+use Rattle.circuit.specs.Kinds.{Kind, HEAD, kind_of, pairs, words}
 use Rattle.circuit.specs.Circuit.{Circuit, size, new_stage, made, extend}
-use Rattle.circuit.specs.Rules.{pass, refuse, frame_rule, Checked, frames, checked}
-use Rattle.circuit.specs.Answer.{accepted, answer, verdict_of, notes_of, notes_after}
+use Rattle.circuit.specs.Rules.{pass, refuse, frame_rule, Checked, frames}
+use Rattle.circuit.specs.Answer.{accepted, answer, notes_of, notes_after}
 use Rattle.circuit.specs.Composition.{kind_word, Fits}
 use Rattle.circuit.proofs.Building.{size-extend}
 use Rattle.circuit.proofs.Steps.{frames-pass, frames-refuse}
 use Rattle.circuit.proofs.Fitting.{known, frame-pass}
-use Rattle.checker.specs.declared.Verdict.{Verdict}
-use Rattle.checker.specs.declared.Verdict.TheVariants.{Accepted, Refused}
-use Rattle.frames.specs.declared.kinds.Shape.{Shape as ShapeCode}
-use Rattle.frames.specs.declared.walk.Frame.{Frame}
+use Rattle.std.specs.Prelude.{Option, Some, None, Result, Ok, Err}
+use Rattle.circuit.specs.Refusals.{number_of, refusal}
+use Rattle.circuit.specs.declared.rules.Refusal.{Refusal}
+use Rattle.circuit.specs.declared.rules.Rule.{Rule}
+use Rattle.checker.specs.declared.Accepted.{Accepted}
+use Rattle.frames.specs.declared.walk.Next.{Next}
 use Rattle.frames.specs.declared.walk.Walk.{Walk}
-use Rattle.frames.specs.declared.walk.Step.TheVariants as step
 use Rattle.checker.specs.declared.frame.Tally.{Tally}
 use Rattle.checker.specs.declared.frame.Added.{Added}
 use Rattle.checker.specs.declared.frame.Added.TheVariants as added
 use Rattle.checker.specs.Answers.{answer_of, InputsAre}
-use Rattle.frames.specs.Walk.{shape_code, operands_at, step_at}
+use Rattle.frames.specs.Randoms.{listed_pairs}
+use Rattle.frames.specs.Walk.{shape_code, shape_taking, operands_at, step_with, step_at}
+use Rattle.frames.proofs.KindTable.{right_step}
+use Rattle.frames.proofs.RandomBits.{listed-right}
 use Rattle.checker.specs.declared.notes.Found.{Found}
 use Rattle.checker.specs.declared.forms.Spot.{Spot}
 use Rattle.checker.specs.Internal.Notes.{Represents}
-use Rattle.checker.specs.Internal.Spans.{latency_in}
-use Rattle.checker.specs.Internal.Adding.{tally_of, Bounded, FrameOf, Adds}
+use Rattle.checker.specs.Internal.Adding.{accepted_by, tally_of, Bounded, FrameOf, Adds}
 use Rattle.checker.proofs.MadeNotes.{counts}
 use Rattle.circuit.proofs.Noted.{label_step}
 use Rattle.checker.proofs.Represented.{represents, notes_more, notes-same}
 use Rattle.checker.proofs.Spanning.{highest_next, latency-is}
 use Rattle.checker.proofs.Placing.{judgement_in, later_rule, notes_added, Placed, judgement, next, notes-next}
-use Rattle.checker.proofs.Checking.{Walking, here, AtFrame, met}
-
--- what the call promises
-abbrev pub Promised : (table notes₀ notes : List ℕ) → Verdict → Type 0
-Promised table notes₀ notes verdict = (answer_of verdict ≡ verdict_of table (length notes₀))
-    × ((notes ≡ notes_after (checked table (length notes₀)).circuit notes₀) × InputsAre verdict (checked table (length notes₀)).circuit.inputs)
+use Rattle.checker.proofs.Checking.{Promised, Walking, here, AtFrame, met}
 
 module _ {table notes₀ notes : List ℕ} {d : ℕ} {walk : Walk} {tally : Tally} (w : Walking table notes₀ notes d walk tally) where
+  -- the random bits that the step is given are those of a gadget
+  pub stepped : {randoms : ℕ} {r : Result (Option Next) Rule} → randoms ≡ listed_pairs d → r ≡ step_with (shape_taking randoms walk.d) table walk.d walk.at → r ≡ step_at table walk.d walk.at
+  stepped {randoms} g e = right_step table randoms walk.d walk.at e (g ∙ listed-right d (omega (arith, w.shares, w.most)) ∙ ap pairs (sym w.walk_shares))
+
   -- the rest of the table judged ends the check
-  ends : (c : Checked) → frames w.k tally.frames 0 (drop walk.at table) ≡ c → c.circuit ≡ w.k → (v : Verdict) → answer_of v ≡ answer c.circuit c.judgement → InputsAre v c.circuit.inputs
+  ends : (c : Checked) → frames w.k tally.frames 0 (drop walk.at table) ≡ c → c.circuit ≡ w.k → (v : Result Accepted Refusal) → answer_of v ≡ answer c.circuit c.judgement → InputsAre v c.circuit.inputs
       → Promised table notes₀ notes v
   ends c e s v a n = rw (w.rest, e) (a, (w.notes_is ∙ ap (λ k. notes_after k notes₀) (sym s), n))
 
   -- the end of the table
-  pub way_end : step.End ≡ step_at table walk.d walk.at → Promised table notes₀ notes (Accepted tally.wires tally.randoms (latency_in tally.span) tally.inputs)
+  pub way_end : Ok None ≡ step_at table walk.d walk.at → Promised table notes₀ notes (Ok (accepted_by tally))
   unfolding frames
   way_end e = ends (record { circuit = w.k; judgement = pass }) (ap (frames w.k tally.frames 0) (drop_of_length-le table {i = walk.at} (met table walk.d walk.at e))) refl
-      (Accepted tally.wires tally.randoms (latency_in tally.span) tally.inputs) (ap (λ t. answer_of (Accepted t.wires t.randoms (latency_in t.span) 0)) w.tally_is ∙ ap (accepted (size w.k) w.k.randoms) (latency-is w.k w.highest)) (ap (λ t. t.inputs) w.tally_is)
+      (Ok (accepted_by tally)) (ap (λ t. answer_of (Ok (accepted_by t))) w.tally_is ∙ ap (accepted (size w.k) w.k.randoms) (latency-is w.k w.highest)) (ap (λ t. t.inputs) w.tally_is)
 
   -- a frame that is refused
-  refused-at : (rule word : ℕ) → walk.at < length table → frame_rule w.k tally.frames (nth table walk.at) (drop (walk.at + 1) table) ≡ refuse rule tally.frames word
-      → Promised table notes₀ notes (Refused rule tally.frames word)
-  refused-at rule word h e = ends (record { circuit = w.k; judgement = refuse rule tally.frames word })
-      (ap (frames w.k tally.frames 0) (here table d walk.at h) ∙ frames-refuse w.k tally.frames (nth table walk.at) (drop (walk.at + 1) table) rule tally.frames word e) refl
-      (Refused rule tally.frames word) refl tt
+  refused-at : (rule : Rule) (word : ℕ) → walk.at < length table → frame_rule w.k tally.frames (nth table walk.at) (drop (walk.at + 1) table) ≡ refuse (number_of rule) tally.frames word
+      → Promised table notes₀ notes (Err (refusal rule tally.frames word))
+  refused-at rule word h e = ends (record { circuit = w.k; judgement = refuse (number_of rule) tally.frames word })
+      (ap (frames w.k tally.frames 0) (here table d walk.at h) ∙ frames-refuse w.k tally.frames (nth table walk.at) (drop (walk.at + 1) table) (number_of rule) tally.frames word e) refl
+      (Err (refusal rule tally.frames word)) refl tt
 
-  pub way_refused : (rule : ℕ) → step.Refused rule ≡ step_at table walk.d walk.at → Promised table notes₀ notes (Refused rule tally.frames 0)
-  way_refused rule e = let (h, _, r) = met table walk.d walk.at e in
+  pub way_refused : (rule : Rule) → Err rule ≡ step_at table walk.d walk.at → Promised table notes₀ notes (Err (refusal rule tally.frames 0))
+  way_refused rule e = let (h, r) = met table walk.d walk.at e in
       refused-at rule 0 h (r w.k (w.shares ∙ sym w.walk_shares) tally.frames)
 
   -- a whole frame at the walk's place
-  module _ {fr : Frame} {sh : ShapeCode} {on : Walk} (e : step.Next fr sh on ≡ step_at table walk.d walk.at) (ops : List ℕ) (o : ops ≡ operands_at table walk.d walk.at) where
-    frame_at : AtFrame table walk.d walk.at sh on
+  module _ {n : Next} (e : Ok (Some n) ≡ step_at table walk.d walk.at) (ops : List ℕ) (o : ops ≡ operands_at table walk.d walk.at) where
+    frame_at : AtFrame table walk.d walk.at n.shape n.walk
     frame_at = met table walk.d walk.at e
 
     abbrev kind : Kind
@@ -86,19 +87,19 @@ module _ {table notes₀ notes : List ℕ} {d : ℕ} {walk : Walk} {tally : Tall
     shares = w.walk_shares ∙ sym w.shares
 
     ops-is : ops ≡ take (words w.k.d kind) rest
-    ops-is = o ∙ ap (λ n. take (words n kind) rest) shares
+    ops-is = o ∙ ap (λ m. take (words m kind) rest) shares
 
     whole : words w.k.d kind ≤ length rest
-    whole = subst (λ n. words n kind ≤ length rest) shares frame_at.whole
+    whole = subst (λ m. words m kind ≤ length rest) shares frame_at.whole
 
-    placed : Placed w.k kind tally sh d ops notes
+    placed : Placed w.k kind tally n.shape d ops notes
     placed = record {
       later = later;
-      represents = rw w.notes_is (subst (λ n. Represents w.k (notes_after w.k notes₀) n) (sym (ap (λ t. t.wires) w.tally_is)) (represents w.k notes₀ w.most (omega (arith, w.least)) w.law));
+      represents = rw w.notes_is (subst (λ m. Represents w.k (notes_after w.k notes₀) m) (sym (ap (λ t. t.wires) w.tally_is)) (represents w.k notes₀ w.most (omega (arith, w.least)) w.law));
       tally_is = w.tally_is;
       shares = w.shares;
-      shape_is = frame_at.shape_is ∙ ap (λ n. shape_code n kind) w.walk_shares;
-      whole = ap length ops-is ∙ length-take-le (words w.k.d kind) rest whole ∙ ap (λ n. words n kind) w.shares;
+      shape_is = frame_at.shape_is ∙ ap (λ m. shape_code m kind) w.walk_shares;
+      whole = ap length ops-is ∙ length-take-le (words w.k.d kind) rest whole ∙ ap (λ m. words m kind) w.shares;
     }
 
     -- what is left to judge behind 5 and 6 is the frame's judgement
@@ -106,10 +107,10 @@ module _ {table notes₀ notes : List ℕ} {d : ℕ} {walk : Walk} {tally : Tall
     unfolding frame_rule
     judged-is = rw (le-leb 1 (nth table walk.at) frame_at.low, le-leb (nth table walk.at) 8 frame_at.high, le-leb (words w.k.d kind) (length rest) whole, ops-is)
 
-    pub frame_of : FrameOf sh d ops
+    pub frame_of : FrameOf n.shape d ops
     frame_of = record { kind = kind; later = later; whole = placed.whole; shape_is = placed.shape_is; least = omega (arith, w.shares, w.least); most = omega (arith, w.shares, w.most) }
 
-    module _ (new : List ℕ) (r : Added) (a : Adds tally sh d ops notes new r) where
+    module _ (new : List ℕ) (r : Added) (a : Adds tally n.shape d ops notes new r) where
       -- the frame is refused, and the notes stay
       broken-is : (s : Spot) → r ≡ added.Refused s → later_rule w.k tally.frames kind ops ≡ refuse s.rule tally.frames s.word
       broken-is s e = sym (judgement placed a) ∙ ap (judgement_in tally.frames) e
@@ -117,21 +118,21 @@ module _ {table notes₀ notes : List ℕ} {d : ℕ} {walk : Walk} {tally : Tall
       pub broken_kept : (s : Spot) → r ≡ added.Refused s → new ≡ notes
       broken_kept s e = notes-next placed a ∙ ap (λ j. notes_added j notes (size w.k) (made w.k ops kind)) (broken-is s e)
 
-      pub way_broken : (s : Spot) → r ≡ added.Refused s → Promised table notes₀ new (Refused s.rule tally.frames s.word)
-      way_broken s e =
-          let (v, n) = refused-at s.rule s.word frame_at.inside (judged-is ∙ broken-is s e) in
-          (v, (broken_kept s e ∙ n.0, n.1))
+      pub way_broken : (s : Spot) (rule : Rule) → number_of rule ≡ s.rule → r ≡ added.Refused s → Promised table notes₀ new (Err (refusal rule tally.frames s.word))
+      way_broken s rule same e =
+          let (v, p) = refused-at rule s.word frame_at.inside (judged-is ∙ broken-is s e ∙ ap (λ q. refuse q tally.frames s.word) (sym same)) in
+          (v, (broken_kept s e ∙ p.0, p.1))
 
       -- the frame is added
-      pub turn : (t : Tally) → r ≡ added.Next t → Walking table notes₀ new d on t
+      pub turn : (t : Tally) → r ≡ added.Next t → Walking table notes₀ new d n.walk t
       turn t s =
           let told : later_rule w.k tally.frames kind ops ≡ pass = sym (judgement placed a) ∙ ap (judgement_in tally.frames) s in
           let passed = frame-pass w.k tally.frames (nth table walk.at) rest w.least (judged-is ∙ told) in
-          let n = words w.k.d kind in
+          let many = words w.k.d kind in
           let more : Circuit = extend w.k ops kind in
           let t_is : t ≡ tally_of (tally.frames + 1) more = next placed a t s in
           let f_is : t.frames ≡ tally.frames + 1 = ap (λ x. x.frames) t_is in
-          let at_is : on.at ≡ walk.at + 1 + n = ap (λ x. x.at) frame_at.walk_is ∙ ap (λ q. walk.at + 1 + words q kind) shares in
+          let at_is : n.walk.at ≡ walk.at + 1 + many = ap (λ x. x.at) frame_at.walk_is ∙ ap (λ q. walk.at + 1 + words q kind) shares in
           record {
             k = more;
             least = w.least;
@@ -153,12 +154,12 @@ module _ {table notes₀ notes : List ℕ} {d : ℕ} {walk : Walk} {tally : Tall
                 ∙ notes_more w.k ops kind notes₀ (omega (arith, size-extend w.k ops kind, passed.few, w.roomy));
             rest = w.rest ∙ ap (frames w.k tally.frames 0) (here table d walk.at frame_at.inside)
                 ∙ frames-pass w.k tally.frames (nth table walk.at) rest (judged-is ∙ told)
-                ∙ ap₂ (λ o f. frames (extend w.k o kind) f 0 (drop n rest)) (sym ops-is) (omega arith)
-                ∙ ap (frames more t.frames 0) (drop-drop n (walk.at + 1) table ∙ ap (λ q. drop q table) (sym at_is));
+                ∙ ap₂ (λ o f. frames (extend w.k o kind) f 0 (drop many rest)) (sym ops-is) (omega arith)
+                ∙ ap (frames more t.frames 0) (drop-drop many (walk.at + 1) table ∙ ap (λ q. drop q table) (sym at_is));
           }
 
     -- and less of the table is left
-    pub less_left : length table - on.at < length table - walk.at
+    pub less_left : length table - n.walk.at < length table - walk.at
     less_left = omega (arith, ap (λ x. x.at) frame_at.walk_is, frame_at.inside)
 
 -- the notes are as long as they were
@@ -174,34 +175,3 @@ bounded w = record {
   frames = omega (arith, w.counted, w.inside, w.short);
   inputs = omega (arith, ap (λ t. t.inputs) w.tally_is, w.inputs);
 }
-
--- the answer by a spot: accepted where it names no rule
-abbrev pub verdict_by : (rule word : ℕ) → Tally → Verdict
-verdict_by zero w tally = Accepted tally.wires tally.randoms (latency_in tally.span) tally.inputs
-verdict_by (suc r) w tally = Refused (suc r) tally.frames w
-
-pub refused_by : (rule word : ℕ) (tally : Tally) → (rule ≡ 0 → ⊥) → verdict_by rule word tally ≡ Refused rule tally.frames word
-refused_by zero word tally h = absurd (h refl)
-refused_by (suc n) word tally h = refl
-
--- the loop: going on, the frames so far break no rule; ended, the answer is that of the spot
-pub record Loop (table notes₀ notes : List ℕ) (d : ℕ) (walk : Walk) (tally : Tally) (broken : Spot) (going : Bool) : Type 0 where
-  pub walking : going ≡ true → Walking table notes₀ notes d walk tally
-  pub clean : going ≡ true → broken.rule ≡ 0
-  pub promised : going ≡ false → Promised table notes₀ notes (verdict_by broken.rule broken.word tally)
-  pub kept : length notes ≡ length notes₀
-
-pub goes : {table notes₀ notes : List ℕ} {d : ℕ} {walk : Walk} {tally : Tally} {broken : Spot} → Walking table notes₀ notes d walk tally → broken.rule ≡ 0 → Loop table notes₀ notes d walk tally broken true
-goes w e = record { walking = λ h. w; clean = λ h. e; promised = λ h. absurd (false≢true (sym h)); kept = same_length w }
-
-pub ended : {table notes₀ notes : List ℕ} {d : ℕ} {walk : Walk} {tally : Tally} {broken : Spot} → length notes ≡ length notes₀
-    → Promised table notes₀ notes (verdict_by broken.rule broken.word tally) → Loop table notes₀ notes d walk tally broken false
-ended l q = record { walking = λ h. absurd (false≢true h); clean = λ h. absurd (false≢true h); promised = λ h. q; kept = l }
-
--- the answer of a loop that has ended
-module _ {table notes₀ notes : List ℕ} {d : ℕ} {walk : Walk} {tally : Tally} {broken : Spot} {going : Bool} (l : Loop table notes₀ notes d walk tally broken going) (end : going ≡ false) where
-  pub refused_end : (broken.rule ≡ 0 → ⊥) → Promised table notes₀ notes (Refused broken.rule tally.frames broken.word)
-  refused_end h = subst (Promised table notes₀ notes) (refused_by broken.rule broken.word tally h) (l.promised end)
-
-  pub accepted_end : broken.rule ≡ 0 → Promised table notes₀ notes (Accepted tally.wires tally.randoms (latency_in tally.span) tally.inputs)
-  accepted_end h = subst (λ n. Promised table notes₀ notes (verdict_by n broken.word tally)) h (l.promised end)

@@ -1,11 +1,11 @@
 // A frame added to the circuit so far.
 ghost use Rattle.std.specs.Prelude.{◌≡◌};
-ghost use Rattle.checker.specs.Internal.Adding.{head_alone, numbers, added_by, Bounded, Fitting, FrameOf, Adds};
+ghost use Rattle.checker.specs.Internal.Adding.{accepted_by, head_alone, numbers, added_by, Bounded, Fitting, FrameOf, Adds};
 
 use super::forms::Spot;
 use super::numbers::less;
 use super::span::Span;
-use super::{forms, span};
+use super::{Accepted, forms, span};
 use frames::kinds::{Form, Shape};
 
 // The circuit so far: the number of frames with HEAD, of wires, of random bits, the stages of INs and OUTs, and the number of INs.
@@ -16,6 +16,20 @@ pub struct Tally {
     pub randoms: usize,
     pub span: Span,
     pub inputs: usize,
+}
+
+impl Tally {
+    // The answer, once all frames are counted.
+    pub(crate) fn answer(self) -> Accepted
+        ensures { result ≡ accepted_by self }
+    {
+        Accepted {
+            wires: self.wires,
+            randoms: self.randoms,
+            latency: self.span.latency(),
+            inputs: self.inputs,
+        }
+    }
 }
 
 // The circuit with one frame more, or the rule that the frame breaks and the word.

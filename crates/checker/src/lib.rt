@@ -2,12 +2,12 @@
 // wire up tells: its label, its stage and whether it is registered.
 #![tactic(auto)]
 
-ghost use Rattle.std.specs.Prelude.{◌≡◌, length};
+ghost use Rattle.std.specs.Prelude.{◌≡◌, Ok, length};
 ghost use Rattle.circuit.specs.Rules.{checked};
 ghost use Rattle.checker.specs.Answers.{answer_of, InputsAre};
 ghost use Rattle.circuit.specs.Answer.{verdict_of, notes_after};
-ghost use Rattle.checker.specs.Internal.Spans.{latency_in};
-ghost use Rattle.checker.specs.Internal.Adding.{head_number};
+ghost use Rattle.circuit.specs.Refusals.{number_of};
+ghost use Rattle.checker.specs.Internal.Adding.{head_answer, Listed};
 
 mod forms;
 mod frame;
@@ -15,73 +15,67 @@ pub mod notes;
 mod numbers;
 mod span;
 
+use circuit::{Refusal, Rule};
 use frame::{Added, Tally};
 use frames::randoms::random_bits;
-use frames::walk::{Step, Walk};
+use frames::walk::Walk;
 
-// The answer: accepted with the numbers of wires and random bits, the latency and the number of INs, or refused with the
-// number of the first rule broken, the frame and the word.
-#[derive(Clone, Copy)]
-pub enum Verdict {
-    Accepted {
-        wires: usize,
-        randoms: usize,
-        latency: usize,
-        inputs: usize,
-    },
-    Refused {
-        rule: usize,
-        frame: usize,
-        word: usize,
-    },
+// What an accepted table's answer tells: the numbers of wires and random bits, the latency and the number of INs.
+#[derive(Clone, Copy, Debug, PartialEq, Eq)]
+pub struct Accepted {
+    pub wires: usize,
+    pub randoms: usize,
+    pub latency: usize,
+    pub inputs: usize,
 }
 
-// The answers, from the counts and from a rule's spot.
-fn accepted(tally: Tally) -> Verdict
-    ensures { result ≡ Verdict.Accepted tally.wires tally.randoms (latency_in tally.span) tally.inputs }
+// The rule of a number among those that a table and its frames are asked.
+fn named(rule: usize) -> Rule
+    requires { Listed rule }
+    ensures { number_of result ≡ rule }
 {
-    Verdict::Accepted {
-        wires: tally.wires,
-        randoms: tally.randoms,
-        latency: tally.span.latency(),
-        inputs: tally.inputs,
+    match rule {
+        1 => Rule::TableLength,
+        2 => Rule::NotesLength,
+        3 => Rule::Head,
+        4 => Rule::ShareCount,
+        5 => Rule::Kind,
+        6 => Rule::WordCount,
+        7 => Rule::Range,
+        8 => Rule::MissingWire,
+        9 => Rule::InnerWire,
+        10 => Rule::Label,
+        11 => Rule::Stage,
+        12 => Rule::FirstRandom,
+        13 => Rule::LastStage,
+        14 => Rule::WireCount,
+        _ => Rule::Registered,
     }
 }
 
-fn refused(rule: usize, frame: usize, word: usize) -> Verdict
-    ensures { result ≡ Verdict.Refused rule frame word }
-{
-    Verdict::Refused { rule, frame, word }
-}
-
-// The first of rules 1 to 4 that a table and notes of so many words break; 0 for none.
-fn head_rule(table: &[u16], room: usize) -> usize
-    ensures { result ≡ head_number table.now room }
+// The first of rules 1 to 4 that a table and notes of so many words break.
+#[tactic(auto, using(std::proofs::lemmas::Bool::Decides::nat_tests))]
+fn head_rule(table: &[u16], room: usize) -> Result<(), Refusal>
+    ensures { result ≡ head_answer table.now room }
 {
     if circuit::TABLE_WORDS < table.len() {
-        return 1;
+        return Err(Refusal::of_call(Rule::TableLength, 0));
     }
     if room < circuit::NOTES_WORDS {
-        return 2;
+        return Err(Refusal::of_call(Rule::NotesLength, 0));
     }
-    if table.len() < 2 {
-        return 3;
+    if table.len() < 2 || table[0] != 0 {
+        return Err(Refusal::of_call(Rule::Head, 0));
     }
-    if table[0] != 0 {
-        return 3;
+    if table[1] < 2 || 8 < table[1] {
+        return Err(Refusal::of_call(Rule::ShareCount, 1));
     }
-    if table[1] < 2 {
-        return 4;
-    }
-    if 8 < table[1] {
-        return 4;
-    }
-    0
+    Ok(())
 }
 
 // The frames of a table that keeps rules 1 to 4, one after the other, up to the first that breaks a rule.
-fn check_frames(table: &[u16], notes: &mut [u16]) -> Verdict
-    requires { head_number table.now (length notes.old) ≡ 0 }
+fn check_frames(table: &[u16], notes: &mut [u16]) -> Result<Accepted, Refusal>
+    requires { head_answer table.now (length notes.old) ≡ Ok tt }
     ensures answered { answer_of result ≡ verdict_of table.now (length notes.old) }
     ensures noted { notes.new ≡ notes_after (checked table.now (length notes.old)).circuit notes.old }
     ensures inputs { InputsAre result (checked table.now (length notes.old)).circuit.inputs }
@@ -90,29 +84,32 @@ fn check_frames(table: &[u16], notes: &mut [u16]) -> Verdict
     let randoms = random_bits(d);
     let mut walk = Walk { d, at: 2 };
     let mut tally = frame::head_alone();
-    loop {
-        let step = walk.step(table, randoms);
-        match step {
-            Step::End => {
-                return accepted(tally);
+    'frames: loop {
+        match walk.step(table, randoms) {
+            Ok(None) => {
+                return Ok(tally.answer());
             }
-            Step::Refused { rule } => {
-                return refused(rule, tally.frames, 0);
+            Err(rule) => {
+                return Err(Refusal {
+                    rule,
+                    frame: tally.frames,
+                    word: 0,
+                });
             }
-            Step::Next {
-                frame: _,
-                shape,
-                walk: next,
-            } => {
+            Ok(Some(next)) => {
                 let ops = walk.operands(table);
-                let added = frame::add(tally, shape, d, ops, notes);
+                let added = frame::add(tally, next.shape, d, ops, notes);
                 match added {
                     Added::Next(more) => {
                         tally = more;
-                        walk = next;
+                        walk = next.walk;
                     }
                     Added::Refused(spot) => {
-                        return refused(spot.rule, tally.frames, spot.word);
+                        return Err(Refusal {
+                            rule: named(spot.rule),
+                            frame: tally.frames,
+                            word: spot.word,
+                        });
                     }
                 }
             }
@@ -121,14 +118,11 @@ fn check_frames(table: &[u16], notes: &mut [u16]) -> Verdict
 }
 
 // The table checked frame by frame, in one pass. Rules 1 to 4 leave the notes untouched.
-pub fn check(table: &[u16], notes: &mut [u16]) -> Verdict
+pub fn check(table: &[u16], notes: &mut [u16]) -> Result<Accepted, Refusal>
     ensures answered { answer_of result ≡ verdict_of table.now (length notes.old) }
     ensures noted { notes.new ≡ notes_after (checked table.now (length notes.old)).circuit notes.old }
     ensures inputs { InputsAre result (checked table.now (length notes.old)).circuit.inputs }
 {
-    let broken = head_rule(table, notes.len());
-    if broken != 0 {
-        return refused(broken, 0, broken / 4);
-    }
+    head_rule(table, notes.len())?;
     check_frames(table, notes)
 }

@@ -1,10 +1,13 @@
 -- A frame judged by its words, then by rules 13 and 14, and added to the circuit so far.
-use Rattle.std.specs.Prelude.{◌≡◌, Bool, true, false, cond, ◌&&◌, List, [], ◌∷◌, ℕ, zero, suc, ◌+◌, ◌*◌, ◌-◌, ◌≤◌, leb, ltb, eqb, length, take, drop}
+use Rattle.std.specs.Prelude.{◌≡◌, Bool, true, false, cond, ◌&&◌, ◌||◌, Result, Ok, Err, List, [], ◌∷◌, ℕ, zero, suc, ◌+◌, ◌*◌, ◌-◌, ◌≤◌, leb, ltb, eqb, length, take, drop}
 use Rattle.std.proofs.lemmas.List.Edits.{sets}
 use Rattle.circuit.specs.Limits.{table_limit, notes_room, fewest_shares, most_shares, stage_limit, wire_limit}
 use Rattle.circuit.specs.Lists.{nth}
 use Rattle.circuit.specs.Kinds.{Kind, HEAD, words}
 use Rattle.circuit.specs.Circuit.{Circuit, size}
+use Rattle.circuit.specs.Refusals.{refusal}
+use Rattle.circuit.specs.declared.rules.Refusal.{Refusal}
+use Rattle.circuit.specs.declared.rules.Rule.TheVariants as rule
 use Rattle.frames.specs.declared.kinds.Form.{Form}
 use Rattle.frames.specs.declared.kinds.Form.TheVariants.{ShareCount, Stage, Constant, Sum, Copy, Product, Refresh, Row}
 use Rattle.frames.specs.declared.kinds.Shape.{Shape as ShapeCode}
@@ -12,12 +15,13 @@ use Rattle.frames.specs.Walk.{shape_code}
 use Rattle.checker.specs.declared.notes.Found.{Found}
 use Rattle.checker.specs.declared.notes.Made.{Made}
 use Rattle.checker.specs.declared.forms.Spot.{Spot}
+use Rattle.checker.specs.declared.Accepted.{Accepted}
 use Rattle.checker.specs.declared.span.Span.{Span}
 use Rattle.checker.specs.declared.frame.Tally.{Tally}
 use Rattle.checker.specs.declared.frame.Added.{Added}
 use Rattle.checker.specs.declared.frame.Added.TheVariants.{Next, Refused}
 use Rattle.checker.specs.Internal.Notes.{noted, label_found, stage_found, wire_number, made_words}
-use Rattle.checker.specs.Internal.Spans.{no_span, span_of, span_in}
+use Rattle.checker.specs.Internal.Spans.{no_span, span_of, span_in, latency_in}
 
 -- a rule's number, 0 for none, at a word; the first of two spots that names a rule
 abbrev pub spot : (rule word : ℕ) → Spot
@@ -176,12 +180,20 @@ module _ (tally : Tally) (sh : ShapeCode) (d : ℕ) (ops old : List ℕ) where
     pub added_is : r ≡ added_by broken.rule broken.word tally (numbers_of sh) (span_in sh.form tally.span made_new.stage)
     pub notes_are : new ≡ notes_with broken.rule made_new tally.wires old
 
--- the number of the first of rules 1 to 4 that is broken, 0 for none
-abbrev pub head_number : List ℕ → ℕ → ℕ
-head_number table room = cond (leb (length table) table_limit)
+-- what a table that keeps rules 1 to 4 and a number of words of notes answer, or the first of them that is broken
+abbrev pub head_answer : List ℕ → ℕ → Result (Unit {0}) Refusal
+head_answer table room = cond (leb (length table) table_limit)
     (cond (leb notes_room room)
     (cond (leb 2 (length table) && eqb (nth table 0) 0)
-    (cond (leb fewest_shares (nth table 1) && leb (nth table 1) most_shares) 0 4)
-    3)
-    2)
-    1
+    (cond (leb fewest_shares (nth table 1) && leb (nth table 1) most_shares) (Ok tt) (Err (refusal rule.ShareCount 0 1)))
+    (Err (refusal rule.Head 0 0)))
+    (Err (refusal rule.NotesLength 0 0)))
+    (Err (refusal rule.TableLength 0 0))
+
+-- the numbers of the rules that a table and its frames are asked
+abbrev pub Listed : ℕ → Type 0
+Listed n = ((leb 1 n && leb n 14) || eqb n 22) ≡ true
+
+-- the answer that accepts, from the counts
+abbrev pub accepted_by : Tally → Accepted
+accepted_by t = record { wires = t.wires; randoms = t.randoms; latency = latency_in t.span; inputs = t.inputs }
