@@ -1,10 +1,25 @@
 -- What the parts of AND and REF fill in.
-use Rattle.std.specs.Prelude.{◌≡◌, List, ℕ, ◌+◌, ◌-◌}
+use Rattle.std.specs.Prelude.{◌≡◌, List, [], ℕ, ◌+◌, ◌-◌, ◌≤◌, length}
 use Rattle.std.specs.Int.Bits.{bit_xor}
 use Rattle.circuit.specs.Lists.{nth, range}
 use Rattle.circuit.specs.Kinds.{pairs}
-use Rattle.gadgets.specs.Internal.Places.{pair_at, product_at, cross_at, mask_at}
-use Rattle.simulation.specs.Internal.Filling.{Values, word_sum, Known, Fills, Crossed, crossing, RowCrossed, crossing_at}
+use Rattle.frames.specs.declared.walk.Frame.{Frame as FrameCode}
+use Rattle.frames.specs.declared.walk.Frame.TheVariants as frame
+use Rattle.gadgets.specs.declared.places.Gadget.{Gadget}
+use Rattle.gadgets.specs.Internal.Places.{pair_at, product_at, cross_at, mask_at, sum_at}
+use Rattle.gadgets.specs.Internal.Frames.{frame_wires, FrameEarly}
+use Rattle.simulation.specs.Internal.Filling.{Values, word_sum, Known, Fills, Crossed, crossing, RowCrossed, crossing_at, FrameValues}
+
+-- what a gadget's code takes: words that name earlier wires, a random bit for each pair, and room for the gadget's wires; and what it writes
+abbrev pub Takes : FrameCode → Gadget → (ops tape values : List ℕ) → Type 0
+Takes f g ops tape values = FrameEarly f g.d g.first ops × (g.used + g.pairs ≤ length tape) × (g.first + frame_wires f g.d ≤ length values)
+
+abbrev pub Writes : FrameCode → Gadget → (ops tape old new : List ℕ) → Type 0
+Writes f g ops tape old new = Fills (FrameValues f 1 g.d g.first 0 g.used ops [] tape) g.first (g.first + frame_wires f g.d) old new
+
+-- the same of REF, with room for its random bits and sums alone
+abbrev pub TakesMasks : Gadget → (ops tape values : List ℕ) → Type 0
+TakesMasks g ops tape values = FrameEarly frame.Ref g.d g.first ops × (g.used + g.pairs ≤ length tape) × (sum_at g.d g.first g.d ≤ length values)
 
 -- the wires of two shares
 pub record Crosses (at a b r : ℕ) (old new : List ℕ) (s : ℕ) : Type 0 where
