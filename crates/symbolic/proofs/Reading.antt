@@ -1,7 +1,7 @@
 -- The wires of AND that are written: those on the list, one after the other, and the outputs.
-use mathlib.Core.Path.{◌≡◌, refl, sym, ap, ap₂, subst, ◌∙◌}
+use mathlib.Core.Path.{◌≡◌, refl, sym, ap, subst, ◌∙◌}
 use mathlib.Core.List.{List}
-use Prim.Native.Nat.{ℕ, ◌+◌, ◌*◌, ◌-◌, ◌/◌, ◌%◌, ◌^◌, ◌≤◌, ◌<◌}
+use Prim.Native.Nat.{ℕ, ◌+◌, ◌*◌, ◌-◌, ◌^◌, ◌≤◌, ◌<◌}
 use native.Mathlib.Omega.{arith}
 use lib.Bits.{bit_xor, xor_zero_l}
 use lib.Dec.{eqb, leb, ltb}
@@ -15,37 +15,25 @@ use Rattle.gadgets.specs.Internal.Places.{word_a, word_b, mask_at, cross_start, 
 use Rattle.gadgets.proofs.Stored.{nth-set}
 use Rattle.simulation.specs.Internal.Filling.{word_sum}
 use Rattle.symbolic.specs.declared.gadget.Term.{Term}
-use Rattle.symbolic.specs.Internal.Terms.{term, product, sum_with, product_term, cross_term, share_at, inner_term, output_term, term_at, with_term, AndAsks, Inside, read_sums, read_terms, ReadsInside, WritesOutputs}
-use Rattle.symbolic.proofs.Inside.{decoded, inner_mask, inner-share, inner_pair}
+use Rattle.symbolic.specs.declared.offsets.Inner.{Inner}
+use Rattle.symbolic.specs.declared.offsets.Inner.TheVariants.{R, B, M, U, V, W}
+use Rattle.symbolic.specs.Internal.Inside.{inner_at, WireOf}
+use Rattle.symbolic.specs.Internal.Terms.{term, product, sum_with, wire_term, inner_term, output_term, term_at, with_term, AndAsks, Inside, read_sums, read_terms, ReadsInside, WritesOutputs}
+use Rattle.symbolic.proofs.Inside.{shares_fit}
 use Rattle.symbolic.proofs.Written.{term_parts, term_here, term-other, term-sized}
 
 -- the term of a wire inside AND rests on the sums before it
 module _ {d first : ℕ} {ops : List ℕ} {room drawn used : ℕ} (asks : AndAsks d first ops room drawn used) where
+  wire_same : (sums sums' tape : List ℕ) (w : Inner) → WireOf d w → ((x : ℕ) → x < first → nth sums' x ≡ nth sums x) → wire_term d ops sums' tape used w ≡ wire_term d ops sums tape used w
+  wire_same sums sums' tape (R q) l h = refl
+  wire_same sums sums' tape (B i) l h = rw (h _ (asks.early_b i l))
+  wire_same sums sums' tape (M i) l h = rw (h _ (asks.early_a i l), h _ (asks.early_b i l))
+  wire_same sums sums' tape (U i j) l h = rw (h _ (asks.early_a i l.0))
+  wire_same sums sums' tape (V i j) l h = rw (h _ (asks.early_b j l.1))
+  wire_same sums sums' tape (W i j) l h = rw (h _ (asks.early_a i l.0), h _ (asks.early_b j l.1))
+
   pub inner-same : (sums sums' tape : List ℕ) (o : ℕ) → o < cross_start d d → ((x : ℕ) → x < first → nth sums' x ≡ nth sums x) → inner_term d ops sums' tape used o ≡ inner_term d ops sums tape used o
-  inner-same sums sums' tape o l h = cases (ltb o (d * (d - 1)))
-      (λ e. let k = ltb-true o (d * (d - 1)) e in inner_mask d ops sums' tape used o k ∙ sym (inner_mask d ops sums tape used o k))
-      (λ e. let k = ltb-false o (d * (d - 1)) e in cases (ltb o (d * (d - 1) + 3 * d))
-      (λ f. let m = ltb-true o (d * (d - 1) + 3 * d) f in inner-share d ops sums' tape used o k m ∙ share m ∙ sym (inner-share d ops sums tape used o k m))
-      (λ f. let m = ltb-false o (d * (d - 1) + 3 * d) f in inner_pair d ops sums' tape used o m ∙ pair m ∙ sym (inner_pair d ops sums tape used o m)))
-    where
-      a : (i : ℕ) → i < d → nth sums' (word_a ops i) ≡ nth sums (word_a ops i)
-      a i k = h (word_a ops i) (asks.early_a i k)
-
-      b : (i : ℕ) → i < d → nth sums' (word_b d ops i) ≡ nth sums (word_b d ops i)
-      b i k = h (word_b d ops i) (asks.early_b i k)
-
-      share : o < d * (d - 1) + 3 * d → let i = (o - d * (d - 1)) / 3 in let part = (o - d * (d - 1)) % 3 in
-          product_term (nth sums' (word_a ops i)) (nth sums' (word_b d ops i)) part ≡ product_term (nth sums (word_a ops i)) (nth sums (word_b d ops i)) part
-      share m = rw (a ((o - d * (d - 1)) / 3) (omega arith), b ((o - d * (d - 1)) / 3) (omega arith))
-
-      pair : d * (d - 1) + 3 * d ≤ o → let p = o - (d * (d - 1) + 3 * d) in let i = p / (6 * (d - 1)) in let j = share_at i (p % (6 * (d - 1)) / 6) in
-          cross_term (nth sums' (word_a ops i)) (nth sums' (word_b d ops j)) (nth tape (mask_at d used i j)) (p % (6 * (d - 1)) % 6) ≡ cross_term (nth sums (word_a ops i)) (nth sums (word_b d ops j)) (nth tape (mask_at d used i j)) (p % (6 * (d - 1)) % 6)
-      pair m =
-          let p = o - (d * (d - 1) + 3 * d) in
-          let k = decoded d first p asks.two (omega arith) in
-          let i = p / (6 * (d - 1)) in
-          let j = share_at i (p % (6 * (d - 1)) / 6) in
-          ap₂ (λ x y. cross_term x y (nth tape (mask_at d used i j)) (p % (6 * (d - 1)) % 6)) (a i k.few) (b j k.other)
+  inner-same sums sums' tape o l h = wire_same sums sums' tape (inner_at d o) (shares_fit d o asks.two l) h
 
 -- wires on the list: none, and one more
 pub reads_none : (d first : ℕ) (ops tape : List ℕ) (used : ℕ) (read sums terms : List ℕ) → ReadsInside d first ops tape used read 0 sums terms sums terms

@@ -16,23 +16,6 @@ use Rattle.simulation.specs.Internal.Filling.{word_sum}
 use Rattle.symbolic.specs.declared.gadget.Term.{Term}
 use Rattle.symbolic.specs.Internal.Terms.{term, product, term_at, with_term, Copies, Refreshes}
 
--- sums that are copied: none, and one more
-pub copies_none : (source : List ℕ) (from at : ℕ) (old : List ℕ) → Copies source from at 0 old old
-copies_none source from at old = record { are = λ q l. absurd (omega arith); below = λ x l. refl; sized = refl }
-
-pub copies_next : {source old new : List ℕ} {from at q : ℕ} → at + q < length old → Copies source from at q old new → Copies source from at (q + 1) old (set new (at + q) (nth source (from + q)))
-copies_next {source} {old} {new} {from} {at} {q} room h = record {
-  are = λ p l. nth-set new (at + q) (nth source (from + q)) (at + p) here (λ same z. z ∙ ap (nth source) (omega arith)) (λ other z. z ∙ h.are p (omega arith));
-  below = λ x l. get_or-set_other new (at + q) x (nth source (from + q)) 0 (λ z. omega arith) ∙ h.below x l;
-  sized = length-set new (at + q) (nth source (from + q)) ∙ h.sized;
-}
-  where
-    here : at + q < length new
-    here = omega (arith, h.sized)
-
-pub copies_end : {source old new : List ℕ} {from at q count : ℕ} → q ≡ count → Copies source from at q old new → Copies source from at count old new
-copies_end e h = rw (← e) h
-
 -- REF up to a share, from sums among which its random bits are
 abbrev refreshed : (d : ℕ) (ops tape : List ℕ) (used : ℕ) (sums : List ℕ) (i : ℕ) → ℕ
 refreshed d ops tape used sums i = bit_xor (nth sums (word_a ops i)) (word_sum (others d i) (λ j. nth tape (mask_at d used i j)))
