@@ -7,13 +7,15 @@ use lib.Dec.{ltb}
 use lib.ListN.{length, get_or, take, drop, length-drop, length-append}
 use lib.Seq.{paste, length-paste, take-paste, drop-paste, length-take-le, get_or-take, ext_get_or, drop-drop}
 use borrow.Author.Tests.{ltb-true, ltb-false}
+use Rattle.std.specs.Prelude.{Result, Ok, Err, ⊤}
+use Rattle.circuit.specs.declared.rules.Rule.{Rule}
 use Rattle.circuit.specs.Rules.{pass}
 use Rattle.circuit.specs.Kinds.{kind_of}
 use Rattle.circuit.proofs.Base.{cases}
 use Rattle.text.specs.Lines.{lines_of}
 use Rattle.text.specs.Reader.{frame_lines, read_text}
 use Rattle.text.specs.Internal.Scan.{value_in, count_from, words_at, limit_of, ruled, frame_by_count}
-use Rattle.text.specs.Internal.Blocks.{block_words, start_of, count_of, Split, Lengths, number_of, Taken}
+use Rattle.text.specs.Internal.Blocks.{block_words, start_of, count_of, Split, Lengths, rule_of, Taken}
 use Rattle.text.proofs.Scanning.{words-most, same-frame, limit-most, limit-room}
 use Rattle.text.proofs.Blocks.{number_fits, frame-number}
 use Rattle.text.proofs.Reading.{words-length, frame-line, line-fits}
@@ -36,9 +38,9 @@ words-at (suc n) bytes (suc j) h =
     let f : 5 + 5 * j ≡ 5 * suc j = omega arith in
     words-at n (drop 5 bytes) j (omega arith) ∙ rw (drop-drop (5 * j) 5 bytes, f)
 
-rule_none : (r n w : ℕ) → ruled r n w ≡ pass → r ≡ 0
-rule_none zero n w h = refl
-rule_none (suc r) n w h = let z : ◌≡◌ {A = ℕ} 0 1 = cc in absurd (omega arith)
+rule_none : (n : ℕ) (r : Result ⊤ Rule) → ruled n r ≡ pass → r ≡ Ok tt
+rule_none n (Ok x) h = refl
+rule_none n (Err rule) h = let z : ◌≡◌ {A = ℕ} 0 1 = cc in absurd (omega arith)
 
 module _ {text table₀ : List ℕ} {room d : ℕ} {table : List ℕ} {at line stored : ℕ} (p : Progress text table₀ room d table at line stored)
     {lengths block ends : List ℕ} {limit lines taken : ℕ} (q : limit ≡ limit_of room) (l : Lengths d lengths) (s : Split text at block ends lines)
@@ -71,7 +73,7 @@ module _ {text table₀ : List ℕ} {room d : ℕ} {table : List ℕ} {at line s
 
   -- the rule that a line breaks by its numbers is the one that it breaks in the text
   judged : (g : ℕ) → g < lines → g ≤ taken → (n : ℕ)
-      → ruled (number_of lengths block ends (limit - stored) g) n 0
+      → ruled n (rule_of lengths block ends (limit - stored) g)
       ≡ frame_by_count room d n (stored + start_of ends g) (value_in (bytes g)) (count_from 1 (bytes g))
   judged g h k n =
       let w = s.whole g h in
@@ -145,7 +147,7 @@ module _ {text table₀ : List ℕ} {room d : ℕ} {table : List ℕ} {at line s
   -- where no line is taken, the line here breaks a rule
   pub never : taken ≡ 0 → judgement p ≡ pass → ⊥
   never z e = cases (ltb 0 lines)
-      (λ h. t.breaks (omega (arith, ltb-true 0 lines h)) (rule_none _ line 0 (judged taken (omega (arith, ltb-true 0 lines h)) (omega arith) line ∙ first)))
+      (λ h. t.breaks (omega (arith, ltb-true 0 lines h)) (rule_none line _ (judged taken (omega (arith, ltb-true 0 lines h)) (omega arith) line ∙ first)))
       (λ h. let c = frame-count room d line stored (value_in (drop at text)) (count_from 1 (drop at text)) e in
       let w = frame-words room d line stored (value_in (drop at text)) (count_from 1 (drop at text)) e in
       let m = words-most d (kind_of (value_in (drop at text))) in

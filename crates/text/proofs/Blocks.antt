@@ -8,12 +8,14 @@ use lib.Dec.{leb, eqb}
 use lib.ListN.{length, get_or, set, drop}
 use lib.Seq.{get_or-set_same, get_or-set_other}
 use borrow.Author.Tests.{leb-true, leb-false, lt-ltb, le-leb, lt-leb}
+use Rattle.std.specs.Prelude.{Result, Ok, Err, ⊤}
+use Rattle.circuit.specs.declared.rules.Rule.{Rule}
 use Rattle.circuit.specs.Limits.{table_limit}
 use Rattle.circuit.specs.Kinds.{words, kind_of}
 use Rattle.circuit.proofs.Base.{cases, and_right, below_more}
 use Rattle.text.specs.Lines.{line_feed}
 use Rattle.text.specs.Internal.Scan.{feed_of, is_word, value_in, count_from, ruled, frame_by_count}
-use Rattle.text.specs.Internal.Blocks.{block_words, start_of, Whole, Split, Lengths, line_number}
+use Rattle.text.specs.Internal.Blocks.{block_words, start_of, Whole, Split, Lengths, line_rule}
 use Rattle.text.proofs.Scanning.{count_turn}
 use Rattle.text.proofs.Hex.{word-inside}
 
@@ -128,18 +130,21 @@ cut_end {text} {at} {block} {ends} {lines} {k} p most h = record {
       rw (z, u, v) at e
 
 -- a line that breaks no rule lies in the room
-pub number_fits : (lengths : List ℕ) (kind count room : ℕ) → line_number lengths kind count room ≡ 0 → count ≤ room
+pub number_fits : (lengths : List ℕ) (kind count room : ℕ) → line_rule lengths kind count room ≡ Ok tt → count ≤ room
 number_fits lengths kind count room h = cases (leb 1 kind && leb kind 8)
     (λ e. cases (eqb count (get_or lengths kind 0))
     (λ f. cases (leb count room)
     (λ g. leb-true count room g)
-    (λ g. let z : ◌≡◌ {A = ℕ} 21 0 = rw (e, f, g) at h in absurd (omega arith)))
-    (λ f. let z : ◌≡◌ {A = ℕ} 6 0 = rw (e, f) at h in absurd (omega arith)))
-    (λ e. let z : ◌≡◌ {A = ℕ} 5 0 = rw e at h in absurd (omega arith))
+    (λ g. absurd (broken (rw (e, f, g) at h))))
+    (λ f. absurd (broken (rw (e, f) at h))))
+    (λ e. absurd (broken (rw e at h)))
+  where
+    broken : {rule : Rule} → ◌≡◌ {A = Result ⊤ Rule} (Err rule) (Ok tt) → ⊥
+    broken e = let z : ◌≡◌ {A = ℕ} 0 1 = cc in omega arith
 
 -- the rules of a line by its kind, its number of words and the room are those of the definition
 pub frame-number : (lengths : List ℕ) (d : ℕ) → Lengths d lengths → (room stored kind count : ℕ) → 0 < count → stored ≤ room → room ≤ table_limit → (n : ℕ)
-    → ruled (line_number lengths kind count (room - stored)) n 0 ≡ frame_by_count room d n stored kind count
+    → ruled n (line_rule lengths kind count (room - stored)) ≡ frame_by_count room d n stored kind count
 frame-number lengths d l room stored kind count h k m n = rw (lt-ltb 0 count h) (cases (leb 1 kind && leb kind 8)
     (λ e. let z = leb-true kind 8 (and_right (leb 1 kind) (leb kind 8) e) in
     rw (e, l kind (omega arith)) (cases (eqb count (suc (words d (kind_of kind))))

@@ -1,8 +1,8 @@
 -- The loop over the lines: what holds at its head, its turn, and its ends.
-use mathlib.Core.Path.{◌≡◌, refl, sym, ap, ◌∙◌}
+use mathlib.Core.Path.{◌≡◌, sym, ap, ◌∙◌}
 use mathlib.Core.Bool.{true, ◌&&◌}
 use mathlib.Core.List.{List, [], ◌∷◌}
-use Prim.Native.Nat.{ℕ, zero, suc, ◌+◌, ◌≤◌, ◌<◌}
+use Prim.Native.Nat.{ℕ, suc, ◌+◌, ◌≤◌, ◌<◌}
 use native.Mathlib.Omega.{arith}
 use lib.Dec.{leb, ltb, eqb}
 use lib.ListN.{length, set, take, drop, length-set, length-drop, take-append-drop, drop_of_length-le}
@@ -15,7 +15,7 @@ use Rattle.circuit.proofs.Base.{and_left, and_right}
 use Rattle.text.specs.Lines.{lines_of}
 use Rattle.text.specs.Reader.{frame_lines, read_text, room_rule}
 use Rattle.text.specs.Answer.{table_after}
-use Rattle.text.specs.Internal.Scan.{is_word, value_in, count_from, words_at, limit_of, ruled, head_by_count, frame_by_count}
+use Rattle.text.specs.Internal.Scan.{is_word, value_in, count_from, words_at, limit_of, head_by_count, frame_by_count}
 use Rattle.circuit.proofs.Judging.{then_pass, need-pass, need_then}
 use Rattle.text.specs.Internal.Blocks.{Begun}
 use Rattle.text.proofs.Scanning.{limit-least, limit-room, second_word}
@@ -76,8 +76,8 @@ module _ {text table₀ : List ℕ} {room d : ℕ} {table : List ℕ} {at line s
 abbrev pub head_here : List ℕ → ℕ → Judgement
 head_here text room = head_by_count room (length text) (count_from 1 text) (value_in text) (value_in (drop 5 text))
 
-pub head_refused : (text : List ℕ) (room r w : ℕ) → refuse r 0 w ≡ head_here text room → read_text text room ≡ stop [] (refuse r 0 w)
-head_refused text room r w e = head_line room text ∙ rw (sym e)
+pub head_refused : (text : List ℕ) (room r n w : ℕ) → refuse r n w ≡ head_here text room → read_text text room ≡ stop [] (refuse r n w)
+head_refused text room r n w e = head_line room text ∙ rw (sym e)
 
 module _ (text table : List ℕ) (room : ℕ) (e : pass ≡ head_here text room) where
   abbrev count : ℕ
@@ -121,10 +121,6 @@ module _ (text table : List ℕ) (room : ℕ) (e : pass ≡ head_here text room)
         inside = head_fits.0;
         reads = rw (n, front) (head_line room text ∙ rw (sym e, headed.0, headed.1, u));
       }
-
-pub rule_broken : (r n w : ℕ) → (r ≡ 0 → ⊥) → ruled r n w ≡ refuse r n w
-rule_broken zero n w h = absurd (h refl)
-rule_broken (suc r) n w h = refl
 
 -- the two promises, from how the reading ends
 module _ (text table table₀ : List ℕ) (room stored : ℕ) (j : Judgement)

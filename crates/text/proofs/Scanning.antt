@@ -1,22 +1,23 @@
 -- The loops over a line: counting its words, and storing them.
 use mathlib.Core.Path.{◌≡◌, refl, sym, ap, ◌∙◌}
-use mathlib.Core.Bool.{true, cond, ◌&&◌}
+use mathlib.Core.Bool.{true, false, cond, ◌&&◌}
 use mathlib.Core.List.{List, [], ◌∷◌}
-use Prim.Native.Nat.{ℕ, zero, suc, ◌+◌, ◌*◌, ◌≤◌, ◌<◌}
+use Prim.Native.Nat.{ℕ, zero, suc, ◌+◌, ◌≤◌, ◌<◌}
 use native.Mathlib.Omega.{arith}
 use lib.Dec.{leb, ltb, eqb}
 use lib.ListN.{length, get_or, drop, length-drop}
 use borrow.Author.Tests.{leb-true, leb-false, le-leb}
 use Rattle.circuit.proofs.Base.{cases}
 use Rattle.circuit.proofs.Sizes.{words-AND, words-REF, words-OUT}
+use Rattle.std.specs.Prelude.{Some, None}
 use Rattle.circuit.specs.Limits.{table_limit}
 use Rattle.circuit.specs.Circuit.{empty}
 use Rattle.circuit.specs.Kinds.{Kind, HEAD, IN, CON, XOR, NOT, REG, AND, REF, OUT, share_count, shape, kind_of, words}
 use Rattle.circuit.specs.Rules.{Judgement, need, ◌then◌, word_rule}
 use Rattle.text.specs.Lines.{line_feed, are_digits}
 use Rattle.text.specs.Reader.{room_rule}
-use Rattle.text.specs.Internal.Scan.{is_mark, is_word, count_from, behind_line, limit_of, head_by_count, frame_by_count}
-use Rattle.text.proofs.Hex.{five}
+use Rattle.text.specs.Internal.Scan.{is_mark, Coded, is_word, count_from, line_count, limit_of, head_by_count, frame_by_count}
+use Rattle.text.proofs.Hex.{five, coded_mark}
 
 short_count : (n : ℕ) (bytes : List ℕ) → length bytes < 5 → count_from n bytes ≡ 0
 unfolding count_from
@@ -37,6 +38,21 @@ pub count_turn : (n : ℕ) (l : List ℕ) (i : ℕ) → i + 5 ≤ length l
 unfolding count_from is_word
 count_turn n l i h = let u : n + 1 ≡ suc n = omega arith in rw (u, five l i h)
 
+-- the same by the codes at the place: they are no word's; or a word's that ends the line, or not
+module _ {l : List ℕ} {i high low mark : ℕ} (k : Coded l i high low mark) (n : ℕ) where
+  pub no_word : is_word (drop i l) ≡ false → count_from n (drop i l) ≡ 0
+  no_word h = count_turn n l i k.inside ∙ rw h
+
+  pub last_word : is_word (drop i l) ≡ true → mark ≡ 1 → count_from n (drop i l) ≡ n
+  last_word h m = count_turn n l i k.inside ∙ rw h (cases (eqb (get_or l (i + 4) 0) line_feed)
+      (λ e. rw e)
+      (λ e. let z : mark ≡ 0 = coded_mark k h ∙ rw e in absurd (omega arith)))
+
+  pub more_words : is_word (drop i l) ≡ true → (mark ≡ 1 → ⊥) → count_from n (drop i l) ≡ count_from (n + 1) (drop (i + 5) l)
+  more_words h m = count_turn n l i k.inside ∙ rw h (cases (eqb (get_or l (i + 4) 0) line_feed)
+      (λ e. let z : mark ≡ 1 = coded_mark k h ∙ rw e in absurd (m z))
+      (λ e. rw e))
+
 -- the words of a line of the form
 pub counted-word : (n : ℕ) (bytes : List ℕ) → 0 < count_from n bytes → is_word bytes ≡ true
 unfolding count_from is_word
@@ -56,18 +72,17 @@ second_word bytes h e =
     (λ f. let z : ◌≡◌ {A = ℕ} 2 1 = rw f at k in absurd (omega arith))
     (λ f. let z : 2 ≡ count_from 2 (drop 5 bytes) = rw f at k in counted-word 2 (drop 5 bytes) (omega arith))
 
--- the place behind a line tells its count
-pub behind-some : (at count : ℕ) → 0 < count → behind_line at count ≡ at + 5 * count
-behind-some at zero h = absurd (omega arith)
-behind-some at (suc n) h = refl
+-- the count of a line of the form
+pub line_count-some : (n k : ℕ) → line_count n ≡ Some k → (n ≡ k) × (0 < n)
+line_count-some zero k h = let z : ◌≡◌ {A = ℕ} 0 1 = cc in absurd (omega arith)
+line_count-some (suc n) k h = (cc, omega arith)
 
-pub behind-none : (at count : ℕ) → behind_line at count ≡ 0 → count ≡ 0
-behind-none at zero h = refl
-behind-none at (suc n) h = absurd (omega arith)
+pub line_count_more : (n : ℕ) → line_count (n + 1) ≡ Some (n + 1)
+line_count_more n = let e : n + 1 ≡ suc n = omega arith in rw e
 
-pub behind-known : (at count : ℕ) → (behind_line at count ≡ 0 → ⊥) → (behind_line at count ≡ at + 5 * count) × (0 < count)
-behind-known at zero h = absurd (h refl)
-behind-known at (suc n) h = (refl, omega arith)
+pub line_count-none : (n : ℕ) → line_count n ≡ None → n ≡ 0
+line_count-none zero h = refl
+line_count-none (suc n) h = let z : ◌≡◌ {A = ℕ} 0 1 = cc in absurd (omega arith)
 
 -- a kind's number of words
 pub words-most : (d : ℕ) (kind : Kind) → words d kind ≤ 3 + d + d

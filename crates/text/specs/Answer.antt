@@ -1,20 +1,20 @@
 -- The answers of calls on text: accepted with a number, of words read or of bytes written, or refused with the rule's number, the line
 -- (of a table: the frame) and the word; and the reader's answer.
-use Rattle.std.specs.Prelude.{List, ℕ, length}
+use Rattle.std.specs.Prelude.{List, ℕ, length, Result, Ok, Err}
 use Rattle.circuit.specs.Lists.{overwrite}
 use Rattle.circuit.specs.Rules.{Judgement, pass, refuse}
-use Rattle.text.specs.declared.TextVerdict.{TextVerdict}
-use Rattle.text.specs.declared.TextVerdict.TheVariants.{Accepted, Refused}
+use Rattle.circuit.specs.Refusals.{number_of}
+use Rattle.circuit.specs.declared.rules.Refusal.{Refusal}
 use Rattle.text.specs.Reader.{Read, read_text}
 
 pub data TextAnswer : Type 0 where
   accepted : (count : ℕ) → TextAnswer
   refused : (rule line word : ℕ) → TextAnswer
 
--- what the code's answer says
-abbrev pub text_answer : TextVerdict → TextAnswer
-text_answer (Accepted count) = accepted count
-text_answer (Refused rule line word) = refused rule line word
+-- what the code's answer says; a line of the text is the refusal's frame
+abbrev pub text_answer : Result ℕ Refusal → TextAnswer
+text_answer (Ok count) = accepted count
+text_answer (Err r) = refused (number_of r.rule) r.frame r.word
 
 -- the answer to a judgement, by the words found or the bytes written
 abbrev pub answer : List ℕ → Judgement → TextAnswer

@@ -11,24 +11,12 @@ mod digits;
 mod line;
 mod rules;
 
+use circuit::Refusal;
 use line::BLOCK;
 
-// The answer of a call on text: accepted with a number, of words read or of bytes written, or refused with the number of the
-// first rule broken, the line (of a table: the frame) and the word.
-#[derive(Clone, Copy)]
-pub enum TextVerdict {
-    Accepted {
-        count: usize,
-    },
-    Refused {
-        rule: usize,
-        line: usize,
-        word: usize,
-    },
-}
-
-// The text read block by block. The words of the lines that break no rule are stored, up to the first line that breaks one.
-pub fn read(text: &[u8], table: &mut [u16]) -> TextVerdict
+// The text read block by block: how many words, or the first rule broken and the line, as the refusal's frame. The words of the
+// lines that break no rule are stored, up to the first line that breaks one.
+pub fn read(text: &[u8], table: &mut [u16]) -> Result<usize, Refusal>
     ensures answered { text_answer result ≡ text_answer_of text.now (length table.old) }
     ensures stored { table.new ≡ table_after (read_text text.now (length table.old)) table.old }
 {
@@ -37,21 +25,13 @@ pub fn read(text: &[u8], table: &mut [u16]) -> TextVerdict
 }
 
 // The same, by the codes of the bytes.
-fn read_by(codes: &[u16; 512], text: &[u8], table: &mut [u16]) -> TextVerdict
+fn read_by(codes: &[u16; 512], text: &[u8], table: &mut [u16]) -> Result<usize, Refusal>
     requires { codes.now ≡ code_table }
     ensures answered { text_answer result ≡ text_answer_of text.now (length table.old) }
     ensures stored { table.new ≡ table_after (read_text text.now (length table.old)) table.old }
 {
     let room = rules::limit(table.len());
-    let broken = rules::head_rule(codes, text, room);
-    if broken != 0 {
-        return TextVerdict::Refused {
-            rule: broken,
-            line: 0,
-            word: rules::head_word(broken),
-        };
-    }
-    let d = digits::value(codes, text, 5);
+    let d = rules::head(codes, text, room)?;
     table[0] = 0;
     table[1] = d;
     let mut block = [0u16; BLOCK];
@@ -69,7 +49,7 @@ fn read_frames(
     table: &mut [u16],
     block: &mut [u16],
     ends: &mut [u16],
-) -> TextVerdict
+) -> Result<usize, Refusal>
     requires { (codes.now ≡ code_table) × Begun text.now table.old d room × (length block.old ≡ block_words) × (length ends.old ≡ block_words) }
     ensures answered { text_answer result ≡ text_answer_of text.now (length table.old) }
     ensures stored { (lent : List ℕ) → drop 2 lent ≡ drop 2 table.old → table.new ≡ table_after (read_text text.now (length table.old)) lent }
@@ -82,11 +62,12 @@ fn read_frames(
         let lines = line::split(codes, text, at, block, ends);
         let taken = rules::taken(&lengths, block, ends, lines, room - stored);
         if taken == 0 {
-            return TextVerdict::Refused {
-                rule: rules::frame_rule(codes, text, at, &lengths, stored, room),
-                line,
+            let broken = rules::frame_rule(codes, text, at, &lengths, stored, room);
+            return Err(Refusal {
+                rule: broken.unwrap_err(),
+                frame: line,
                 word: 0,
-            };
+            });
         }
         let count = ends[taken - 1] as usize;
         line::store(block, count, table, stored);
@@ -94,5 +75,5 @@ fn read_frames(
         line += taken;
         stored += count;
     }
-    TextVerdict::Accepted { count: stored }
+    Ok(stored)
 }

@@ -1,7 +1,7 @@
 // The lines of the text, one by one and a block at a time.
 ghost use Rattle.std.specs.Prelude.{◌≡◌, ◌+◌, ◌*◌, ◌≤◌, ◌<◌, length, drop};
 ghost use Rattle.std.proofs.Math.Seq.{paste};
-ghost use Rattle.text.specs.Internal.Scan.{code_table, count_from, behind_line};
+ghost use Rattle.text.specs.Internal.Scan.{code_table, count_from, line_count};
 ghost use Rattle.text.specs.Internal.Blocks.{block_words, Split};
 
 use super::digits;
@@ -9,23 +9,22 @@ use super::digits;
 // How many words are looked at together. A line that keeps the rules has far fewer.
 pub(crate) const BLOCK: usize = 256;
 
-// The place behind the line at a place; 0 where the line is not of the form.
-pub(crate) fn end(codes: &[u16; 512], text: &[u8], at: usize) -> usize
+// How many words the line at a place has; none where it is not of the form.
+pub(crate) fn count(codes: &[u16; 512], text: &[u8], at: usize) -> Option<usize>
     requires { (codes.now ≡ code_table) × (at ≤ length text.now) }
-    ensures { result ≡ behind_line at (count_from 1 (drop at text.now)) }
+    ensures { result ≡ line_count (count_from 1 (drop at text.now)) }
 {
-    let mut i = at;
-    while 5 <= text.len() - i {
-        if !digits::is_word(codes, text, i) {
-            return 0;
+    let whole = (text.len() - at) / 5;
+    for k in 0..whole {
+        let word = digits::word_at(codes, text, at + 5 * k);
+        if !digits::is_whole(word) {
+            return None;
         }
-        let mark = text[i + 4];
-        i += 5;
-        if mark == 10 {
-            return i;
+        if word.mark == 1 {
+            return Some(k + 1);
         }
     }
-    0
+    None
 }
 
 // How many words, five bytes each, a block has at most behind which so many bytes are left.

@@ -5,6 +5,9 @@ use Prim.Native.Nat.{ℕ, ◌+◌, ◌*◌, ◌-◌, ◌≤◌}
 use native.Mathlib.Omega.{arith}
 use lib.ListN.{length, get_or, take, drop}
 use lib.Seq.{paste, length-take-le, drop-drop}
+use Rattle.std.specs.Prelude.{Result, Ok, Err, ⊤, IsErr}
+use Rattle.circuit.specs.Refusals.{number_of}
+use Rattle.circuit.specs.declared.rules.Rule.{Rule}
 use Rattle.circuit.specs.Rules.{Judgement, pass, refuse}
 use Rattle.text.specs.Reader.{read_text}
 use Rattle.text.specs.Answer.{table_after}
@@ -13,10 +16,10 @@ use Rattle.text.specs.Internal.Blocks.{block_words, start_of, Lines}
 use Rattle.text.proofs.Scanning.{limit-most, limit-room, same-frame}
 use Rattle.text.proofs.Reading.{stop}
 use Rattle.text.proofs.Blocks.{start_last}
-use Rattle.text.proofs.Progress.{Progress, judgement, rule_broken, refused, ended, table-after}
+use Rattle.text.proofs.Progress.{Progress, judgement, refused, ended, table-after}
 use Rattle.text.proofs.Advance.{in_room, in_text, least, most, turn, never}
 use Rattle.text.proofs.read_frames.Goals as goal
-use Rattle.text.proofs.read_frames.Goals.{After-split-lines, After-taken-taken, At-loop-at, Else-taken-eq0}
+use Rattle.text.proofs.read_frames.Goals.{After-split-lines, After-taken-taken, After-frame_rule-broken, At-loop-at, Else-taken-eq0}
 use Rattle.text.proofs.read_frames.Lts.View as view
 
 -- the table is as it was lent, past the words stored
@@ -114,8 +117,8 @@ overflow_sub-room c = (fits (goal.at.overflow_sub-room c).At-loop-at).0
 pub taken-taken-requires : goal.taken-taken-requires
 taken-taken-requires c = (lined (goal.at.taken-taken-requires c).After-split-lines, (sized (goal.at.taken-taken-requires c).After-split-lines).0, (sized (goal.at.taken-taken-requires c).After-split-lines).1)
 
-pub frame_rule-requires : goal.frame_rule-requires
-frame_rule-requires c = (c.requires.0, c.loop-at.invariant.0.within, (fits (goal.at.frame_rule-requires c).At-loop-at).0, (fits (goal.at.frame_rule-requires c).At-loop-at).1)
+pub frame_rule-broken-requires : goal.frame_rule-broken-requires
+frame_rule-broken-requires c = (c.requires.0, c.loop-at.invariant.0.within, (fits (goal.at.frame_rule-broken-requires c).At-loop-at).0, (fits (goal.at.frame_rule-broken-requires c).At-loop-at).1)
 
 pub shape_of-table-then-taken-eq0 : goal.shape_of-table-then-taken-eq0
 shape_of-table-then-taken-eq0 c = c.loop-at.invariant.0.size
@@ -126,24 +129,34 @@ shape_of-block-then-taken-eq0 c = (sized (goal.at.shape_of-block-then-taken-eq0 
 pub shape_of-ends-then-taken-eq0 : goal.shape_of-ends-then-taken-eq0
 shape_of-ends-then-taken-eq0 c = (sized (goal.at.shape_of-ends-then-taken-eq0 c).After-split-lines).1 ∙ sym c.requires.3
 
+-- what does not pass is a rule broken
+not_passed : (n : ℕ) (r : Result ⊤ Rule) → (ruled n r ≡ pass → ⊥) → IsErr r
+not_passed n (Ok x) h = absurd (h refl)
+not_passed n (Err rule) h = refl
+
+-- the judgement on the line here, where no line is taken
+broken : (c : After-frame_rule-broken) → ruled c.loop-at.line c.frame_rule-broken.result ≡ judgement c.loop-at.invariant.0
+broken c =
+    let d = c.args.d in
+    let bytes = drop c.loop-at.at c.args.text.now in
+    c.frame_rule-broken.ensures d c.loop-at.line c.lengths-lengths.ensures
+    ∙ ap (λ (x : ℕ). frame_by_count x d c.loop-at.line c.loop-at.stored (value_in bytes) (count_from 1 bytes)) c.requires.1.limit
+    ∙ same-frame (length c.args.table.now) d c.loop-at.line c.loop-at.stored (value_in bytes) (count_from 1 bytes)
+
+pub unwrap_err-requires : goal.unwrap_err-requires
+unwrap_err-requires c =
+    let b = broken (goal.at.unwrap_err-requires c).After-frame_rule-broken in
+    not_passed c.loop-at.line c.frame_rule-broken.result
+    (λ e. never c.loop-at.invariant.0 c.requires.1.limit c.lengths-lengths.ensures c.split-lines.ensures c.taken-taken.ensures c.if-taken-eq0.true (sym b ∙ e))
+
 pub returns-then-taken-eq0 : goal.returns-then-taken-eq0
 returns-then-taken-eq0 c =
-    let p = c.loop-at.invariant.0 in
-    let q = c.requires.1.limit in
-    let m = c.lengths-lengths.ensures in
-    let r = c.frame_rule.result in
-    let d = c.args.d in
-    let room = length c.args.table.now in
-    let bytes = drop c.loop-at.at c.args.text.now in
-    let j : ruled r c.loop-at.line 0 ≡ judgement p
-    = c.frame_rule.ensures d c.loop-at.line m
-    ∙ ap (λ (x : ℕ). frame_by_count x d c.loop-at.line c.loop-at.stored (value_in bytes) (count_from 1 bytes)) q
-    ∙ same-frame room d c.loop-at.line c.loop-at.stored (value_in bytes) (count_from 1 bytes) in
-    let z : r ≡ 0 → ⊥ = λ e. never p q m c.split-lines.ensures c.taken-taken.ensures c.if-taken-eq0.true (sym j ∙ ap (λ (x : ℕ). ruled x c.loop-at.line 0) e) in
-    let e = refused p c.loop-at-test.true r 0 (sym (rule_broken r c.loop-at.line 0 z) ∙ j) in
+    let b = broken (goal.at.returns-then-taken-eq0 c).After-frame_rule-broken in
+    let rule = number_of c.unwrap_err.result in
+    let e = refused c.loop-at.invariant.0 c.loop-at-test.true rule 0 (sym (ap (ruled c.loop-at.line) c.unwrap_err.ensures) ∙ b) in
     record {
       answered = rw e;
-      stored = closes (goal.at.returns-then-taken-eq0 c).At-loop-at (refuse r c.loop-at.line 0) e;
+      stored = closes (goal.at.returns-then-taken-eq0 c).At-loop-at (refuse rule c.loop-at.line 0) e;
     }
 
 pub offset_bounds-ends-taken : goal.offset_bounds-ends-taken

@@ -1,5 +1,7 @@
 -- For the contracts of the private functions: lines of the text taken a block at a time. The promise of `read` names none of this.
-use Rattle.std.specs.Prelude.{◌≡◌, cond, ◌&&◌, List, ℕ, zero, suc, ◌+◌, ◌*◌, ◌-◌, ◌≤◌, ◌<◌, leb, eqb, length, get_or, take, drop}
+use Rattle.std.specs.Prelude.{◌≡◌, cond, ◌&&◌, List, ℕ, zero, suc, ◌+◌, ◌*◌, ◌-◌, ◌≤◌, ◌<◌, leb, eqb, length, get_or, take, drop, Result, Ok, Err, ⊤}
+use Rattle.circuit.specs.declared.rules.Rule.{Rule}
+use Rattle.circuit.specs.declared.rules.Rule.TheVariants.{Kind, WordCount, TableRoom}
 use Rattle.circuit.specs.Kinds.{kind_of, words}
 use Rattle.text.specs.Lines.{lines_of}
 use Rattle.text.specs.Reader.{frame_lines, read_text}
@@ -43,20 +45,20 @@ pub record Split (text : List ℕ) (at : ℕ) (block ends : List ℕ) (lines : �
 abbrev pub Lengths : (d : ℕ) → List ℕ → Type 0
 Lengths d lengths = (k : ℕ) → k < 9 → get_or lengths k 0 ≡ suc (words d (kind_of k))
 
--- the first of rules 5, 6 and 21 that a line of so many words breaks which begins with a kind, with so much room; 0 for none
-abbrev pub line_number : (lengths : List ℕ) (kind count room : ℕ) → ℕ
-line_number lengths kind count room =
-    cond (leb 1 kind && leb kind 8) (cond (eqb count (get_or lengths kind 0)) (cond (leb count room) 0 21) 6) 5
+-- the first of rules 5, 6 and 21 that a line of so many words breaks which begins with a kind, with so much room
+abbrev pub line_rule : (lengths : List ℕ) (kind count room : ℕ) → Result ⊤ Rule
+line_rule lengths kind count room =
+    cond (leb 1 kind && leb kind 8) (cond (eqb count (get_or lengths kind 0)) (cond (leb count room) (Ok tt) (Err TableRoom)) (Err WordCount)) (Err Kind)
 
 -- the same of the line number g of a block
-abbrev pub number_of : (lengths block ends : List ℕ) (room g : ℕ) → ℕ
-number_of lengths block ends room g = line_number lengths (get_or block (start_of ends g) 0) (count_of ends g) (room - start_of ends g)
+abbrev pub rule_of : (lengths block ends : List ℕ) (room g : ℕ) → Result ⊤ Rule
+rule_of lengths block ends room g = line_rule lengths (get_or block (start_of ends g) 0) (count_of ends g) (room - start_of ends g)
 
 -- the lines of a block before the first that breaks one of these rules
 pub record Taken (lengths block ends : List ℕ) (lines room taken : ℕ) : Type 0 where
   pub within : taken ≤ lines
-  pub keeps : (g : ℕ) → g < taken → number_of lengths block ends room g ≡ 0
-  pub breaks : taken < lines → number_of lengths block ends room taken ≡ 0 → ⊥
+  pub keeps : (g : ℕ) → g < taken → rule_of lengths block ends room g ≡ Ok tt
+  pub breaks : taken < lines → rule_of lengths block ends room taken ≡ Ok tt → ⊥
 
 -- behind the first line: d is known, its words stand in the table, and the reading goes on with the line behind it
 pub record Begun (text table : List ℕ) (d room : ℕ) : Type 0 where

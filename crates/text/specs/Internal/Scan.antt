@@ -1,8 +1,11 @@
 -- For the contracts of the private functions: a line by its count of words. The promise of `read` names none of this.
-use Rattle.std.specs.Prelude.{◌≡◌, Bool, false, cond, ◌&&◌, ◌||◌, List, [], ◌∷◌, ℕ, zero, suc, ◌+◌, ◌*◌, ◌≤◌, leb, ltb, eqb, length, get_or, drop}
+use Rattle.std.specs.Prelude.{◌≡◌, Bool, false, cond, ◌&&◌, ◌||◌, List, [], ◌∷◌, ℕ, zero, suc, ◌+◌, ◌*◌, ◌≤◌, leb, ltb, eqb, length, get_or, drop, Option, Some, None, Result, Ok, Err, ⊤}
 use Rattle.circuit.specs.Limits.{table_limit}
 use Rattle.circuit.specs.Circuit.{empty}
 use Rattle.circuit.specs.Rules.{Judgement, pass, refuse, need, ◌then◌, word_rule}
+use Rattle.circuit.specs.Refusals.{number_of}
+use Rattle.circuit.specs.declared.rules.Refusal.{Refusal}
+use Rattle.circuit.specs.declared.rules.Rule.{Rule}
 use Rattle.circuit.specs.Kinds.{share_count, kind_of, words}
 use Rattle.text.specs.Lines.{line_feed, space, is_digit, digit, are_digits, word}
 use Rattle.text.specs.Reader.{room_rule}
@@ -81,24 +84,25 @@ count_from n (a ∷ b ∷ c ∷ e ∷ []) = 0
 count_from n (a ∷ b ∷ c ∷ e ∷ s ∷ rest) =
     cond (are_digits a b c e && is_mark s) (cond (eqb s line_feed) n (count_from (suc n) rest)) 0
 
--- the place behind a line of so many words; 0 for a line that is not of the form
-abbrev pub behind_line : (at count : ℕ) → ℕ
-behind_line at zero = zero
-behind_line at (suc n) = at + 5 * suc n
+-- the same as an option: none for a line that is not of the form
+abbrev pub line_count : ℕ → Option ℕ
+line_count zero = None
+line_count (suc n) = Some (suc n)
 
 -- so many words in a row, five bytes apart
 unfoldable pub words_at : ℕ → List ℕ → List ℕ
 words_at zero bytes = []
 words_at (suc n) bytes = value_in bytes ∷ words_at n (drop 5 bytes)
 
--- the judgement on a line by the number of the rule that it breaks, 0 for none
-abbrev pub ruled : (rule line word : ℕ) → Judgement
-ruled zero line word = pass
-ruled (suc r) line word = refuse (suc r) line word
+-- the judgement that the code's answer on the first line tells
+abbrev pub judged : {T : Type 0} → Result T Refusal → Judgement
+judged (Ok x) = pass
+judged (Err r) = refuse (number_of r.rule) r.frame r.word
 
--- the word at which the first line breaks a rule: its d, word 1, breaks 4
-abbrev pub head_word : ℕ → ℕ
-head_word rule = cond (eqb rule 4) 1 0
+-- the same of a later line, of number n
+abbrev pub ruled : (n : ℕ) → Result ⊤ Rule → Judgement
+ruled n (Ok x) = pass
+ruled n (Err rule) = refuse (number_of rule) n 0
 
 -- how many words are stored at most, in a table with room for `room`
 abbrev pub limit_of : ℕ → ℕ

@@ -2,8 +2,11 @@
 use mathlib.Core.Path.{◌≡◌, refl, sym, ap, ◌∙◌}
 use Prim.Native.Nat.{ℕ, ◌-◌, ◌≤◌, ◌<◌}
 use native.Mathlib.Omega.{arith}
+use mathlib.Core.Bool.{false, false≢true}
+use Rattle.std.specs.Prelude.{Result, Ok, Err, ⊤, is_err}
+use Rattle.circuit.specs.declared.rules.Rule.{Rule}
 use lib.ListN.{get_or}
-use Rattle.text.specs.Internal.Blocks.{start_of, line_number, number_of}
+use Rattle.text.specs.Internal.Blocks.{start_of, line_rule, rule_of}
 use Rattle.circuit.proofs.Base.{below_more}
 use Rattle.text.proofs.Blocks.{start_next, number_fits}
 use Rattle.text.proofs.rules.taken.Goals as goal
@@ -20,11 +23,15 @@ rises c =
 
 -- the rule that it breaks
 judged : (c : After-line_rule) → let a = c.args in
-    c.line_rule.result ≡ number_of a.lengths.now a.block.now a.ends.now a.room c.loop-i.i
+    c.line_rule.result ≡ rule_of a.lengths.now a.block.now a.ends.now a.room c.loop-i.i
 judged c =
     let a = c.args in
     let l = c.loop-i in
-    c.line_rule.ensures ∙ ap (λ (s : ℕ). line_number a.lengths.now (get_or a.block.now s 0) (get_or a.ends.now l.i 0 - s) (a.room - s)) l.invariant.1
+    c.line_rule.ensures ∙ ap (λ (s : ℕ). line_rule a.lengths.now (get_or a.block.now s 0) (get_or a.ends.now l.i 0 - s) (a.room - s)) l.invariant.1
+
+no_err : (r : Result ⊤ Rule) → is_err r ≡ false → r ≡ Ok tt
+no_err (Ok x) h = refl
+no_err (Err rule) h = absurd (false≢true (sym h))
 
 pub loop-i-init : goal.loop-i-init
 loop-i-init c = (omega arith, refl, omega arith, λ g h. absurd (omega arith))
@@ -47,16 +54,21 @@ bounds-block-start c = let p = c.requires in omega (arith, rises (goal.at.bounds
 pub overflow_sub-end : goal.overflow_sub-end
 overflow_sub-end c = omega (arith, rises (goal.at.overflow_sub-end c).In-loop-i)
 
-pub returns-then-line_rule-ne0 : goal.returns-then-line_rule-ne0
-returns-then-line_rule-ne0 c =
+pub returns-then-is_err : goal.returns-then-is_err
+returns-then-is_err c =
     let l = c.loop-i in
-    record { within = l.invariant.0; keeps = l.invariant.3; breaks = λ h z. c.if-line_rule-ne0.true (judged (goal.at.returns-then-line_rule-ne0 c).After-line_rule ∙ z) }
+    let e = judged (goal.at.returns-then-is_err c).After-line_rule in
+    record {
+      within = omega arith;
+      keeps = l.invariant.3;
+      breaks = λ h z. false≢true (sym (ap is_err (e ∙ z)) ∙ sym c.is_err.ensures.value ∙ c.if-is_err.true);
+    }
 
 pub loop-i-preserved : goal.loop-i-preserved
 loop-i-preserved c =
     let l = c.loop-i in
     let a = c.args in
-    let z = sym (judged (goal.at.loop-i-preserved c).After-line_rule) ∙ c.if-line_rule-ne0.false in
+    let z = sym (judged (goal.at.loop-i-preserved c).After-line_rule) ∙ no_err _ (sym c.is_err.ensures.value ∙ c.if-is_err.false) in
     let f : get_or a.ends.now l.i 0 - start_of a.ends.now l.i ≤ a.room - start_of a.ends.now l.i = number_fits a.lengths.now (get_or a.block.now (start_of a.ends.now l.i) 0) _ _ z in
     (omega arith, sym (start_next a.ends.now l.i), omega (arith, rises (goal.at.loop-i-preserved c).In-loop-i, l.invariant.1), below_more l.i l.invariant.3 z)
 
