@@ -2,14 +2,13 @@
 use mathlib.Core.Path.{◌≡◌, sym, ap, ◌∙◌}
 use mathlib.Core.Bool.{Bool, not}
 use Prim.Native.Nat.{ℕ, ◌+◌, ◌-◌, ◌≤◌, ◌<◌}
-use native.Mathlib.Nat.{sub-zero}
 use native.Mathlib.Omega.{arith}
-use lib.Bits.{bit_xor, xor_zero_r}
+use lib.Bits.{bit_xor}
 use lib.Dec.{eqb}
 use borrow.Author.Tests.{eq-eqb, ne_eqb}
 use Rattle.circuit.specs.Lists.{range, filter}
 use Rattle.circuit.specs.Gadgets.{others}
-use Rattle.gadgets.proofs.Ranges.{range_turn, range_end}
+use Rattle.gadgets.proofs.Ranges.{range_turn}
 use Rattle.simulation.specs.Internal.Filling.{Values, word_sum}
 use Rattle.simulation.proofs.Adding.{xor_assoc}
 
@@ -19,9 +18,6 @@ is_other i j = not (eqb i j)
 pub record AddsOthers (d i : ℕ) (f : Values) (sum all j : ℕ) : Type 0 where
   pub most : j ≤ d
   pub left : bit_xor sum (word_sum (others d i) f) ≡ bit_xor all (word_sum (filter (is_other i) (range j (d - j))) f)
-
-pub others_start : (d i : ℕ) (f : Values) (sum : ℕ) → AddsOthers d i f sum sum 0
-others_start d i f sum = record { most = omega arith; left = simp sub-zero }
 
 module _ {d i : ℕ} {f : Values} {sum all j : ℕ} (a : AddsOthers d i f sum all j) where
   -- the next share is i, or another
@@ -34,6 +30,3 @@ module _ {d i : ℕ} {f : Values} {sum all j : ℕ} (a : AddsOthers d i f sum al
     left = a.left ∙ ap (λ r. bit_xor all (word_sum (filter (is_other i) r) f)) (range_turn d j l)
         ∙ rw (ne_eqb i j (λ e. ne (sym e))) (sym (xor_assoc all (f j) (word_sum (filter (is_other i) (range (j + 1) (d - (j + 1)))) f)));
   }
-
-  pub others_end : d ≤ j → all ≡ bit_xor sum (word_sum (others d i) f)
-  others_end l = sym (a.left ∙ ap (λ r. bit_xor all (word_sum (filter (is_other i) r) f)) (range_end d j l) ∙ xor_zero_r all)

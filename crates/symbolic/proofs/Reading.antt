@@ -18,7 +18,7 @@ use Rattle.symbolic.specs.declared.gadget.Term.{Term}
 use Rattle.symbolic.specs.declared.offsets.Inner.{Inner}
 use Rattle.symbolic.specs.declared.offsets.Inner.TheVariants.{R, B, M, U, V, W}
 use Rattle.symbolic.specs.Internal.Inside.{inner_at, WireOf}
-use Rattle.symbolic.specs.Internal.Terms.{term, product, sum_with, wire_term, inner_term, output_term, term_at, with_term, AndAsks, Inside, read_sums, read_terms, ReadsInside, WritesOutputs}
+use Rattle.symbolic.specs.Internal.Terms.{term, product, sum_with, wire_term, inner_term, output_term, term_at, with_term, AndAsks, Inside, read_sums, read_terms, ReadsInside}
 use Rattle.symbolic.proofs.Inside.{shares_fit}
 use Rattle.symbolic.proofs.Written.{term_parts, term_here, term-other, term-sized}
 
@@ -35,17 +35,7 @@ module _ {d first : ℕ} {ops : List ℕ} {room drawn used : ℕ} (asks : AndAsk
   pub inner-same : (sums sums' tape : List ℕ) (o : ℕ) → o < cross_start d d → ((x : ℕ) → x < first → nth sums' x ≡ nth sums x) → inner_term d ops sums' tape used o ≡ inner_term d ops sums tape used o
   inner-same sums sums' tape o l h = wire_same sums sums' tape (inner_at d o) (shares_fit d o asks.two l) h
 
--- wires on the list: none, and one more
-pub reads_none : (d first : ℕ) (ops tape : List ℕ) (used : ℕ) (read sums terms : List ℕ) → ReadsInside d first ops tape used read 0 sums terms sums terms
-reads_none d first ops tape used read sums terms = record {
-  term_is = λ i l z. absurd (omega arith);
-  sum_is = λ i l z. absurd (omega arith);
-  term_kept = λ n h. refl;
-  sum_kept = λ x h. refl;
-  sums_sized = refl;
-  terms_sized = refl;
-}
-
+-- wires on the list: one more
 module _ {d first : ℕ} {ops tape : List ℕ} {used : ℕ} {read sums terms sums' terms' : List ℕ} {i : ℕ} (r : ReadsInside d first ops tape used read i sums terms sums' terms') where
   pub reads_end : {found : ℕ} → i ≡ found → ReadsInside d first ops tape used read found sums terms sums' terms'
   reads_end e = rw (← e) r
@@ -101,27 +91,7 @@ module _ (d first : ℕ) (ops tape : List ℕ) (used outputs : ℕ) (sums terms 
     pub sums_sized : length sums' ≡ length sums
     pub terms_sized : length terms' ≡ length terms
 
-  pub outputs-none : OutputsTo sums terms 0
-  outputs-none = record {
-    term_is = λ j l. absurd (omega arith);
-    sum_is = λ j l. absurd (omega arith);
-    term_kept = λ n h. refl;
-    sum_kept = λ x h. refl;
-    sums_sized = refl;
-    terms_sized = refl;
-  }
-
 module _ {d first : ℕ} {ops tape : List ℕ} {used outputs : ℕ} {sums terms sums' terms' : List ℕ} {i : ℕ} (r : OutputsTo d first ops tape used outputs sums terms sums' terms' i) where
-  pub outputs_end : i ≡ d → WritesOutputs d first ops tape used outputs sums terms sums' terms'
-  outputs_end e = record {
-    term_is = λ j l. r.term_is j (omega arith);
-    sum_is = λ j l. r.sum_is j (omega arith);
-    term_kept = λ n h. r.term_kept n (λ l u. h l (omega arith));
-    sum_kept = r.sum_kept;
-    sums_sized = r.sums_sized;
-    terms_sized = r.terms_sized;
-  }
-
   -- one share more
   pub outputs-next : (w row masks p e : ℕ) → out_at d first i < length sums → 2 * (outputs + i) + 2 ≤ length terms → w < first
       → (w ≡ word_a ops i) × (row ≡ word_sum (range 0 d) (λ j. nth sums (word_b d ops j))) × (masks ≡ bit_xor 0 (word_sum (others d i) (λ j. nth tape (mask_at d used i j)))) × (p ≡ out_at d first i) × (e ≡ bit_xor (2 ^ (18 + outputs + i)) masks)

@@ -2,6 +2,7 @@
 ghost use Rattle.std.specs.Prelude.{◌≡◌, ℕ, ◌+◌, ◌*◌, ◌≤◌, ◌<◌, length};
 ghost use Rattle.std.specs.Int.Bits.{bit_and, bit_xor};
 ghost use Rattle.circuit.specs.Lists.{nth};
+ghost use Rattle.symbolic.specs.Internal.Terms.{Listed};
 ghost use Rattle.symbolic.specs.Internal.Sums.{added, words_at, four_at, FourOf, Before, BoundedTerms, Runs, Shows};
 
 // Four words.
@@ -13,12 +14,13 @@ pub struct Four {
     pub d: u64,
 }
 
-// Four words read from a place on.
+// The words of a variable.
 #[inline(always)]
-fn read_four(words: &[u64], at: usize) -> Four
-    requires { at + 4 ≤ length words.now }
-    ensures { FourOf result (λ w. nth words.now (at + w)) }
+fn variable_words(words: &[u64; 256], variable: usize) -> Four
+    requires { variable < 64 }
+    ensures { FourOf result (λ w. words_at w words.now variable) }
 {
+    let at = 4 * variable;
     Four {
         a: words[at],
         b: words[at + 1],
@@ -64,8 +66,7 @@ fn multiply(one: Four, other: Four) -> Four
 }
 
 // The sum of the words of some variables: those whose bits are set. (The loop goes from one set bit to the next.)
-fn sum(words: &[u64], variables: u64) -> Four
-    requires { length words.now ≡ 256 }
+fn sum(words: &[u64; 256], variables: u64) -> Four
     ensures { FourOf result (λ w. added variables (words_at w words.now)) }
 {
     let mut all = Four {
@@ -77,16 +78,16 @@ fn sum(words: &[u64], variables: u64) -> Four
     let mut rest = variables;
     while rest != 0 {
         let next = u64::trailing_zeros(rest) as usize;
-        all = add(all, read_four(words, 4 * next));
+        all = add(all, variable_words(words, next));
         // The lowest set bit goes, and not by way of `next`, for which the following turn would wait.
-        rest = rest & (rest - 1);
+        rest &= rest - 1;
     }
     all
 }
 
 // The words of a variable that is a product of two sums.
-fn write_product(terms: &[u64], n: usize, words: &mut [u64])
-    requires { (length terms.now ≡ 80) × (length words.old ≡ 256) × (n < 40) × Before terms.now n }
+fn write_product(terms: &[u64; 80], n: usize, words: &mut [u64; 256])
+    requires { (n < 40) × Before terms.now n }
     ensures { Runs terms.now n (n + 1) words.old words.new }
 {
     let one = sum(words, terms[2 * n]);
@@ -95,8 +96,8 @@ fn write_product(terms: &[u64], n: usize, words: &mut [u64])
 }
 
 // Those of such variables from one to another.
-pub fn run(terms: &[u64], from: usize, to: usize, words: &mut [u64])
-    requires { (length terms.now ≡ 80) × (length words.old ≡ 256) × (from ≤ to) × (to ≤ 40) × BoundedTerms terms.now from to }
+pub fn run(terms: &[u64; 80], from: usize, to: usize, words: &mut [u64; 256])
+    requires { (from ≤ to) × (to ≤ 40) × BoundedTerms terms.now from to }
     ensures { Runs terms.now from to words.old words.new }
 {
     for n in from..to {
@@ -105,8 +106,8 @@ pub fn run(terms: &[u64], from: usize, to: usize, words: &mut [u64])
 }
 
 // The words of wires on a list, from the sums that they are.
-pub fn show(sums: &[u64], read: &[u16], words: &[u64], shown: &mut [u64])
-    requires { (length read.now ≤ 8) × (length words.now ≡ 256) × (length shown.old ≡ 32) × ((i : ℕ) → i < length read.now → nth read.now i < length sums.now) }
+pub fn show(sums: &[u64], read: &[u16], words: &[u64; 256], shown: &mut [u64; 32])
+    requires { Listed read.now (length sums.now) }
     ensures { Shows sums.now read.now (length read.now) words.now shown.new }
 {
     for (i, &wire) in read.iter().enumerate() {

@@ -5,7 +5,7 @@ ghost use Rattle.circuit.specs.Lists.{nth};
 ghost use Rattle.circuit.specs.Circuit.{is_set, size};
 ghost use Rattle.gadgets.specs.Internal.Accepting.{circuit_in};
 ghost use Rattle.simulation.specs.Internal.Evaluating.{Evaluable};
-ghost use Rattle.symbolic.specs.Internal.Terms.{one, AndAsks};
+ghost use Rattle.symbolic.specs.Internal.Terms.{one, AndTakes, Listed};
 ghost use Rattle.symbolic.specs.Internal.Expanding.{GateAsks, GateWrites, AndWrites, FrameAsks, FrameWrites, Expanded};
 
 use super::gadget;
@@ -49,14 +49,14 @@ fn write_gate(sums: &mut [u64], gate: Gate, first: usize, d: usize, shares: &[u6
 // AND: the wires inside it that are read, then its outputs.
 fn write_and(
     sums: &mut [u64],
-    terms: &mut [u64],
+    terms: &mut [u64; 80],
     gadget: Gadget,
     ops: &[u16],
     tape: &[u64],
     read: &[u16],
     outputs: usize,
 )
-    requires { AndAsks gadget.d gadget.first ops.now (length sums.old) (length tape.now) gadget.used × (length terms.old ≡ 80) × (length read.now ≤ 8) × ((i : ℕ) → i < length read.now → nth read.now i < length sums.old) × (outputs + gadget.d ≤ 32) }
+    requires { AndTakes gadget ops.now sums.old tape.now × (outputs + gadget.d ≤ 32) × Listed read.now (length sums.old) }
     ensures { AndWrites gadget.d gadget.first ops.now tape.now gadget.used read.now (length read.now) outputs sums.old terms.old sums.new terms.new }
 {
     gadget::read_inside(sums, terms, gadget, ops, tape, read);
@@ -67,7 +67,7 @@ fn write_and(
 // outputs there are then.
 fn write_frame(
     sums: &mut [u64],
-    terms: &mut [u64],
+    terms: &mut [u64; 80],
     frame: Frame,
     place: Gadget,
     ops: &[u16],
@@ -76,7 +76,7 @@ fn write_frame(
     read: &[u16],
     outputs: usize,
 ) -> usize
-    requires { FrameAsks frame place.d place.first place.used ops.now (length sums.old) (length shares.now) (length tape.now) outputs × (length terms.old ≡ 80) × (length read.now ≤ 8) × ((i : ℕ) → i < length read.now → nth read.now i < length sums.old) }
+    requires { FrameAsks frame place.d place.first place.used ops.now (length sums.old) (length shares.now) (length tape.now) outputs × Listed read.now (length sums.old) }
     ensures { FrameWrites frame place.d place.first place.used ops.now shares.now tape.now read.now (length read.now) outputs sums.old terms.old sums.new terms.new result }
 {
     match frame {
@@ -103,7 +103,7 @@ pub fn expand(
     tape: &[u64],
     read: &[u16],
     sums: &mut [u64],
-    terms: &mut [u64],
+    terms: &mut [u64; 80],
 ) -> usize
     requires { Evaluable table.now shares.now tape.now (length sums.old) × (length tape.now ≤ 16) × ((x : ℕ) → nth shares.now x < 2 ^ 18) × ((x : ℕ) → nth tape.now x < 2 ^ 18) × (length sums.old ≤ wire_limit)
         × (length read.now ≤ 8) × ((i : ℕ) → i < length read.now → nth read.now i < size (circuit_in table.now)) × (terms.old ≡ replicate 80 0) }

@@ -7,7 +7,7 @@ ghost use Rattle.circuit.specs.Gadgets.{others};
 ghost use Rattle.gadgets.specs.Internal.Places.{word_a, word_b, mask_at};
 ghost use Rattle.simulation.specs.Internal.Filling.{word_sum};
 ghost use Rattle.symbolic.specs.Internal.Inside.{WireOf};
-ghost use Rattle.symbolic.specs.Internal.Terms.{alone, times, wire_term, sum_with, with_term, Drawn, AndAsks, RefAsks, read_sums, read_terms, ReadsInside, WritesOutputs, Refreshes};
+ghost use Rattle.symbolic.specs.Internal.Terms.{alone, times, wire_term, sum_with, with_term, Drawn, AndTakes, RefAsks, Listed, read_sums, read_terms, ReadsInside, WritesOutputs, Refreshes};
 
 use super::expand::ONE;
 use super::offsets;
@@ -87,7 +87,7 @@ fn add_masks(tape: &[u64], gadget: Gadget, i: usize, sum: u64) -> u64
     let mut all = sum;
     for j in 0..gadget.d {
         if j != i {
-            all = all ^ mask(tape, gadget, i, j);
+            all ^= mask(tape, gadget, i, j);
         }
     }
     all
@@ -100,14 +100,14 @@ fn add_row(sums: &[u64], ops: &[u16], d: usize) -> u64
 {
     let mut all = 0;
     for j in 0..d {
-        all = all ^ share_b(sums, ops, d, j);
+        all ^= share_b(sums, ops, d, j);
     }
     all
 }
 
 // A wire inside AND.
 fn wire_term(sums: &[u64], gadget: Gadget, ops: &[u16], tape: &[u64], wire: Inner) -> Term
-    requires { AndAsks gadget.d gadget.first ops.now (length sums.now) (length tape.now) gadget.used × WireOf gadget.d wire }
+    requires { AndTakes gadget ops.now sums.now tape.now × WireOf gadget.d wire }
     ensures { result ≡ wire_term gadget.d ops.now sums.now tape.now gadget.used wire }
 {
     let d = gadget.d;
@@ -131,8 +131,8 @@ fn wire_term(sums: &[u64], gadget: Gadget, ops: &[u16], tape: &[u64], wire: Inne
 }
 
 // A wire that is a term: its product is a variable, of a place on the list of terms.
-fn write_term(sums: &mut [u64], terms: &mut [u64], wire: usize, n: usize, term: Term)
-    requires { (wire < length sums.old) × (n < 40) × (length terms.old ≡ 80) }
+fn write_term(sums: &mut [u64], terms: &mut [u64; 80], wire: usize, n: usize, term: Term)
+    requires { (wire < length sums.old) × (n < 40) }
     ensures { (sums.new ≡ set sums.old wire (sum_with (18 + n) term)) × (terms.new ≡ with_term terms.old n term) }
 {
     terms[2 * n] = term.one;
@@ -143,14 +143,14 @@ fn write_term(sums: &mut [u64], terms: &mut [u64], wire: usize, n: usize, term: 
 // A wire on the list of those that are read, where it stands inside AND: its product's place is the list's own.
 fn read_one(
     sums: &mut [u64],
-    terms: &mut [u64],
+    terms: &mut [u64; 80],
     gadget: Gadget,
     ops: &[u16],
     tape: &[u64],
     wire: usize,
     n: usize,
 )
-    requires { AndAsks gadget.d gadget.first ops.now (length sums.old) (length tape.now) gadget.used × (length terms.old ≡ 80) × (n < 8) × (wire < length sums.old) }
+    requires { AndTakes gadget ops.now sums.old tape.now × (n < 8) × (wire < length sums.old) }
     ensures { (sums.new ≡ read_sums gadget.d gadget.first ops.now sums.old tape.now gadget.used wire n) × (terms.new ≡ read_terms gadget.d gadget.first ops.now sums.old tape.now gadget.used wire n terms.old) }
 {
     if wire < gadget.first {
@@ -168,13 +168,13 @@ fn read_one(
 // All wires on the list.
 pub(crate) fn read_inside(
     sums: &mut [u64],
-    terms: &mut [u64],
+    terms: &mut [u64; 80],
     gadget: Gadget,
     ops: &[u16],
     tape: &[u64],
     read: &[u16],
 )
-    requires { AndAsks gadget.d gadget.first ops.now (length sums.old) (length tape.now) gadget.used × (length terms.old ≡ 80) × (length read.now ≤ 8) × ((i : ℕ) → i < length read.now → nth read.now i < length sums.old) }
+    requires { AndTakes gadget ops.now sums.old tape.now × Listed read.now (length sums.old) }
     ensures { ReadsInside gadget.d gadget.first ops.now tape.now gadget.used read.now (length read.now) sums.old terms.old sums.new terms.new }
 {
     for (n, &wire) in read.iter().enumerate() {
@@ -185,13 +185,13 @@ pub(crate) fn read_inside(
 // The outputs of AND, their products variables behind so many others of their kind.
 pub(crate) fn write_outputs(
     sums: &mut [u64],
-    terms: &mut [u64],
+    terms: &mut [u64; 80],
     gadget: Gadget,
     ops: &[u16],
     tape: &[u64],
     outputs: usize,
 )
-    requires { AndAsks gadget.d gadget.first ops.now (length sums.old) (length tape.now) gadget.used × (length terms.old ≡ 80) × (outputs + gadget.d ≤ 32) }
+    requires { AndTakes gadget ops.now sums.old tape.now × (outputs + gadget.d ≤ 32) }
     ensures { WritesOutputs gadget.d gadget.first ops.now tape.now gadget.used outputs sums.old terms.old sums.new terms.new }
 {
     let row = add_row(sums, ops, gadget.d);

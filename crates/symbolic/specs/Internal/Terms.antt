@@ -5,6 +5,7 @@ use Rattle.circuit.specs.Limits.{wire_limit}
 use Rattle.circuit.specs.Kinds.{pairs}
 use Rattle.circuit.specs.Lists.{nth, range}
 use Rattle.circuit.specs.Gadgets.{others}
+use Rattle.gadgets.specs.declared.places.Gadget.{Gadget}
 use Rattle.gadgets.specs.Internal.Places.{word_a, word_b, mask_at, cross_start, out_at, sum_at, held_at}
 use Rattle.gadgets.specs.Internal.Frames.{RowBefore}
 use Rattle.simulation.specs.Internal.Filling.{word_sum}
@@ -83,6 +84,9 @@ pub record AndAsks (d first : ℕ) (ops : List ℕ) (room drawn used : ℕ) : Ty
   pub bits : used + pairs d ≤ drawn
   pub near : used ≤ 16
 
+abbrev pub AndTakes : Gadget → (ops sums tape : List ℕ) → Type 0
+AndTakes g ops sums tape = AndAsks g.d g.first ops (length sums) (length tape) g.used
+
 pub record RefAsks (d first : ℕ) (ops : List ℕ) (room drawn used : ℕ) : Type 0 where
   pub two : 2 ≤ d
   pub most : d ≤ 8
@@ -92,6 +96,10 @@ pub record RefAsks (d first : ℕ) (ops : List ℕ) (room drawn used : ℕ) : Ty
   pub few : room ≤ wire_limit
   pub bits : used + pairs d ≤ drawn
   pub near : used ≤ 16
+
+-- a list of at most eight wires that have sums
+abbrev pub Listed : (read : List ℕ) (wires : ℕ) → Type 0
+Listed read wires = (length read ≤ 8) × ((i : ℕ) → i < length read → nth read i < wires)
 
 -- a wire that is read, where it is inside AND: what is written
 abbrev pub where_inside : {A : Type 0} (d first wire : ℕ) (old new : A) → A

@@ -4,7 +4,7 @@ use native.Mathlib.Omega.{arith}
 use lib.Bits.{bit_and, and_le_r}
 use lib.Count.{count_trailing_zeros}
 use Rattle.simulation.specs.Internal.Filling.{Values}
-use Rattle.symbolic.proofs.Masks.{Lowest, lowest, added_start, added_next, added_end}
+use Rattle.symbolic.proofs.Masks.{Lowest, lowest, added_next, added_end}
 use Rattle.symbolic.proofs.evaluate.sum.Goals as goal
 use Rattle.symbolic.proofs.evaluate.sum.Goals.{In-loop-rest}
 
@@ -19,21 +19,12 @@ inside c = (next c (λ s. 0)).inside
 less : (c : In-loop-rest) → let rest = c.loop-rest.rest in bit_and rest (rest - 1) < rest
 less c = let rest = c.loop-rest.rest in omega (arith, c.loop-rest-test.true, and_le_r rest (rest - 1))
 
-pub loop-rest-init : goal.loop-rest-init
-loop-rest-init c = record { most = omega arith; a = added_start _ _; b = added_start _ _; c = added_start _ _; d = added_start _ _ }
-
-pub overflow_cast-next : goal.overflow_cast-next
-overflow_cast-next c = omega (arith, inside (goal.at.overflow_cast-next c).In-loop-rest)
-
-pub loop-rest-smaller : goal.loop-rest-smaller
-loop-rest-smaller c = less (goal.at.loop-rest-smaller c).In-loop-rest
-
 pub loop-rest-preserved : goal.loop-rest-preserved
 loop-rest-preserved c =
     let i = c.loop-rest.invariant in
     let h = goal.at.loop-rest-preserved c in
     let e = c.add-all.ensures in
-    let r = c.read_four.ensures in
+    let r = c.variable_words.ensures in
     record {
       most = omega (arith, less h.In-loop-rest);
       a = added_next i.a (next h.In-loop-rest _) e.0 r.0;

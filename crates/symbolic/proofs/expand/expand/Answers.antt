@@ -70,17 +70,16 @@ write_frame-outputs-requires c =
     let h = goal.at.write_frame-outputs-requires c in
     let t = c.loop-next.invariant.here in
     let p = c.requires in
-    let a = t.walked.evaluable.accepted in
-    (rw (take_rest, words h.After-operands-ops) (frame_asks t p.2 p.3 p.1 p.5 (second_word a) _ (met h.In-Ok-Some) (omega (arith, t.sums_sized, p.4))), t.sized, p.5, (λ i l. omega (arith, p.6 i l, p.0.roomy, t.sums_sized)))
+    let a = t.walked.evaluable.accepted in (
+      rw (take_rest, words h.After-operands-ops) (frame_asks t p.2 p.3 p.1 p.5 (second_word a) _ (met h.In-Ok-Some) (omega (arith, t.sums_sized, p.4))),
+      (p.5, (λ i l. omega (arith, p.6 i l, p.0.roomy, t.sums_sized))),
+    )
 
 pub behind-before-requires : goal.behind-before-requires
 behind-before-requires c =
     let h = goal.at.behind-before-requires c in
     let s = counts h.In-Ok-Some in
     (omega (arith, s.wires), omega (arith, s.shares, c.well_formed), omega (arith, s.randoms, c.requires.1), (met h.In-Ok-Some).few_takes)
-
-pub loop-next-smaller : goal.loop-next-smaller
-loop-next-smaller c = let m = met (goal.at.loop-next-smaller c).In-Ok-Some in omega (arith, m.later, m.onward.most)
 
 pub loop-next-preserved : goal.loop-next-preserved
 loop-next-preserved c =

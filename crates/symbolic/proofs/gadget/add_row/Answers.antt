@@ -1,12 +1,8 @@
 -- The loop's invariant: the sums below j are added.
-use native.Mathlib.Nat.{sub-zero}
 use Rattle.circuit.specs.Lists.{nth}
 use Rattle.gadgets.specs.Internal.Places.{word_b}
 use Rattle.simulation.proofs.Adding.{adds_turn, adds_end}
 use Rattle.symbolic.proofs.gadget.add_row.Goals as goal
-
-pub loop-j-init : goal.loop-j-init
-loop-j-init c = simp sub-zero
 
 pub loop-j-preserved : goal.loop-j-preserved
 loop-j-preserved c =
