@@ -7,8 +7,8 @@ use Rattle.gadgets.specs.Internal.Accepting.{circuit_in}
 use Rattle.gadgets.proofs.Walking.{headed}
 use Rattle.semantics.specs.Counts.{free_bits}
 use Rattle.counting.proofs.Batches.{second_is, second-most, second-least}
-use Rattle.counting.proofs.tally.plan_pairs.Goals as goal
-use Rattle.counting.proofs.tally.plan_pairs.Goals.{Start}
+use Rattle.counting.proofs.plan.plan_pairs.Goals as goal
+use Rattle.counting.proofs.plan.plan_pairs.Goals.{Start}
 
 -- the numbers at the start
 record Numbers (s : Start) : Type 0 where
