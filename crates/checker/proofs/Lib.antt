@@ -1,6 +1,7 @@
--- Spots of broken rules, and what they judge
+-- What a frame breaks, and what it judges
 pub mod Spots
 pub mod Judged
+pub mod Mapped
 -- The words of a form
 pub mod Lookups
 pub mod Words
@@ -15,4 +16,3 @@ pub mod Adding
 pub mod Placing
 pub mod Checking
 pub mod Ways
-pub mod Listed

@@ -19,7 +19,9 @@ use Rattle.frames.specs.declared.kinds.Form.{Form}
 use Rattle.frames.specs.declared.kinds.Form.TheVariants.{ShareCount, Stage, Constant, Sum, Copy, Product, Refresh, Row}
 use Rattle.frames.specs.declared.kinds.Shape.{Shape as ShapeCode}
 use Rattle.frames.specs.Walk.{form_of, shape_code}
-use Rattle.checker.specs.declared.notes.Found.{Found}
+use Rattle.std.specs.Prelude.{Result}
+use Rattle.circuit.specs.declared.rules.Rule.{Rule}
+use Rattle.checker.specs.declared.notes.Named.{Named}
 use Rattle.checker.specs.Internal.Notes.{found_of, first_word, inner_words, named_words, made_words}
 use Rattle.checker.specs.Internal.Adding.{Numbers, numbers, numbers_of, made_in}
 use Rattle.checker.proofs.Words.{label-found, stage-found}
@@ -52,7 +54,7 @@ numbers_in Row d sh = numbers 0 0 0
 
 -- of a kind: only HEAD's form is the number of shares; its words by its form, all wires made, no more random bits than wires,
 -- and one secret bit at most
-pub record Counts (d : ℕ) (kind : Kind) (look : ℕ → Found) (ops : List ℕ) : Type 0 where
+pub record Counts (d : ℕ) (kind : Kind) (look : ℕ → Result Named Rule) (ops : List ℕ) : Type 0 where
   pub form_later : (kind ≡ HEAD → ⊥) → form_of kind ≡ ShareCount → ⊥
   pub words_are : words d kind ≡ word_count (form_of kind) d
   pub numbers_are : numbers_in (form_of kind) d (shape_code d kind) ≡ numbers_of (shape_code d kind)
@@ -60,7 +62,7 @@ pub record Counts (d : ℕ) (kind : Kind) (look : ℕ → Found) (ops : List ℕ
   pub randoms_few : (shape d kind).randoms ≤ (shape d kind).wires
   pub inputs_few : (shape d kind).inputs ≤ 1
 
-pub counts : (d : ℕ) (kind : Kind) (look : ℕ → Found) (ops : List ℕ) → Counts d kind look ops
+pub counts : (d : ℕ) (kind : Kind) (look : ℕ → Result Named Rule) (ops : List ℕ) → Counts d kind look ops
 unfolding shape
 counts d HEAD look ops = record { form_later = λ h e. h refl; words_are = refl; numbers_are = refl; wires_are = refl; randoms_few = omega arith; inputs_few = omega arith }
 counts d IN look ops = record { form_later = λ h e. let z : ◌≡◌ {A = ℕ} 0 1 = cc in omega arith; words_are = refl; numbers_are = refl; wires_are = omega arith; randoms_few = omega arith; inputs_few = omega arith }

@@ -1,10 +1,9 @@
 -- A frame of a kind on a circuit that the notes represent: what adding it answers is the rules' judgement, the circuit with
 -- the frame, and its notes.
 use mathlib.Core.Path.{◌≡◌, refl, sym, ap, ap₂, fun_ext, ◌∙◌}
-use mathlib.Core.Bool.{Bool, true, false, cond}
+use mathlib.Core.Bool.{Bool, true, false}
 use mathlib.Core.List.{List}
-use Prim.Native.Nat.{ℕ, zero, suc, ◌+◌, ◌*◌, ◌-◌}
-use native.Mathlib.Omega.{arith}
+use Prim.Native.Nat.{ℕ, ◌+◌, ◌*◌, ◌-◌}
 use lib.Dec.{leb}
 use lib.ListN.{length}
 use lib.Seq.{sets}
@@ -21,20 +20,21 @@ use Rattle.frames.proofs.KindTable.{means}
 use Rattle.checker.specs.declared.forms.Spot.{Spot}
 use Rattle.checker.specs.declared.span.Span.{Span}
 use Rattle.checker.specs.declared.frame.Tally.{Tally}
-use Rattle.checker.specs.declared.frame.Added.{Added}
-use Rattle.checker.specs.declared.frame.Added.TheVariants.{Next, Refused}
-use Rattle.checker.specs.Internal.Notes.{noted, found_of, Represents, made_words}
+use Rattle.std.specs.Prelude.{Result, Ok, Err}
+use Rattle.circuit.specs.Refusals.{number_of}
+use Rattle.circuit.specs.declared.rules.Rule.TheVariants as rule
+use Rattle.checker.specs.Internal.Notes.{ask, noted, found_of, Represents, made_words}
 use Rattle.checker.specs.Internal.Spans.{span_of, span_in}
-use Rattle.checker.specs.Internal.Adding.{spot, none, ◌and_then◌, broken_in, made_in, limit_broken, notes_with, tally_of, numbers_of, with_frame, added_by, made_new, broken, Adds}
-use Rattle.checker.proofs.Spots.{judged, judged_at, judged_then}
+use Rattle.checker.specs.Internal.Adding.{at_word, ◌and_then◌, broken_in, made_in, limit_broken, notes_with, tally_of, numbers_of, with_frame, added_by, made_new, broken, Adds}
+use Rattle.checker.proofs.Spots.{judged_at, judged_then}
 use Rattle.checker.proofs.Words.{words_are}
 use Rattle.checker.proofs.MadeNotes.{made_by, counts, made-stage, made-words}
 use Rattle.checker.proofs.Spanning.{span-next}
 
 -- what an added frame says of the frame of number f
-abbrev pub judgement_in : ℕ → Added → Judgement
-judgement_in f (Next t) = pass
-judgement_in f (Refused s) = refuse s.rule f s.word
+abbrev pub judgement_in : ℕ → Result Tally Spot → Judgement
+judgement_in f (Ok t) = pass
+judgement_in f (Err s) = refuse (number_of s.rule) f s.word
 
 -- what is left to judge of a frame behind rules 5 and 6: its words, 13 and 14
 abbrev pub later_rule : Circuit → ℕ → Kind → List ℕ → Judgement
@@ -81,7 +81,7 @@ module _ {k : Circuit} {kind : Kind} {tally : Tally} {sh : ShapeCode} {d : ℕ} 
   limits_judged f = both (leb (made_by k ops kind).stage stage_limit) (leb (size k + ((made_by k ops kind).inner + (made_by k ops kind).named)) wire_limit)
       ∙ ap₂ (λ t n. need (leb t stage_limit) 13 f 0 then need (leb (size k + n) wire_limit) 14 f 0) (made-stage k ops kind p.later) (counts k.d kind (found_of k) ops).wires_are
     where
-      both : (a b : Bool) → judged_at f (spot (cond a 0 13) 0 and_then spot (cond b 0 14) 0 and_then none) ≡ (need a 13 f 0 then need b 14 f 0)
+      both : (a b : Bool) → judged_at f (at_word 0 (ask a rule.LastStage) and_then at_word 0 (ask b rule.WireCount)) ≡ (need a 13 f 0 then need b 14 f 0)
       both true true = refl
       both true false = refl
       both false b = refl
@@ -99,35 +99,27 @@ module _ {k : Circuit} {kind : Kind} {tally : Tally} {sh : ShapeCode} {d : ℕ} 
       (sym (size-extend k ops kind)) (span-next k.frames kind (new_stage k ops kind))
 
   -- what adding the frame answers
-  module _ {new : List ℕ} {r : Added} (a : Adds tally sh d ops old new r) where
+  module _ {new : List ℕ} {r : Result Tally Spot} (a : Adds tally sh d ops old new r) where
     pub judgement : judgement_in tally.frames r ≡ later_rule k tally.frames kind ops
-    judgement = ap (judgement_in tally.frames) a.added_is ∙ by_rule (broken tally sh d ops old).rule _ _ ∙ broken-judged tally.frames
+    judgement = ap (judgement_in tally.frames) a.added_is ∙ by_spot (broken tally sh d ops old) _ ∙ broken-judged tally.frames
       where
-        by_rule : (n w : ℕ) (span : Span) → judgement_in tally.frames (added_by n w tally (numbers_of sh) span) ≡ judged n tally.frames w
-        by_rule zero w span = refl
-        by_rule (suc n) w span = refl
+        by_spot : (s : Result (Unit {0}) Spot) (span : Span) → judgement_in tally.frames (added_by s tally (numbers_of sh) span) ≡ judged_at tally.frames s
+        by_spot (Ok u) span = refl
+        by_spot (Err s) span = refl
 
-    pub next : (t : Tally) → r ≡ Next t → t ≡ tally_of (tally.frames + 1) (extend k ops kind)
-    next t e = by_rule (broken tally sh d ops old).rule _ _ (sym a.added_is ∙ e) ∙ tally_next
+    pub next : (t : Tally) → r ≡ Ok t → t ≡ tally_of (tally.frames + 1) (extend k ops kind)
+    next t e = by_spot (broken tally sh d ops old) _ (sym a.added_is ∙ e) ∙ tally_next
       where
-        by_rule : (n w : ℕ) (span : Span) → added_by n w tally (numbers_of sh) span ≡ Next t → t ≡ with_frame tally (numbers_of sh) span
-        by_rule zero w span e = cc
-        by_rule (suc n) w span e = let z : ◌≡◌ {A = ℕ} 0 1 = cc in absurd (omega arith)
+        by_spot : (s : Result (Unit {0}) Spot) (span : Span) → added_by s tally (numbers_of sh) span ≡ Ok t → t ≡ with_frame tally (numbers_of sh) span
+        by_spot (Ok u) span e = cc
+        by_spot (Err s) span e = absurd (cc)
 
     pub notes-next : new ≡ notes_added (later_rule k tally.frames kind ops) old (size k) (made k ops kind)
-    notes-next = a.notes_are ∙ by_rule (broken tally sh d ops old).rule (broken tally sh d ops old).word ∙ ap (λ j. notes_added j old (size k) (made k ops kind)) (broken-judged tally.frames)
+    notes-next = a.notes_are ∙ by_spot (broken tally sh d ops old) ∙ ap (λ j. notes_added j old (size k) (made k ops kind)) (broken-judged tally.frames)
       where
         words : made_words (made_new tally sh d ops old) ≡ notes_of (made k ops kind)
         words = ap made_words made-is ∙ made-words k ops kind p.later
 
-        by_rule : (n w : ℕ) → notes_with n (made_new tally sh d ops old) tally.wires old ≡ notes_added (judged n tally.frames w) old (size k) (made k ops kind)
-        by_rule zero w = ap₂ (λ t ws. sets old (2 * t.wires) ws) p.tally_is words
-        by_rule (suc n) w = refl
-
--- a frame is refused by a rule
-pub refused_rule : {tally : Tally} {sh : ShapeCode} {d : ℕ} {ops old new : List ℕ} {r : Added} → Adds tally sh d ops old new r → {s : Spot} → r ≡ Refused s → s.rule ≡ 0 → ⊥
-refused_rule {tally} {sh} {d} {ops} {old} a {s} e = by_rule (broken tally sh d ops old).rule _ _ (sym a.added_is ∙ e)
-  where
-    by_rule : (n w : ℕ) (span : Span) → added_by n w tally (numbers_of sh) span ≡ Refused s → s.rule ≡ 0 → ⊥
-    by_rule zero w span e h = let z : ◌≡◌ {A = ℕ} 0 1 = cc in omega arith
-    by_rule (suc n) w span e h = let q : spot (suc n) w ≡ s = cc in omega (arith, ap (λ x. x.rule) q)
+        by_spot : (s : Result (Unit {0}) Spot) → notes_with s (made_new tally sh d ops old) tally.wires old ≡ notes_added (judged_at tally.frames s) old (size k) (made k ops kind)
+        by_spot (Ok u) = ap₂ (λ t ws. sets old (2 * t.wires) ws) p.tally_is words
+        by_spot (Err s) = refl

@@ -17,12 +17,12 @@ use Rattle.circuit.specs.Answer.{notes_of, notes_after}
 use Rattle.circuit.proofs.Base.{cases}
 use Rattle.circuit.proofs.Building.{Lawful}
 use Rattle.circuit.proofs.Noted.{first_note, second_note, notes-length, words-at, Labelled, label_old}
-use Rattle.checker.specs.declared.notes.Found.TheVariants.{Named}
-use Rattle.checker.specs.Internal.Notes.{first_word, found_in, shown, Represents}
+use Rattle.std.specs.Prelude.{Ok}
+use Rattle.checker.specs.Internal.Notes.{first_word, named, found_in, shown, Represents}
 use Rattle.checker.proofs.MadeNotes.{notes-append}
 
 -- the words of a label below 8 tell it, and whether the wire is registered
-told : (l t : ℕ) (registered : Bool) → l < most_shares → found_in (first_word l registered) t ≡ Named l t registered
+told : (l t : ℕ) (registered : Bool) → l < most_shares → found_in (first_word l registered) t ≡ Ok (named l t registered)
 told l t true h = let e : (l + 8) % 8 ≡ l = omega arith in rw (ne_eqb (l + 8) inner_note (λ z. omega arith), le-leb 8 (l + 8) (omega arith), e)
 told l t false h = let e : (l + 0) % 8 ≡ l = omega arith in rw (ne_eqb (l + 0) inner_note (λ z. omega arith), lt-leb 8 (l + 0) (omega arith), e)
 

@@ -1,44 +1,27 @@
--- The first of some spots that names a rule, as a judgement.
-use mathlib.Core.Path.{◌≡◌, refl, ap}
-use mathlib.Core.Bool.{Bool, true, false, cond}
-use Prim.Native.Nat.{ℕ, zero, suc}
+-- What a frame breaks, as a judgement.
+use mathlib.Core.Path.{◌≡◌, refl}
+use mathlib.Core.Bool.{Bool, true, false}
+use Prim.Native.Nat.{ℕ}
+use Rattle.std.specs.Prelude.{Result, Ok, Err}
+use Rattle.circuit.specs.Refusals.{number_of}
 use Rattle.circuit.specs.Rules.{Judgement, pass, refuse, need, ◌then◌}
+use Rattle.circuit.specs.declared.rules.Rule.{Rule}
 use Rattle.checker.specs.declared.forms.Spot.{Spot}
-use Rattle.checker.specs.Internal.Adding.{spot, or_else, ◌and_then◌}
+use Rattle.checker.specs.Internal.Notes.{ask}
+use Rattle.checker.specs.Internal.Adding.{at_word, ◌and_then◌}
 
--- the judgement on frame f by the number of the rule that it breaks, 0 for none
-abbrev pub judged : (rule frame word : ℕ) → Judgement
-judged zero f w = pass
-judged (suc r) f w = refuse (suc r) f w
+-- the judgement on frame f by what it breaks
+abbrev pub judged_at : ℕ → Result (Unit {0}) Spot → Judgement
+judged_at f (Ok u) = pass
+judged_at f (Err s) = refuse (number_of s.rule) f s.word
 
-abbrev pub judged_at : ℕ → Spot → Judgement
-judged_at f s = judged s.rule f s.word
+-- of one part behind another
+pub judged_then : (f : ℕ) (a b : Result (Unit {0}) Spot) → judged_at f (a and_then b) ≡ (judged_at f a then judged_at f b)
+judged_then f (Ok u) b = refl
+judged_then f (Err s) b = refl
 
-pub judged-refuse : (n f w : ℕ) → (n ≡ 0 → ⊥) → judged n f w ≡ refuse n f w
-judged-refuse zero f w h = absurd (h refl)
-judged-refuse (suc n) f w h = refl
-
--- a spot that names a rule comes first, one that names none is passed over
-pub broken-first : (s next : Spot) → (s.rule ≡ 0 → ⊥) → (s and_then next) ≡ s
-broken-first s next h = go s.rule h
-  where
-    go : (n : ℕ) → (n ≡ 0 → ⊥) → or_else n s.word next ≡ spot n s.word
-    go zero z = absurd (z refl)
-    go (suc n) z = refl
-
-pub none_first : (s next : Spot) → s.rule ≡ 0 → (s and_then next) ≡ next
-none_first s next h = ap (λ n. or_else n s.word next) h
-
--- the judgement of spots in a row
-pub judged_then : (f : ℕ) (a b : Spot) → judged_at f (a and_then b) ≡ (judged_at f a then judged_at f b)
-judged_then f a b = go a.rule
-  where
-    go : (n : ℕ) → judged_at f (or_else n a.word b) ≡ (judged n f a.word then judged_at f b)
-    go zero = refl
-    go (suc n) = refl
-
--- a test's number
-pub tested : (b : Bool) (rule f w : ℕ) → judged (cond b 0 (suc rule)) f w ≡ need b (suc rule) f w
+-- of a test
+pub tested : (b : Bool) (rule : Rule) (f w : ℕ) → judged_at f (at_word w (ask b rule)) ≡ need b (number_of rule) f w
 tested true rule f w = refl
 tested false rule f w = refl
 

@@ -1,10 +1,11 @@
 -- Wires stored into the notes, two words a turn.
 use mathlib.Core.Path.{◌≡◌, refl, sym, ap, ◌∙◌}
-use mathlib.Core.List.{List, [], ◌∷◌, ◌++◌}
+use mathlib.Core.List.{List, [], ◌∷◌, ◌++◌, append_assoc}
 use Prim.Native.Nat.{ℕ, zero, suc, ◌+◌, ◌*◌, ◌-◌, ◌≤◌, ◌<◌}
 use native.Mathlib.Omega.{arith}
-use lib.ListN.{length, set}
-use lib.Seq.{sets}
+use lib.ListN.{length, set, replicate}
+use lib.Seq.{sets, sets-eq, drop-drop}
+use borrow.Rule.Slice.PartMut.{put_mid}
 use Rattle.circuit.specs.Limits.{inner_note}
 use Rattle.circuit.proofs.Base.{stores_append}
 use Rattle.checker.specs.Internal.Notes.{inner_words, named_words}
@@ -25,26 +26,23 @@ store_turn n from i a b ws rest e =
     let after : 2 * from + 2 * (i + 1) ≡ suc (suc (2 * from + 2 * i)) = omega arith in
     rw (e, next, after)
 
--- the words of inner wires, one by one
-unfoldable pub marks : ℕ → List ℕ
-marks zero = []
-marks (suc n) = inner_note ∷ marks n
+-- the words of inner wires are one word over and over, and a fill writes them
+inner-replicate : (count : ℕ) → inner_words count ≡ replicate (2 * count) inner_note
+unfolding inner_words
+inner-replicate zero = refl
+inner-replicate (suc n) = let e : suc (suc (2 * n)) ≡ 2 * suc n = omega arith in ap (λ l. inner_note ∷ inner_note ∷ l) (inner-replicate n) ∙ ap (λ k. replicate k inner_note) e
 
-pub inner_marks : (count : ℕ) → inner_words count ≡ marks (2 * count)
-unfolding inner_words marks
-inner_marks zero = refl
-inner_marks (suc n) = let e : suc (suc (2 * n)) ≡ 2 * suc n = omega arith in ap (λ l. inner_note ∷ inner_note ∷ l) (inner_marks n) ∙ ap marks e
+pub inner-length : (count : ℕ) → length (inner_words count) ≡ 2 * count
+unfolding inner_words
+inner-length zero = refl
+inner-length (suc n) = omega (arith, inner-length n)
 
-pub marks_turn : (n : List ℕ) (end i : ℕ) → i < end → sets n i (marks (end - i)) ≡ sets (set n i inner_note) (i + 1) (marks (end - (i + 1)))
-unfolding marks
-marks_turn n end i h =
-    let e : end - i ≡ suc (end - (i + 1)) = omega arith in
-    let next : suc i ≡ i + 1 = omega arith in
-    ap (λ k. sets n i (marks k)) e ∙ ap (λ q. sets (set n i inner_note) q (marks (end - (i + 1)))) next
-
-pub marks_end : (n : List ℕ) (end i : ℕ) → end ≤ i → sets n i (marks (end - i)) ≡ n
-unfolding marks
-marks_end n end i h = let e : end - i ≡ 0 = omega arith in ap (λ k. sets n i (marks k)) e
+pub filled : (n : List ℕ) (from count : ℕ) (ws : List ℕ) → 2 * (from + count) ≤ length n → ws ≡ replicate (2 * count) inner_note
+    → put_mid (2 * from) (2 * (from + count) - 2 * from) n ws ≡ sets n (2 * from) (inner_words count)
+filled n from count ws h e =
+    let many : 2 * (from + count) - 2 * from ≡ length (inner_words count) = omega (arith, inner-length count) in
+    rw (e ∙ sym (inner-replicate count), many, drop-drop (length (inner_words count)) (2 * from) n, ← append_assoc)
+    (sym (sets-eq (inner_words count) n (2 * from) (omega (arith, inner-length count))))
 
 -- what is left of named wires after a turn, and at the end
 pub named_turn : (label stage count i : ℕ) → i < count
@@ -58,11 +56,6 @@ named_turn label stage count i h =
 pub named_end : (label stage count i : ℕ) → i ≤ count → count ≤ i → named_words (label + i) stage (count - i) ≡ []
 unfolding named_words
 named_end label stage count i h l = let e : count - i ≡ 0 = omega arith in ap (named_words (label + i) stage) e
-
-pub inner-length : (count : ℕ) → length (inner_words count) ≡ 2 * count
-unfolding inner_words
-inner-length zero = refl
-inner-length (suc n) = omega (arith, inner-length n)
 
 pub stores_made : (n : List ℕ) (from inner : ℕ) (ws : List ℕ)
     → sets (sets n (2 * from) (inner_words inner)) (2 * (from + inner)) ws ≡ sets n (2 * from) (inner_words inner ++ ws)

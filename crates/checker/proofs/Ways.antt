@@ -24,16 +24,13 @@ use Rattle.checker.specs.declared.Accepted.{Accepted}
 use Rattle.frames.specs.declared.walk.Next.{Next}
 use Rattle.frames.specs.declared.walk.Walk.{Walk}
 use Rattle.checker.specs.declared.frame.Tally.{Tally}
-use Rattle.checker.specs.declared.frame.Added.{Added}
-use Rattle.checker.specs.declared.frame.Added.TheVariants as added
 use Rattle.checker.specs.Answers.{answer_of, InputsAre}
 use Rattle.frames.specs.Randoms.{listed_pairs}
 use Rattle.frames.specs.Walk.{shape_code, shape_taking, operands_at, step_with, step_at}
 use Rattle.frames.proofs.KindTable.{right_step}
 use Rattle.frames.proofs.RandomBits.{listed-right}
-use Rattle.checker.specs.declared.notes.Found.{Found}
 use Rattle.checker.specs.declared.forms.Spot.{Spot}
-use Rattle.checker.specs.Internal.Notes.{Represents}
+use Rattle.checker.specs.Internal.Notes.{found_of, Represents}
 use Rattle.checker.specs.Internal.Adding.{accepted_by, tally_of, Bounded, FrameOf, Adds}
 use Rattle.checker.proofs.MadeNotes.{counts}
 use Rattle.circuit.proofs.Noted.{label_step}
@@ -110,21 +107,21 @@ module _ {table notes₀ notes : List ℕ} {d : ℕ} {walk : Walk} {tally : Tall
     pub frame_of : FrameOf n.shape d ops
     frame_of = record { kind = kind; later = later; whole = placed.whole; shape_is = placed.shape_is; least = omega (arith, w.shares, w.least); most = omega (arith, w.shares, w.most) }
 
-    module _ (new : List ℕ) (r : Added) (a : Adds tally n.shape d ops notes new r) where
+    module _ (new : List ℕ) (r : Result Tally Spot) (a : Adds tally n.shape d ops notes new r) where
       -- the frame is refused, and the notes stay
-      broken-is : (s : Spot) → r ≡ added.Refused s → later_rule w.k tally.frames kind ops ≡ refuse s.rule tally.frames s.word
+      broken-is : (s : Spot) → r ≡ Err s → later_rule w.k tally.frames kind ops ≡ refuse (number_of s.rule) tally.frames s.word
       broken-is s e = sym (judgement placed a) ∙ ap (judgement_in tally.frames) e
 
-      pub broken_kept : (s : Spot) → r ≡ added.Refused s → new ≡ notes
+      pub broken_kept : (s : Spot) → r ≡ Err s → new ≡ notes
       broken_kept s e = notes-next placed a ∙ ap (λ j. notes_added j notes (size w.k) (made w.k ops kind)) (broken-is s e)
 
-      pub way_broken : (s : Spot) (rule : Rule) → number_of rule ≡ s.rule → r ≡ added.Refused s → Promised table notes₀ new (Err (refusal rule tally.frames s.word))
-      way_broken s rule same e =
-          let (v, p) = refused-at rule s.word frame_at.inside (judged-is ∙ broken-is s e ∙ ap (λ q. refuse q tally.frames s.word) (sym same)) in
+      pub way_broken : (s : Spot) → r ≡ Err s → Promised table notes₀ new (Err (refusal s.rule tally.frames s.word))
+      way_broken s e =
+          let (v, p) = refused-at s.rule s.word frame_at.inside (judged-is ∙ broken-is s e) in
           (v, (broken_kept s e ∙ p.0, p.1))
 
       -- the frame is added
-      pub turn : (t : Tally) → r ≡ added.Next t → Walking table notes₀ new d n.walk t
+      pub turn : (t : Tally) → r ≡ Ok t → Walking table notes₀ new d n.walk t
       turn t s =
           let told : later_rule w.k tally.frames kind ops ≡ pass = sym (judgement placed a) ∙ ap (judgement_in tally.frames) s in
           let passed = frame-pass w.k tally.frames (nth table walk.at) rest w.least (judged-is ∙ told) in
@@ -141,8 +138,8 @@ module _ {table notes₀ notes : List ℕ} {d : ℕ} {walk : Walk} {tally : Tall
             walk_shares = ap (λ x. x.d) frame_at.walk_is ∙ w.walk_shares;
             tally_is = t_is ∙ ap (λ f. tally_of f more) (sym f_is);
             few = omega (arith, size-extend w.k ops kind, passed.few);
-            used = omega (arith, size-extend w.k ops kind, (counts w.k.d kind (λ x. Found.Missing) ops).randoms_few, w.used);
-            inputs = omega (arith, (counts w.k.d kind (λ x. Found.Missing) ops).inputs_few, w.inputs);
+            used = omega (arith, size-extend w.k ops kind, (counts w.k.d kind (found_of w.k) ops).randoms_few, w.used);
+            inputs = omega (arith, (counts w.k.d kind (found_of w.k) ops).inputs_few, w.inputs);
             highest = highest_next w.k.frames _ (subst (λ o. new_stage w.k o kind ≤ stage_limit) (sym ops-is) passed.stage) w.highest;
             counted = omega (arith, w.counted);
             inside = omega (arith, length-drop (walk.at + 1) table, frame_at.inside, whole);
@@ -169,8 +166,7 @@ same_length {notes₀ = notes₀} w = ap length w.notes_is ∙ notes-same w.k no
 -- the numbers that a frame is added to
 pub bounded : {table notes₀ notes : List ℕ} {d : ℕ} {walk : Walk} {tally : Tally} → Walking table notes₀ notes d walk tally → Bounded tally notes
 bounded w = record {
-  room = omega (arith, same_length w, w.roomy);
-  wires = omega (arith, ap (λ t. t.wires) w.tally_is, w.few);
+  room = record { few = omega (arith, ap (λ t. t.wires) w.tally_is, w.few); long = omega (arith, same_length w, w.roomy) };
   randoms = omega (arith, ap (λ t. t.randoms) w.tally_is, ap (λ t. t.wires) w.tally_is, w.used);
   frames = omega (arith, w.counted, w.inside, w.short);
   inputs = omega (arith, ap (λ t. t.inputs) w.tally_is, w.inputs);

@@ -1,45 +1,57 @@
 // The words of each form, judged in their order. Where they break no rule, and the wires that they make keep 13 and 14, these
 // are written into the notes; otherwise the notes are as found.
-ghost use Rattle.std.specs.Prelude.{◌≡◌, ◌+◌, ◌*◌, ◌≤◌, ◌<◌, true, false, eqb, length};
-ghost use Rattle.circuit.specs.Limits.{most_shares, notes_room, wire_limit};
+ghost use Rattle.std.specs.Prelude.{◌≡◌, ◌+◌, ◌-◌, ◌≤◌, ◌<◌, true, false, Ok, eqb, length};
+ghost use Rattle.circuit.specs.Limits.{most_shares};
 ghost use Rattle.circuit.specs.Lists.{nth};
-ghost use Rattle.checker.specs.Internal.Notes.{noted, label_found, stage_found};
-ghost use Rattle.checker.specs.Internal.Adding.{spot, none, ◌and_then◌, stage_number, label_number, value_number, like_number, row_broken, product_broken, refresh_broken, gadget_after, wires_at, Judges};
+ghost use Rattle.checker.specs.Internal.Notes.{Room, noted, wanted, label_found, stage_found};
+ghost use Rattle.checker.specs.Internal.Adding.{spot, at_word, ◌and_then◌, stage_asked, label_asked, value_asked, like_asked, row_broken, product_broken, refresh_broken, gadget_after, wires_at, Judges};
 
 use super::notes;
-use super::notes::{Found, Made};
+use super::notes::{Made, Wanted};
+use circuit::Rule;
 
-// A rule's number, 0 for none, and the word of the frame where it is broken.
+// The rule that a frame breaks, and the word of the frame where it is broken.
 #[derive(Clone, Copy)]
 pub struct Spot {
-    pub rule: usize,
+    pub rule: Rule,
     pub word: usize,
+}
+
+impl Spot {
+    fn new(rule: Rule, word: usize) -> Self
+        ensures { result ≡ spot rule word }
+    {
+        Spot { rule, word }
+    }
 }
 
 // The wires written, unless they break rule 13 or 14.
 #[tactic(auto, using(std::proofs::lemmas::Bool::Decides::nat_tests))]
-fn put(made: Made, wires: usize, notes: &mut [u16]) -> Spot
-    requires { (wires ≤ wire_limit) × (notes_room ≤ length notes.old) × (made.label + made.named ≤ most_shares) }
-    ensures { Judges none made wires notes.old notes.new result }
+fn put(made: Made, wires: usize, notes: &mut [u16]) -> Result<(), Spot>
+    requires { Room wires notes.old × (made.label + made.named ≤ most_shares) }
+    ensures { Judges (Ok tt) made wires notes.old notes.new result }
 {
     let room = circuit::WIRES - wires;
     if circuit::LAST_STAGE < made.stage {
-        return Spot { rule: 13, word: 0 };
+        return Err(Spot::new(Rule::LastStage, 0));
     }
-    if room < made.inner {
-        return Spot { rule: 14, word: 0 };
-    }
-    if room - made.inner < made.named {
-        return Spot { rule: 14, word: 0 };
+    if room < made.inner || room - made.inner < made.named {
+        return Err(Spot::new(Rule::WireCount, 0));
     }
     notes::write(notes, wires, made);
-    Spot { rule: 0, word: 0 }
+    Ok(())
 }
 
 // One named wire written, unless it breaks rule 13 or 14.
-fn put_one(label: u16, stage: usize, registered: bool, wires: usize, notes: &mut [u16]) -> Spot
-    requires { (wires ≤ wire_limit) × (notes_room ≤ length notes.old) × (label < most_shares) }
-    ensures { Judges none (wires_at 1 label stage registered) wires notes.old notes.new result }
+fn put_one(
+    label: u16,
+    stage: usize,
+    registered: bool,
+    wires: usize,
+    notes: &mut [u16],
+) -> Result<(), Spot>
+    requires { Room wires notes.old × (label < most_shares) }
+    ensures { Judges (Ok tt) (wires_at 1 label stage registered) wires notes.old notes.new result }
 {
     put(
         Made {
@@ -54,41 +66,33 @@ fn put_one(label: u16, stage: usize, registered: bool, wires: usize, notes: &mut
     )
 }
 
-// What wires in a row break that have the labels 0, 1 and so on and one stage, that much before another, and, where that is
-// asked, are registered; from a word on.
+// What wires in a row break, from the word `first` on, that have the labels 0, 1 and so on, and of which the same is wanted.
 fn row_rule(
     row: &[u16],
-    word: usize,
-    stage: usize,
-    ahead: usize,
-    register: bool,
+    first: usize,
+    wanted: Wanted,
     wires: usize,
     notes: &[u16],
-) -> Spot
-    requires { (2 * wires ≤ length notes.now) × (length row.now ≤ 8) × (word ≤ 10) × (ahead ≤ 1) }
-    ensures { result ≡ row_broken (noted notes.now wires) stage ahead register word 0 row.now }
+) -> Result<(), Spot>
+    requires { Room wires notes.now × (length row.now ≤ 8) × (first ≤ 10) }
+    ensures { result ≡ row_broken (noted notes.now wires) wanted first 0 row.now }
 {
-    let mut i = 0;
-    while i < row.len() {
-        let rule = notes::wire_rule(notes, wires, row[i], i as u16, stage, ahead, register);
-        if rule != 0 {
-            return Spot {
-                rule,
-                word: word + i,
-            };
-        }
-        i += 1;
+    for (i, wire) in row.iter().enumerate() {
+        let word = first + i;
+        let told = notes::wire_rule(notes, wires, *wire, i as u16, wanted);
+        told.map_err(|rule| Spot::new(rule, word))?;
     }
-    Spot { rule: 0, word: 0 }
+    Ok(())
 }
 
 // IN: a stage.
-pub(crate) fn stage(stage: u16, d: usize, wires: usize, notes: &mut [u16]) -> Spot
-    requires { (wires ≤ wire_limit) × (notes_room ≤ length notes.old) × (d ≤ 8) }
-    ensures { Judges (spot (stage_number stage) 1 and_then none) (wires_at d 0 stage true) wires notes.old notes.new result }
+#[tactic(auto, using(std::proofs::lemmas::Bool::Decides::nat_tests))]
+pub(crate) fn stage(stage: u16, d: usize, wires: usize, notes: &mut [u16]) -> Result<(), Spot>
+    requires { Room wires notes.old × (d ≤ 8) }
+    ensures { Judges (at_word 1 (stage_asked stage)) (wires_at d 0 stage true) wires notes.old notes.new result }
 {
     if circuit::LAST_STAGE < stage as usize {
-        return Spot { rule: 7, word: 1 };
+        return Err(Spot::new(Rule::Range, 1));
     }
     put(
         Made {
@@ -104,6 +108,7 @@ pub(crate) fn stage(stage: u16, d: usize, wires: usize, notes: &mut [u16]) -> Sp
 }
 
 // CON: a label, a value and a stage.
+#[tactic(auto, using(std::proofs::lemmas::Bool::Decides::nat_tests))]
 pub(crate) fn constant(
     label: u16,
     value: u16,
@@ -111,81 +116,74 @@ pub(crate) fn constant(
     d: usize,
     wires: usize,
     notes: &mut [u16],
-) -> Spot
-    requires { (wires ≤ wire_limit) × (notes_room ≤ length notes.old) × (d ≤ 8) }
-    ensures { Judges (spot (label_number d label) 1 and_then spot (value_number value) 2 and_then spot (stage_number stage) 3 and_then none)
+) -> Result<(), Spot>
+    requires { Room wires notes.old × (d ≤ 8) }
+    ensures { Judges (at_word 1 (label_asked d label) and_then at_word 2 (value_asked value) and_then at_word 3 (stage_asked stage))
         (wires_at 1 label stage true) wires notes.old notes.new result }
 {
     if d <= label as usize {
-        return Spot { rule: 7, word: 1 };
+        return Err(Spot::new(Rule::Range, 1));
     }
     if 1 < value {
-        return Spot { rule: 7, word: 2 };
+        return Err(Spot::new(Rule::Range, 2));
     }
     if circuit::LAST_STAGE < stage as usize {
-        return Spot { rule: 7, word: 3 };
+        return Err(Spot::new(Rule::Range, 3));
     }
     put_one(label, stage as usize, true, wires, notes)
 }
 
 // XOR: two wires of one label and stage.
-pub(crate) fn sum(first: u16, second: u16, wires: usize, notes: &mut [u16]) -> Spot
-    requires { (wires ≤ wire_limit) × (notes_room ≤ length notes.old) }
-    ensures { Judges (spot (like_number (noted notes.old wires first) (noted notes.old wires first)) 1
-        and_then spot (like_number (noted notes.old wires first) (noted notes.old wires second)) 2 and_then none)
+pub(crate) fn sum(first: u16, second: u16, wires: usize, notes: &mut [u16]) -> Result<(), Spot>
+    requires { Room wires notes.old }
+    ensures { Judges (at_word 1 (like_asked (noted notes.old wires first) (noted notes.old wires first))
+        and_then at_word 2 (like_asked (noted notes.old wires first) (noted notes.old wires second)))
         (wires_at 1 (label_found (noted notes.old wires first)) (stage_found (noted notes.old wires first)) false) wires notes.old notes.new result }
 {
-    let found = notes::look_up(notes, wires, first);
-    match found {
-        Found::Missing => Spot { rule: 8, word: 1 },
-        Found::Inner => Spot { rule: 9, word: 1 },
-        Found::Named {
-            label,
-            stage,
-            registered: _,
-        } => {
-            let rule = notes::wire_rule(notes, wires, second, label, stage as usize, 0, false);
-            if rule != 0 {
-                return Spot { rule, word: 2 };
-            }
-            put_one(label, stage as usize, false, wires, notes)
-        }
-    }
+    let named = notes::look_up(notes, wires, first).map_err(|rule| Spot::new(rule, 1))?;
+    let like = Wanted {
+        stage: named.stage,
+        ahead: 0,
+        registered: false,
+    };
+    let told = notes::wire_rule(notes, wires, second, named.label, like);
+    told.map_err(|rule| Spot::new(rule, 2))?;
+    put_one(named.label, named.stage as usize, false, wires, notes)
 }
 
 // NOT, and REG, whose wire stands one stage later and is registered: one wire.
-pub(crate) fn copy(wire: u16, after: usize, wires: usize, notes: &mut [u16]) -> Spot
-    requires { (wires ≤ wire_limit) × (notes_room ≤ length notes.old) × (after < 65536) }
-    ensures { Judges (spot (like_number (noted notes.old wires wire) (noted notes.old wires wire)) 1 and_then none)
+pub(crate) fn copy(wire: u16, after: usize, wires: usize, notes: &mut [u16]) -> Result<(), Spot>
+    requires { Room wires notes.old × (after < 65536) }
+    ensures { Judges (at_word 1 (like_asked (noted notes.old wires wire) (noted notes.old wires wire)))
         (wires_at 1 (label_found (noted notes.old wires wire)) (stage_found (noted notes.old wires wire) + after) (eqb after 1)) wires notes.old notes.new result }
 {
-    let found = notes::look_up(notes, wires, wire);
-    match found {
-        Found::Missing => Spot { rule: 8, word: 1 },
-        Found::Inner => Spot { rule: 9, word: 1 },
-        Found::Named {
-            label,
-            stage,
-            registered: _,
-        } => put_one(label, stage as usize + after, after == 1, wires, notes),
-    }
+    let named = notes::look_up(notes, wires, wire).map_err(|rule| Spot::new(rule, 1))?;
+    put_one(
+        named.label,
+        named.stage as usize + after,
+        after == 1,
+        wires,
+        notes,
+    )
 }
 
 // OUT: a row of registered wires, at the stage that its first one shows. It makes no wires.
-pub(crate) fn row(ops: &[u16], stage: usize, wires: usize, notes: &mut [u16]) -> Spot
-    requires { (wires ≤ wire_limit) × (notes_room ≤ length notes.old) × (length ops.now ≤ 8) }
-    ensures { Judges (row_broken (noted notes.old wires) stage 0 true 1 0 ops.now) (wires_at 0 0 stage false) wires notes.old notes.new result }
+pub(crate) fn row(ops: &[u16], stage: u16, wires: usize, notes: &mut [u16]) -> Result<(), Spot>
+    requires { Room wires notes.old × (length ops.now ≤ 8) }
+    ensures { Judges (row_broken (noted notes.old wires) (wanted stage 0 true) 1 0 ops.now) (wires_at 0 0 stage false) wires notes.old notes.new result }
 {
-    let broken = row_rule(ops, 1, stage, 0, true, wires, notes);
-    if broken.rule != 0 {
-        return broken;
-    }
+    let wanted = Wanted {
+        stage,
+        ahead: 0,
+        registered: true,
+    };
+    row_rule(ops, 1, wanted, wires, notes)?;
     put(
         Made {
             inner: 0,
             named: 0,
             label: 0,
-            stage,
+            stage: stage as usize,
             registered: false,
         },
         wires,
@@ -193,24 +191,24 @@ pub(crate) fn row(ops: &[u16], stage: usize, wires: usize, notes: &mut [u16]) ->
     )
 }
 
-// A gadget's wires written, unless they break rule 13 or 14: inner ones, then a row one stage after another.
+// A gadget's wires written, unless they break rule 13 or 14: of so many, inner ones, then a row one stage after another.
 fn put_gadget(
-    inner: usize,
+    count: usize,
     d: usize,
-    stage: usize,
+    stage: u16,
     registered: bool,
     wires: usize,
     notes: &mut [u16],
-) -> Spot
-    requires { (wires ≤ wire_limit) × (notes_room ≤ length notes.old) × (d ≤ 8) × (stage < 65536) }
-    ensures { Judges none (gadget_after inner d stage registered) wires notes.old notes.new result }
+) -> Result<(), Spot>
+    requires { Room wires notes.old × (d ≤ 8) }
+    ensures { Judges (Ok tt) (gadget_after (count - d) d stage registered) wires notes.old notes.new result }
 {
     put(
         Made {
-            inner,
+            inner: count.saturating_sub(d),
             named: d,
             label: 0,
-            stage: stage + 1,
+            stage: stage as usize + 1,
             registered,
         },
         wires,
@@ -218,57 +216,56 @@ fn put_gadget(
     )
 }
 
-// AND: the first random, then the rows a and b. Its outputs are sums, not registers.
+// AND: the first random, then the rows a and b, which stands one stage before a. Its outputs are sums, not registers.
 pub(crate) fn product(
-    inner: usize,
+    count: usize,
     d: usize,
     used: usize,
     ops: &[u16],
     wires: usize,
     notes: &mut [u16],
-) -> Spot
-    requires { (wires ≤ wire_limit) × (notes_room ≤ length notes.old) × (1 ≤ d) × (d ≤ 8) × (length ops.now ≡ 1 + d + d) }
+) -> Result<(), Spot>
+    requires { Room wires notes.old × (1 ≤ d) × (d ≤ 8) × (length ops.now ≡ 1 + d + d) }
     ensures { Judges (product_broken d used (noted notes.old wires) ops.now)
-        (gadget_after inner d (stage_found (noted notes.old wires (nth ops.now 1))) false) wires notes.old notes.new result }
+        (gadget_after (count - d) d (stage_found (noted notes.old wires (nth ops.now 1))) false) wires notes.old notes.new result }
 {
-    let stage = notes::stage_shown(notes, wires, ops[1]);
     if ops[0] as usize != used {
-        return Spot { rule: 12, word: 1 };
+        return Err(Spot::new(Rule::FirstRandom, 1));
     }
-    let middle = 1 + d;
-    let end = ops.len();
-    let a = row_rule(&ops[1..middle], 2, stage, 0, false, wires, notes);
-    if a.rule != 0 {
-        return a;
-    }
-    let b = row_rule(&ops[middle..end], 2 + d, stage, 1, false, wires, notes);
-    if b.rule != 0 {
-        return b;
-    }
-    put_gadget(inner, d, stage, false, wires, notes)
+    let stage = notes::stage_shown(notes, wires, ops[1]);
+    let (a, b) = ops[1..].split_at(d);
+    let at = Wanted {
+        stage,
+        ahead: 0,
+        registered: false,
+    };
+    row_rule(a, 2, at, wires, notes)?;
+    row_rule(b, 2 + d, Wanted { ahead: 1, ..at }, wires, notes)?;
+    put_gadget(count, d, stage, false, wires, notes)
 }
 
 // REF: the first random, then a row. Its outputs are registers.
 pub(crate) fn refresh(
-    inner: usize,
+    count: usize,
     d: usize,
     used: usize,
     ops: &[u16],
     wires: usize,
     notes: &mut [u16],
-) -> Spot
-    requires { (wires ≤ wire_limit) × (notes_room ≤ length notes.old) × (1 ≤ d) × (d ≤ 8) × (length ops.now ≡ 1 + d) }
+) -> Result<(), Spot>
+    requires { Room wires notes.old × (1 ≤ d) × (d ≤ 8) × (length ops.now ≡ 1 + d) }
     ensures { Judges (refresh_broken d used (noted notes.old wires) ops.now)
-        (gadget_after inner d (stage_found (noted notes.old wires (nth ops.now 1))) true) wires notes.old notes.new result }
+        (gadget_after (count - d) d (stage_found (noted notes.old wires (nth ops.now 1))) true) wires notes.old notes.new result }
 {
-    let stage = notes::stage_shown(notes, wires, ops[1]);
     if ops[0] as usize != used {
-        return Spot { rule: 12, word: 1 };
+        return Err(Spot::new(Rule::FirstRandom, 1));
     }
-    let end = ops.len();
-    let a = row_rule(&ops[1..end], 2, stage, 0, false, wires, notes);
-    if a.rule != 0 {
-        return a;
-    }
-    put_gadget(inner, d, stage, true, wires, notes)
+    let stage = notes::stage_shown(notes, wires, ops[1]);
+    let at = Wanted {
+        stage,
+        ahead: 0,
+        registered: false,
+    };
+    row_rule(&ops[1..], 2, at, wires, notes)?;
+    put_gadget(count, d, stage, true, wires, notes)
 }

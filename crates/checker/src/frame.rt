@@ -1,11 +1,13 @@
 // A frame added to the circuit so far.
 ghost use Rattle.std.specs.Prelude.{◌≡◌};
-ghost use Rattle.checker.specs.Internal.Adding.{accepted_by, head_alone, numbers, added_by, Bounded, Fitting, FrameOf, Adds};
+ghost use Rattle.circuit.specs.Refusals.{refusal};
+ghost use Rattle.checker.specs.Internal.Adding.{accepted_by, head_alone, numbers, with_frame, Bounded, Fitting, FrameOf, Adds};
 
 use super::forms::Spot;
-use super::numbers::less;
+use super::notes::stage_shown;
 use super::span::Span;
 use super::{Accepted, forms, span};
+use circuit::Refusal;
 use frames::kinds::{Form, Shape};
 
 // The circuit so far: the number of frames with HEAD, of wires, of random bits, the stages of INs and OUTs, and the number of INs.
@@ -19,6 +21,31 @@ pub struct Tally {
 }
 
 impl Tally {
+    // With one frame more: so many wires, random bits and INs.
+    fn grown(self, wires: usize, randoms: usize, inputs: usize, span: Span) -> Tally
+        requires { Fitting self (numbers wires randoms inputs) }
+        ensures { result ≡ with_frame self (numbers wires randoms inputs) span }
+    {
+        Tally {
+            frames: self.frames + 1,
+            wires: self.wires + wires,
+            randoms: self.randoms + randoms,
+            span,
+            inputs: self.inputs + inputs,
+        }
+    }
+
+    // The next frame refused, at a spot.
+    pub(crate) fn refused(self, spot: Spot) -> Refusal
+        ensures { result ≡ refusal spot.rule self.frames spot.word }
+    {
+        Refusal {
+            rule: spot.rule,
+            frame: self.frames,
+            word: spot.word,
+        }
+    }
+
     // The answer, once all frames are counted.
     pub(crate) fn answer(self) -> Accepted
         ensures { result ≡ accepted_by self }
@@ -30,13 +57,6 @@ impl Tally {
             inputs: self.inputs,
         }
     }
-}
-
-// The circuit with one frame more, or the rule that the frame breaks and the word.
-#[derive(Clone, Copy)]
-pub enum Added {
-    Next(Tally),
-    Refused(Spot),
 }
 
 // HEAD by itself.
@@ -52,74 +72,52 @@ pub(crate) fn head_alone() -> Tally
     }
 }
 
-// The counts with one frame more, where it breaks no rule: so many wires, random bits and INs.
-fn grown(
-    broken: Spot,
-    tally: Tally,
-    wires: usize,
-    randoms: usize,
-    inputs: usize,
-    span: Span,
-) -> Added
-    requires { broken.rule ≡ 0 → Fitting tally (numbers wires randoms inputs) }
-    ensures { result ≡ added_by broken.rule broken.word tally (numbers wires randoms inputs) span }
-{
-    if broken.rule == 0 {
-        Added::Next(Tally {
-            frames: tally.frames + 1,
-            wires: tally.wires + wires,
-            randoms: tally.randoms + randoms,
-            span,
-            inputs: tally.inputs + inputs,
-        })
-    } else {
-        Added::Refused(broken)
-    }
-}
-
 // The frame judged by its form, and added. (No HEAD comes here: rule 5 refuses it before.) What a form adds to the counts is
 // written out in its arm, so that the loop's tail stays short for gates.
-pub(crate) fn add(tally: Tally, shape: Shape, d: u16, ops: &[u16], notes: &mut [u16]) -> Added
+pub(crate) fn add(
+    tally: Tally,
+    shape: Shape,
+    d: u16,
+    ops: &[u16],
+    notes: &mut [u16],
+) -> Result<Tally, Spot>
     requires { Bounded tally notes.old × FrameOf shape d ops.now }
     ensures { Adds tally shape d ops.now notes.old notes.new result }
 {
     let n = d as usize;
     let wires = tally.wires;
     let span = tally.span;
-    let form = shape.form;
-    match form {
-        Form::ShareCount => grown(Spot { rule: 0, word: 0 }, tally, 0, 0, 0, span),
+    match shape.form {
+        Form::ShareCount => Ok(tally.grown(0, 0, 0, span)),
         Form::Stage => {
             let stage = ops[0];
-            let broken = forms::stage(stage, n, wires, notes);
-            grown(broken, tally, n, 0, 1, span.with_input(stage))
+            forms::stage(stage, n, wires, notes)?;
+            Ok(tally.grown(n, 0, 1, span.with_input(stage)))
         }
         Form::Constant => {
-            let broken = forms::constant(ops[0], ops[1], ops[2], n, wires, notes);
-            grown(broken, tally, 1, 0, 0, span)
+            forms::constant(ops[0], ops[1], ops[2], n, wires, notes)?;
+            Ok(tally.grown(1, 0, 0, span))
         }
         Form::Sum => {
-            let broken = forms::sum(ops[0], ops[1], wires, notes);
-            grown(broken, tally, 1, 0, 0, span)
+            forms::sum(ops[0], ops[1], wires, notes)?;
+            Ok(tally.grown(1, 0, 0, span))
         }
         Form::Copy { after } => {
-            let broken = forms::copy(ops[0], after as usize, wires, notes);
-            grown(broken, tally, 1, 0, 0, span)
+            forms::copy(ops[0], after as usize, wires, notes)?;
+            Ok(tally.grown(1, 0, 0, span))
         }
         Form::Product => {
-            let inner = less(shape.wires, n);
-            let broken = forms::product(inner, n, tally.randoms, ops, wires, notes);
-            grown(broken, tally, shape.wires, shape.randoms, 0, span)
+            forms::product(shape.wires, n, tally.randoms, ops, wires, notes)?;
+            Ok(tally.grown(shape.wires, shape.randoms, 0, span))
         }
         Form::Refresh => {
-            let inner = less(shape.wires, n);
-            let broken = forms::refresh(inner, n, tally.randoms, ops, wires, notes);
-            grown(broken, tally, shape.wires, shape.randoms, 0, span)
+            forms::refresh(shape.wires, n, tally.randoms, ops, wires, notes)?;
+            Ok(tally.grown(shape.wires, shape.randoms, 0, span))
         }
         Form::Row => {
-            let stage = super::notes::stage_shown(notes, wires, ops[0]);
-            let broken = forms::row(ops, stage, wires, notes);
-            grown(broken, tally, 0, 0, 0, span.with_output(stage))
+            let stage = stage_shown(notes, wires, ops[0]);
+            forms::row(ops, stage, wires, notes)?;
+            Ok(tally.grown(0, 0, 0, span.with_output(stage)))
         }
     }
 }

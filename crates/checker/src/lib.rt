@@ -6,17 +6,15 @@ ghost use Rattle.std.specs.Prelude.{◌≡◌, Ok, length};
 ghost use Rattle.circuit.specs.Rules.{checked};
 ghost use Rattle.checker.specs.Answers.{answer_of, InputsAre};
 ghost use Rattle.circuit.specs.Answer.{verdict_of, notes_after};
-ghost use Rattle.circuit.specs.Refusals.{number_of};
-ghost use Rattle.checker.specs.Internal.Adding.{head_answer, Listed};
+ghost use Rattle.checker.specs.Internal.Adding.{head_answer};
 
 mod forms;
 mod frame;
 pub mod notes;
-mod numbers;
 mod span;
 
 use circuit::{Refusal, Rule};
-use frame::{Added, Tally};
+use forms::Spot;
 use frames::randoms::random_bits;
 use frames::walk::Walk;
 
@@ -27,30 +25,6 @@ pub struct Accepted {
     pub randoms: usize,
     pub latency: usize,
     pub inputs: usize,
-}
-
-// The rule of a number among those that a table and its frames are asked.
-fn named(rule: usize) -> Rule
-    requires { Listed rule }
-    ensures { number_of result ≡ rule }
-{
-    match rule {
-        1 => Rule::TableLength,
-        2 => Rule::NotesLength,
-        3 => Rule::Head,
-        4 => Rule::ShareCount,
-        5 => Rule::Kind,
-        6 => Rule::WordCount,
-        7 => Rule::Range,
-        8 => Rule::MissingWire,
-        9 => Rule::InnerWire,
-        10 => Rule::Label,
-        11 => Rule::Stage,
-        12 => Rule::FirstRandom,
-        13 => Rule::LastStage,
-        14 => Rule::WireCount,
-        _ => Rule::Registered,
-    }
 }
 
 // The first of rules 1 to 4 that a table and notes of so many words break.
@@ -84,37 +58,15 @@ fn check_frames(table: &[u16], notes: &mut [u16]) -> Result<Accepted, Refusal>
     let randoms = random_bits(d);
     let mut walk = Walk { d, at: 2 };
     let mut tally = frame::head_alone();
-    'frames: loop {
-        match walk.step(table, randoms) {
-            Ok(None) => {
-                return Ok(tally.answer());
-            }
-            Err(rule) => {
-                return Err(Refusal {
-                    rule,
-                    frame: tally.frames,
-                    word: 0,
-                });
-            }
-            Ok(Some(next)) => {
-                let ops = walk.operands(table);
-                let added = frame::add(tally, next.shape, d, ops, notes);
-                match added {
-                    Added::Next(more) => {
-                        tally = more;
-                        walk = next.walk;
-                    }
-                    Added::Refused(spot) => {
-                        return Err(Refusal {
-                            rule: named(spot.rule),
-                            frame: tally.frames,
-                            word: spot.word,
-                        });
-                    }
-                }
-            }
-        }
+    while let Some(next) = walk
+        .step(table, randoms)
+        .map_err(|rule| tally.refused(Spot { rule, word: 0 }))?
+    {
+        let ops = walk.operands(table);
+        tally = frame::add(tally, next.shape, d, ops, notes).map_err(|spot| tally.refused(spot))?;
+        walk = next.walk;
     }
+    Ok(tally.answer())
 }
 
 // The table checked frame by frame, in one pass. Rules 1 to 4 leave the notes untouched.

@@ -4,7 +4,9 @@ ghost use Rattle.std.specs.Prelude.{◌≡◌, ◌+◌, ◌*◌, ◌≤◌, ◌<
 ghost use Rattle.std.proofs.lemmas.List.Edits.{sets};
 ghost use Rattle.circuit.specs.Limits.{most_shares};
 ghost use Rattle.circuit.specs.Answer.{label_noted};
-ghost use Rattle.checker.specs.Internal.Notes.{noted, stage_found, wire_number, first_word, inner_words, named_words, made_words};
+ghost use Rattle.checker.specs.Internal.Notes.{Room, noted, stage_found, wire_asked, first_word, inner_words, named_words, made_words};
+
+use circuit::Rule;
 
 // Both words of an inner wire.
 const INNER: u16 = 0xFFFF;
@@ -12,16 +14,20 @@ const INNER: u16 = 0xFFFF;
 // What is added to the label of a registered wire.
 const REGISTERED: u16 = 8;
 
-// What looking a wire up tells.
+// A wire that words may name, as the notes show it.
 #[derive(Clone, Copy)]
-pub enum Found {
-    Missing,
-    Inner,
-    Named {
-        label: u16,
-        stage: u16,
-        registered: bool,
-    },
+pub struct Named {
+    pub label: u16,
+    pub stage: u16,
+    pub registered: bool,
+}
+
+// What is asked of a named wire beside its label: to stand so many stages before another, and, if so told, to be registered.
+#[derive(Clone, Copy)]
+pub struct Wanted {
+    pub stage: u16,
+    pub ahead: u16,
+    pub registered: bool,
 }
 
 // The wires that a frame makes, as the notes show them: inner ones, then named ones with labels in a row at one stage, all
@@ -35,24 +41,24 @@ pub struct Made {
     pub registered: bool,
 }
 
-// The wire of a number, of the first `wires` that are in the notes.
-pub(crate) fn look_up(notes: &[u16], wires: usize, wire: u16) -> Found
-    requires { 2 * wires ≤ length notes.now }
+// The wire of a number, of the first `wires` that are in the notes; or rule 8 where it is not made, 9 where it is an inner one.
+pub(crate) fn look_up(notes: &[u16], wires: usize, wire: u16) -> Result<Named, Rule>
+    requires { Room wires notes.now }
     ensures { result ≡ noted notes.now wires wire }
 {
     let w = wire as usize;
     if wires <= w {
-        return Found::Missing;
+        return Err(Rule::MissingWire);
     }
     let first = notes[2 * w];
     if first == INNER {
-        return Found::Inner;
+        return Err(Rule::InnerWire);
     }
-    Found::Named {
+    Ok(Named {
         label: first % REGISTERED,
         stage: notes[2 * w + 1],
         registered: REGISTERED <= first,
-    }
+    })
 }
 
 // The label that the notes give a wire, where it is a named one; 0 past their end.
@@ -67,59 +73,39 @@ pub fn label(notes: &[u16], wire: u16) -> u16
 }
 
 // The stage that a wire shows; 0 where it shows none.
-pub(crate) fn stage_shown(notes: &[u16], wires: usize, wire: u16) -> usize
-    requires { 2 * wires ≤ length notes.now }
-    ensures { (result ≡ stage_found (noted notes.now wires wire)) × (result < 65536) }
+pub(crate) fn stage_shown(notes: &[u16], wires: usize, wire: u16) -> u16
+    requires { Room wires notes.now }
+    ensures { result ≡ stage_found (noted notes.now wires wire) }
 {
-    let found = look_up(notes, wires, wire);
-    match found {
-        Found::Named {
-            label: _,
-            stage,
-            registered: _,
-        } => stage as usize,
-        Found::Missing => 0,
-        Found::Inner => 0,
+    match look_up(notes, wires, wire) {
+        Ok(named) => named.stage,
+        Err(_) => 0,
     }
 }
 
-// The first of rules 8 to 11 and 22 that a wire breaks which has to have a label, and a stage that much before another, and,
-// where that is asked, to be registered; 0 for none.
+// The first of rules 8 to 11 and 22 that a wire breaks of which a label is asked, and what is wanted of it.
 #[tactic(auto, using(std::proofs::lemmas::Bool::Decides::nat_tests))]
 pub(crate) fn wire_rule(
     notes: &[u16],
     wires: usize,
     wire: u16,
     label: u16,
-    stage: usize,
-    ahead: usize,
-    register: bool,
-) -> usize
-    requires { (2 * wires ≤ length notes.now) × (ahead ≤ 1) }
-    ensures { result ≡ wire_number (noted notes.now wires wire) label stage ahead register }
+    wanted: Wanted,
+) -> Result<(), Rule>
+    requires { Room wires notes.now }
+    ensures { result ≡ wire_asked (noted notes.now wires wire) label wanted }
 {
-    let found = look_up(notes, wires, wire);
-    match found {
-        Found::Missing => 8,
-        Found::Inner => 9,
-        Found::Named {
-            label: own,
-            stage: at,
-            registered,
-        } => {
-            if own != label {
-                return 10;
-            }
-            if at as usize + ahead != stage {
-                return 11;
-            }
-            if register {
-                if registered { 0 } else { 22 }
-            } else {
-                0
-            }
-        }
+    let named = look_up(notes, wires, wire)?;
+    if named.label != label {
+        return Err(Rule::Label);
     }
+    if named.stage as usize + wanted.ahead as usize != wanted.stage as usize {
+        return Err(Rule::Stage);
+    }
+    if wanted.registered && !named.registered {
+        return Err(Rule::Registered);
+    }
+    Ok(())
 }
 
 // The first word of a named wire.
@@ -139,12 +125,7 @@ fn write_inner(notes: &mut [u16], from: usize, count: usize)
     requires { 2 * (from + count) ≤ length notes.old }
     ensures { notes.new ≡ sets notes.old (2 * from) (inner_words count) }
 {
-    let mut i = 2 * from;
-    let end = i + 2 * count;
-    while i < end {
-        notes[i] = INNER;
-        i += 1;
-    }
+    notes[2 * from..2 * (from + count)].fill(INNER);
 }
 
 // Writes named wires from the wire `from` on, with first words in a row and one stage.
@@ -153,11 +134,9 @@ fn write_named(notes: &mut [u16], from: usize, count: usize, first: usize, stage
     ensures { notes.new ≡ sets notes.old (2 * from) (named_words first stage count) }
 {
     let start = 2 * from;
-    let mut i = 0;
-    while i < count {
+    for i in 0..count {
         notes[start + 2 * i] = (first + i) as u16;
         notes[start + 2 * i + 1] = stage as u16;
-        i += 1;
     }
 }
 

@@ -2,9 +2,8 @@
 ghost use Rattle.std.specs.Prelude.{◌≡◌};
 ghost use Rattle.checker.specs.Internal.Spans.{no_span, with_input, with_output, latency_in};
 
-use super::numbers::less;
-
-// The lowest stage of an IN, one past the last stage where there is none; the highest stage of an OUT, 0 where there is none.
+// The lowest stage of an IN, one past the last stage where there is none; the highest stage of an OUT, 0 where there is none. So
+// the difference is right without an IN or an OUT too, and neither is a case of its own.
 #[derive(Clone, Copy)]
 pub struct Span {
     pub lowest: usize,
@@ -26,28 +25,19 @@ impl Span {
     pub(crate) fn with_input(self, stage: u16) -> Span
         ensures { result ≡ with_input self stage }
     {
-        let lowest = stage as usize;
-        if lowest < self.lowest {
-            Span {
-                lowest,
-                highest: self.highest,
-            }
-        } else {
-            self
+        Span {
+            lowest: self.lowest.min(stage as usize),
+            ..self
         }
     }
 
     // With an OUT at a stage.
-    pub(crate) fn with_output(self, stage: usize) -> Span
+    pub(crate) fn with_output(self, stage: u16) -> Span
         ensures { result ≡ with_output self stage }
     {
-        if self.highest < stage {
-            Span {
-                lowest: self.lowest,
-                highest: stage,
-            }
-        } else {
-            self
+        Span {
+            highest: self.highest.max(stage as usize),
+            ..self
         }
     }
 
@@ -55,6 +45,6 @@ impl Span {
     pub(crate) fn latency(self) -> usize
         ensures { result ≡ latency_in self }
     {
-        less(self.highest, self.lowest)
+        self.highest.saturating_sub(self.lowest)
     }
 }

@@ -4,8 +4,9 @@ use mathlib.Core.Bool.{cond}
 use mathlib.Core.List.{List, [], ◌∷◌}
 use Prim.Native.Nat.{ℕ, ◌+◌, ◌≤◌, ◌<◌}
 use native.Mathlib.Omega.{arith}
+use lib.Dec.{ltb}
 use lib.ListN.{length}
-use borrow.Author.Tests.{lt-ltb, le-ltb}
+use Rattle.std.specs.Prelude.{Option, Some, None, position}
 use Rattle.circuit.specs.Lists.{nth}
 use Rattle.circuit.specs.Circuit.{Circuit, size}
 use Rattle.circuit.specs.Rules.{Judgement, pass, refuse, ◌then◌}
@@ -17,19 +18,17 @@ use Rattle.semantics.specs.Clock.{is_register, register_bytes, shown_on, held_af
 use Rattle.semantics.proofs.Solving.{gate_at}
 use Rattle.semantics.proofs.Clocked.{register_length, register_at}
 use Rattle.gadgets.specs.Internal.Accepting.{circuit_in}
-use Rattle.evaluation.specs.Internal.Refusing.{refusal}
 use Rattle.evaluation.proofs.Answering.{Passed, answer-refuse, untouched, bits-pass}
-use Rattle.evaluation.proofs.Refusals.{overwrite-none}
-use Rattle.clock.specs.Internal.Whole.{wires_of, AllBits, Clocked, RegisterFirst}
+use Rattle.evaluation.proofs.Refusals.{refusal, over_first, first_within, none_over}
+use Rattle.clock.specs.Internal.Whole.{wires_of, AllBits, Clocked}
 
 -- where no byte of a wire is over 1, none of a register is
-pub none_over : (table bank : List ℕ) {wires : ℕ} → wires ≡ size (circuit_in table) → ((x : ℕ) → x < wires → nth bank x ≤ 1) → RegisterFirst table bank wires
-none_over table bank {wires} all few =
+pub none_over_bank : (table bank : List ℕ) {wires : ℕ} → wires ≡ size (circuit_in table) → ((x : ℕ) → x < wires → nth bank x ≤ 1) → None ≡ position (λ b. ltb 1 b) (register_bytes (wires_of table) bank)
+none_over_bank table bank all few =
     let ws = wires_of table in
-    let count : length (register_bytes ws bank) ≡ wires = register_length ws bank ∙ sym all in
-    let low : (x : ℕ) → x < length (register_bytes ws bank) → nth (register_bytes ws bank) x ≤ 1 = λ x l.
-    rw (register_at ws bank x (omega (arith, register_length ws bank))) (cases (is_register (gate_at ws x)) (λ e. rw e (few x (omega (arith, count)))) (λ e. rw e (omega arith))) in
-    record { is = λ i. (overwrite-none (register_bytes ws bank) low).is i ∙ ap (refusal 18 i (register_bytes ws bank)) count }
+    none_over (register_bytes ws bank) (λ x l.
+    let in_wires : x < size (circuit_in table) = omega (arith, register_length ws bank) in
+    rw (register_at ws bank x in_wires) (cases (is_register (gate_at ws x)) (λ e. rw e (few x (omega arith))) (λ e. rw e (omega arith))))
 
 module _ (table notes shares tape values bank : List ℕ) where
   abbrev k : Circuit
@@ -51,38 +50,38 @@ module _ (table notes shares tape values bank : List ℕ) where
   left h = untouched k rule h
 
   -- where these pass, rule 18 of the bank is left: by the first register that breaks it
-  module _ {room wires : ℕ} (p : Passed table notes shares tape sheets [] room wires) {x : ℕ} (first : RegisterFirst table bank x) where
+  module _ {room wires : ℕ} (p : Passed table notes shares tape sheets [] room wires) {r : Option ℕ} (first : r ≡ position (λ b. ltb 1 b) (register_bytes (wires_of table) bank)) where
     abbrev start : ℕ
     start = length shares + length tape
 
-    count : length (register_bytes (wires_of table) bank) ≡ wires
-    count = register_length (wires_of table) bank ∙ sym p.wires_are
-
-    left18 : rule ≡ refusal 18 start (register_bytes (wires_of table) bank) x
+    left18 : rule ≡ refusal 18 start r
     unfolding clock_rule
-    left18 = ap₂ (λ j c. j then bytes_rule start (register_bytes c.wires bank)) p.passes p.of.circuit_is ∙ first.is start
+    left18 = ap₂ (λ j c. j then bytes_rule start (register_bytes c.wires bank)) p.passes p.of.circuit_is ∙ over_first (register_bytes (wires_of table) bank) first start
 
-    pub over_first : x < wires → rule ≡ refuse 18 0 (start + x)
-    over_first l = left18 ∙ rw (lt-ltb x (length (register_bytes (wires_of table) bank)) (omega (arith, count)))
+    pub over_at : {x : ℕ} → r ≡ Some x → rule ≡ refuse 18 0 (start + x)
+    over_at h = left18 ∙ ap (refusal 18 start) h
 
-    pub passes_all : wires ≤ x → rule ≡ pass
-    passes_all l = left18 ∙ rw (le-ltb x (length (register_bytes (wires_of table) bank)) (omega (arith, count)))
+    pub over_within : {x : ℕ} → r ≡ Some x → x < wires
+    over_within h = omega (arith, first_within (λ b. ltb 1 b) (register_bytes (wires_of table) bank) first h, register_length (wires_of table) bank, p.wires_are)
 
     -- an accepted step: its bytes are bits, and its buffers hold what is said of the table's circuit
-    module _ (l : wires ≤ x) where
+    module _ (none : r ≡ None) where
+      pub passes_all : rule ≡ pass
+      passes_all = left18 ∙ ap (refusal 18 start) none
+
       all-bits : AllBits table shares tape bank
       all-bits = record {
         share_bits = p.share_bits;
         tape_bits = p.tape_bits;
-        shown_bits = λ y m r.
+        shown_bits = λ y m q.
             let ws = wires_of table in
-            let bits = bits-pass start (register_bytes ws bank) (first.is start ∙ sym left18 ∙ passes_all l) in
-            subst (λ (n : ℕ). n ≤ 1) (register_at ws bank y m ∙ ap (λ b. cond b (nth bank y) 0) r) (bits y);
+            let bits = bits-pass start (register_bytes ws bank) (over_first (register_bytes ws bank) first start ∙ ap (refusal 18 start) none) in
+            subst (λ (n : ℕ). n ≤ 1) (register_at ws bank y m ∙ ap (λ b. cond b (nth bank y) 0) q) (bits y);
       }
 
       module _ {new_values new_bank : List ℕ} (c : Clocked table shares tape bank values bank new_values new_bank) where
         pub valued : new_values ≡ written rule (bytes (shown_on k.wires bank shares tape)) values
-        valued = c.valued all-bits ∙ sym (ap₂ (λ j c. written j (bytes (shown_on c.wires bank shares tape)) values) (passes_all l) p.of.circuit_is)
+        valued = c.valued all-bits ∙ sym (ap₂ (λ j c. written j (bytes (shown_on c.wires bank shares tape)) values) passes_all p.of.circuit_is)
 
         pub banked : new_bank ≡ written rule (held_after k.wires bank shares tape) bank
-        banked = c.banked all-bits ∙ sym (ap₂ (λ j c. written j (held_after c.wires bank shares tape) bank) (passes_all l) p.of.circuit_is)
+        banked = c.banked all-bits ∙ sym (ap₂ (λ j c. written j (held_after c.wires bank shares tape) bank) passes_all p.of.circuit_is)

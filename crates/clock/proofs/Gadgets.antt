@@ -48,7 +48,7 @@ and_runs d first used randoms ops tape same draws products rows from shares =
     }
 
 -- REF: its random bits and its sums are filled in, then its outputs
-pub ref_runs : (d first used : ℕ) (ops tape : List ℕ) {values bank two new_bank : List ℕ} → Fills (DrawnMasked d first (word_a ops) tape used) first (first + pairs d + d) values two
+pub ref_runs : (d first used : ℕ) (ops tape : List ℕ) {values bank two new_bank : List ℕ} → Fills (DrawnMasked d first (word_a ops) tape used) first (sum_at d first d) values two
     → Runs (Holds d first) (held_at d first 0) (held_at d first d) two bank two new_bank
     → (from : ℕ) (shares : List ℕ) → Runs (Framed frame.Ref d first from used ops shares tape) first (first + (pairs d + 2 * d)) values bank two new_bank
 ref_runs d first used ops tape masks holds from shares = record {

@@ -5,10 +5,12 @@ use mathlib.Core.Bool.{cond}
 use mathlib.Core.List.{List, [], ◌++◌}
 use Prim.Native.Nat.{ℕ, ◌+◌, ◌≤◌, ◌<◌}
 use native.Mathlib.Omega.{arith}
-use lib.Dec.{leb}
+use lib.Dec.{leb, ltb}
+use Rattle.std.specs.Prelude.{Some, position}
+use Rattle.std.proofs.lemmas.List.Sums.{position_or_len_is}
 use lib.ListN.{length, drop, length-drop, length-map, get_or-append, get_or-map}
 use lib.Seq.{get_or-drop, ext_get_or}
-use borrow.Author.Tests.{le-leb, lt-leb}
+use borrow.Author.Tests.{le-leb, lt-leb, lt-ltb, le-ltb}
 use Rattle.circuit.specs.Lists.{nth, overwrite}
 use Rattle.circuit.specs.Circuit.{size, is_set}
 use Rattle.circuit.proofs.Base.{cases}
@@ -66,3 +68,9 @@ module _ {table shares tape shown marks values new_marks : List ℕ} (r : Clocke
 
   pub mark_byte : (bank : List ℕ) (x : ℕ) → x < size (circuit_in table) → cond (leb (nth new_marks x) 1) (nth bank x) 0 ≡ nth (register_bytes (wires_of table) bank) x
   mark_byte bank x l = ap (λ t. cond t (nth bank x) 0) (marked x l) ∙ sym (register_at (wires_of table) bank x l)
+
+-- the first byte over 1: none before it is
+pub first_at : (xs : List ℕ) (x : ℕ) → x < length xs → 1 < nth xs x → ((k : ℕ) → k < x → nth xs k ≤ 1) → Some x ≡ position (λ b. ltb 1 b) xs
+first_at xs x l over before =
+    let e = position_or_len_is (λ b. ltb 1 b) xs x 0 (omega arith) (λ k m. le-ltb 1 (nth xs k) (before k m)) (λ m. lt-ltb 1 (nth xs x) over) in
+    rw (e, lt-ltb x (length xs) l)

@@ -1,46 +1,43 @@
 // AND and REF on one clock. The buffer of values holds what every register shows; the bank gets what each shows on the next clock, which is
 // what its operand shows on this one. Capital letters are registers, as in document 01.
 ghost use Rattle.std.specs.Prelude.{◌≡◌, List, ℕ, ◌+◌, ◌-◌, ◌*◌, ◌≤◌, ◌<◌, length};
-ghost use Rattle.circuit.specs.Kinds.{pairs};
 ghost use Rattle.gadgets.specs.Internal.Places.{word_a, word_b, product_at, cross_start, out_at, held_at};
-ghost use Rattle.gadgets.specs.Internal.Frames.{Small, RowBefore, Roomy};
+ghost use Rattle.gadgets.specs.Internal.Frames.{FrameEarly, Roomy, frame_wires};
 ghost use Rattle.frames.specs.declared.walk.Frame.TheVariants as frame;
+ghost use Rattle.simulation.specs.Internal.Gadgets.{Takes};
 ghost use Rattle.clock.specs.Internal.Running.{Runs};
 ghost use Rattle.clock.specs.Internal.Parts.{Draws, Products, Crosses, CrossesRow, Rows, Holds, Framed};
 
+use gadgets::places::Gadget;
 use gadgets::{gate_values, places};
 use simulation::gadget::mask;
 
 // AND's wires r, and what R shows next, of every pair.
-fn draws(values: &mut [u8], bank: &mut [u8], at: usize, tape: &[u8], used: usize, count: usize)
-    requires { (at + 2 * count ≤ length values.old) × (at + 2 * count ≤ length bank.old) × (used + count ≤ length tape.now) }
-    ensures { Runs (Draws tape.now used at count) at (at + 2 * count) values.old bank.old values.new bank.new }
+fn draws(values: &mut [u8], bank: &mut [u8], g: Gadget, tape: &[u8])
+    requires { (g.first + 2 * g.pairs ≤ length values.old) × (g.first + 2 * g.pairs ≤ length bank.old) × (g.used + g.pairs ≤ length tape.now) }
+    ensures { Runs (Draws tape.now g.used g.first g.pairs) g.first (g.first + 2 * g.pairs) values.old bank.old values.new bank.new }
 {
-    let mut q = 0;
-    while q < count {
-        let word = tape[used + q];
-        let r = at + 2 * q;
-        values[r] = word;
-        bank[r + 1] = word;
-        q += 1;
+    for q in 0..g.pairs {
+        let bit = tape[g.used + q];
+        let r = g.first + 2 * q;
+        values[r] = bit;
+        bank[r + 1] = bit;
     }
 }
 
 // AND's wires m, and what B and M show next, of every share.
-fn share_products(values: &mut [u8], bank: &mut [u8], first: usize, d: usize, ops: &[u16])
-    requires { Small first d × (length ops.now ≡ 1 + d + d) × RowBefore first d (word_a ops.now) × RowBefore first d (word_b d ops.now) × (product_at d first d ≤ length values.old) × (product_at d first d ≤ length bank.old) }
-    ensures { Runs (Products d first (word_a ops.now) (word_b d ops.now)) (product_at d first 0) (product_at d first d) values.old bank.old values.new bank.new }
+fn share_products(values: &mut [u8], bank: &mut [u8], g: Gadget, ops: &[u16])
+    requires { FrameEarly frame.And g.d g.first ops.now × Roomy g.d g.first values.old × Roomy g.d g.first bank.old }
+    ensures { Runs (Products g.d g.first (word_a ops.now) (word_b g.d ops.now)) (product_at g.d g.first 0) (product_at g.d g.first g.d) values.old bank.old values.new bank.new }
 {
-    let mut i = 0;
-    while i < d {
-        let x = places::word_a(ops, i);
-        let y = places::word_b(ops, d, i);
-        let at = places::product_at(d, first, i);
-        let m = gate_values::m(values[x], values[at]);
-        bank[at] = values[y];
+    for i in 0..g.d {
+        let a = values[places::word_a(ops, i)];
+        let b = values[places::word_b(ops, g.d, i)];
+        let at = g.product_at(i);
+        let m = gate_values::m(a, values[at]);
+        bank[at] = b;
         values[at + 1] = m;
         bank[at + 2] = m;
-        i += 1;
     }
 }
 
@@ -62,108 +59,73 @@ fn cross(values: &mut [u8], bank: &mut [u8], at: usize, a: u8, b: u8, r: u8, sho
     values[at + 1] ^ values[at + 5]
 }
 
-// The same of share i and of each share j with from <= j < to. The answer is the word plus their sums.
+// The same of the share i and every other, added to a word.
 fn cross_row(
     values: &mut [u8],
     bank: &mut [u8],
-    first: usize,
-    d: usize,
+    g: Gadget,
     i: usize,
     ops: &[u16],
     a: u8,
     word: u8,
-    from: usize,
-    to: usize,
 ) -> u8
-    requires { Small first d × (i < d) × (to ≤ d) × (length ops.now ≡ 1 + d + d) × RowBefore first d (word_b d ops.now) × Roomy d first values.old × Roomy d first bank.old × ((j : ℕ) → from ≤ j → j < to → j ≡ i → ⊥) × (from ≤ to) }
-    ensures { CrossesRow d first i (word_b d ops.now) a word from to values.old bank.old values.new bank.new result }
+    requires { (i < g.d) × FrameEarly frame.And g.d g.first ops.now × Roomy g.d g.first values.old × Roomy g.d g.first bank.old }
+    ensures { CrossesRow g.d g.first i (word_b g.d ops.now) a word values.old bank.old values.new bank.new result }
 {
     let mut sum = word;
-    let mut j = from;
-    while j < to {
-        let pair = places::pair_at(d, first, i, j);
+    for j in 0..g.d {
+        if j == i {
+            continue;
+        }
+        let pair = g.pair_at(i, j);
         let r = values[pair];
         let shown = values[pair + 1];
-        let b = values[places::word_b(ops, d, j)];
-        sum = sum
-            ^ cross(
-                values,
-                bank,
-                places::cross_at(d, first, i, j),
-                a,
-                b,
-                r,
-                shown,
-            );
-        j += 1;
+        let b = values[places::word_b(ops, g.d, j)];
+        sum ^= cross(values, bank, g.cross_at(i, j), a, b, r, shown);
     }
     sum
 }
 
 // The same of every share and each other, and the outputs.
-fn cross_all(values: &mut [u8], bank: &mut [u8], first: usize, d: usize, ops: &[u16])
-    requires { Small first d × (length ops.now ≡ 1 + d + d) × RowBefore first d (word_a ops.now) × RowBefore first d (word_b d ops.now) × Roomy d first values.old × Roomy d first bank.old }
-    ensures { Runs (Rows d first (word_a ops.now) (word_b d ops.now)) (first + cross_start d 0) (out_at d first d) values.old bank.old values.new bank.new }
+fn cross_all(values: &mut [u8], bank: &mut [u8], g: Gadget, ops: &[u16])
+    requires { FrameEarly frame.And g.d g.first ops.now × Roomy g.d g.first values.old × Roomy g.d g.first bank.old }
+    ensures { Runs (Rows g.d g.first (word_a ops.now) (word_b g.d ops.now)) (g.first + cross_start g.d 0) (out_at g.d g.first g.d) values.old bank.old values.new bank.new }
 {
-    let mut i = 0;
-    while i < d {
+    for i in 0..g.d {
         let a = values[places::word_a(ops, i)];
-        let m = values[places::product_at(d, first, i) + 2];
-        let lower = cross_row(values, bank, first, d, i, ops, a, m, 0, i);
-        let sum = cross_row(values, bank, first, d, i, ops, a, lower, i + 1, d);
-        values[places::out_at(d, first, i)] = sum;
-        i += 1;
+        let m = values[g.product_at(i) + 2];
+        values[g.out_at(i)] = cross_row(values, bank, g, i, ops, a, m);
     }
 }
 
-// AND, given the number of its random bits.
-pub(crate) fn and(
-    values: &mut [u8],
-    bank: &mut [u8],
-    first: usize,
-    d: usize,
-    randoms: usize,
-    ops: &[u16],
-    tape: &[u8],
-    used: usize,
-)
-    requires { Small first d × (length ops.now ≡ 1 + d + d) × RowBefore first d (word_a ops.now) × RowBefore first d (word_b d ops.now) × Roomy d first values.old × Roomy d first bank.old × (used + pairs d ≤ length tape.now) × (randoms ≡ pairs d) }
-    ensures { (from : ℕ) (shares : List ℕ) → Runs (Framed frame.And d first from used ops.now shares tape.now) first (first + (7 * (d * (d - 1)) + 4 * d)) values.old bank.old values.new bank.new }
+// AND.
+pub(crate) fn and(values: &mut [u8], bank: &mut [u8], g: Gadget, ops: &[u16], tape: &[u8])
+    requires { Takes frame.And g ops.now tape.now values.old × (g.first + frame_wires frame.And g.d ≤ length bank.old) }
+    ensures { (from : ℕ) (shares : List ℕ) → Runs (Framed frame.And g.d g.first from g.used ops.now shares tape.now) g.first (g.first + frame_wires frame.And g.d) values.old bank.old values.new bank.new }
 {
-    draws(values, bank, first, tape, used, randoms);
-    share_products(values, bank, first, d, ops);
-    cross_all(values, bank, first, d, ops);
+    draws(values, bank, g, tape);
+    share_products(values, bank, g, ops);
+    cross_all(values, bank, g, ops);
 }
 
 // What REF's outputs show next.
-fn holds(values: &[u8], bank: &mut [u8], first: usize, d: usize, randoms: usize)
-    requires { Small first d × (held_at d first d ≤ length values.now) × (held_at d first d ≤ length bank.old) × (randoms ≡ pairs d) }
-    ensures { Runs (Holds d first) (held_at d first 0) (held_at d first d) values.now bank.old values.now bank.new }
+fn holds(values: &[u8], bank: &mut [u8], g: Gadget)
+    requires { (held_at g.d g.first g.d ≤ length values.now) × (held_at g.d g.first g.d ≤ length bank.old) }
+    ensures { Runs (Holds g.d g.first) (held_at g.d g.first 0) (held_at g.d g.first g.d) values.now bank.old values.now bank.new }
 {
-    let mut i = 0;
-    while i < d {
-        let at = first + randoms + i;
-        bank[at + d] = values[at];
-        i += 1;
+    for i in 0..g.d {
+        let sum = g.sum_at(i);
+        bank[sum + g.d] = values[sum];
     }
 }
 
-// REF, given the number of its random bits.
-pub(crate) fn refresh(
-    values: &mut [u8],
-    bank: &mut [u8],
-    first: usize,
-    d: usize,
-    randoms: usize,
-    ops: &[u16],
-    tape: &[u8],
-    used: usize,
-)
-    requires { Small first d × (1 + d ≤ length ops.now) × RowBefore first d (word_a ops.now) × (held_at d first d ≤ length values.old) × (held_at d first d ≤ length bank.old) × (used + pairs d ≤ length tape.now) × (randoms ≡ pairs d) }
-    ensures { (from : ℕ) (shares : List ℕ) → Runs (Framed frame.Ref d first from used ops.now shares tape.now) first (first + (pairs d + 2 * d)) values.old bank.old values.new bank.new }
+// REF.
+pub(crate) fn refresh(values: &mut [u8], bank: &mut [u8], g: Gadget, ops: &[u16], tape: &[u8])
+    requires { Takes frame.Ref g ops.now tape.now values.old × (g.first + frame_wires frame.Ref g.d ≤ length bank.old) }
+    ensures { (from : ℕ) (shares : List ℕ) → Runs (Framed frame.Ref g.d g.first from g.used ops.now shares tape.now) g.first (g.first + frame_wires frame.Ref g.d) values.old bank.old values.new bank.new }
 {
     // a slice of its own: the loop over frames then needs no copy of `ops` for the other frames
-    let row = &ops[0..1 + d];
-    mask(values, first, d, randoms, row, tape, used);
-    holds(values, bank, first, d, randoms);
+    let row = &ops[..1 + g.d];
+    mask(values, g, row, tape);
+    holds(values, bank, g);
 }

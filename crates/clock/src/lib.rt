@@ -6,7 +6,8 @@ ghost use Rattle.checker.specs.Answers.{answer_of};
 ghost use Rattle.semantics.specs.Calls.{Accepts, circuit_of, call_notes};
 ghost use Rattle.semantics.specs.Clock.{clock_answer, values_after, bank_after, Pipelined, RegistersAlone, IsClock, BankStays};
 
-use checker::Verdict;
+use checker::Accepted;
+use circuit::{Refusal, Rule};
 use evaluation::rules;
 
 mod gadget;
@@ -21,7 +22,7 @@ pub fn step(
     tape: &[u8],
     values: &mut [u8],
     bank: &mut [u8],
-) -> Verdict
+) -> Result<Accepted, Refusal>
     ensures answered { answer_of result ≡ clock_answer table.now notes.old shares.now tape.now values.old bank.old }
     ensures noted { notes.new ≡ call_notes table.now notes.old shares.now tape.now }
     ensures valued { values.new ≡ values_after table.now notes.old shares.now tape.now values.old bank.old }
@@ -31,22 +32,14 @@ pub fn step(
     ensures is_clock { IsClock table.now notes.old values.old }
     ensures bank_stays { BankStays table.now notes.old shares.now tape.now values.old bank.old }
 {
-    let room = rules::smaller(values.len(), bank.len());
-    let none = &table[0..0];
-    let verdict = rules::judge(table, notes, shares, tape, none, room);
-    let Verdict::Accepted {
-        wires,
-        randoms: _,
-        latency: _,
-        inputs: _,
-    } = verdict
-    else {
-        return verdict;
+    let room = values.len().min(bank.len());
+    let answer = rules::judge(table, notes, shares, tape, &[], room);
+    let Ok(Accepted { wires, .. }) = answer else {
+        return answer;
     };
-    let x = running::first_register_over(table, wires, shares, tape, bank);
-    if x < wires {
-        return rules::refusal(18, shares.len() + tape.len() + x);
+    if let Some(register) = running::first_register_over(table, wires, shares, tape, bank) {
+        return Err(Refusal::of_call(Rule::Bit, shares.len() + tape.len() + register));
     }
     running::run(table, wires, shares, tape, values, bank);
-    verdict
+    answer
 }

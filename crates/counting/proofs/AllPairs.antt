@@ -7,8 +7,7 @@ use Prim.Native.Nat.{ℕ, zero, suc, ◌+◌, ◌*◌, ◌-◌, ◌^◌, ◌≤�
 use native.Mathlib.Omega.{arith}
 use lib.Bits.{bit_and, bit_xor}
 use lib.Dec.{ltb, eqb}
-use lib.ListN.{length, take, length-append}
-use lib.Seq.{length-take-le}
+use lib.ListN.{length, length-append}
 use borrow.Author.Tests.{ltb-true, ltb-false, lt-ltb, le-ltb}
 use Rattle.circuit.specs.Lists.{◌⊕◌, nth, range}
 use Rattle.circuit.specs.Circuit.{Circuit}
@@ -19,7 +18,7 @@ use Rattle.secrecy.proofs.Sums.{sum_bits}
 use Rattle.gadgets.specs.Internal.Accepting.{circuit_in}
 use Rattle.simulation.specs.Internal.Filling.{Values}
 use Rattle.symbolic.specs.Internal.Sums.{added, term_word, Before}
-use Rattle.counting.specs.declared.tally.Plan.{Plan}
+use Rattle.counting.specs.declared.plan.Plan.{Plan}
 use Rattle.counting.specs.Internal.Pairs.{free_of, values_with, number_with, shown_of}
 use Rattle.counting.specs.Internal.Lanes.{lane_bit}
 use Rattle.counting.specs.Internal.Linear.{folded, Surveys, Surveyed, varied_in, shift_in, ShiftsIn, Remade}
@@ -32,9 +31,12 @@ use Rattle.counting.proofs.Folding.{Shifted, some, fold_same, fold_all, shifted}
 use Rattle.counting.proofs.Flipped.{lane_lt, added-on, added_flipped, byte_flipped, number_flipped, at_apart, at-bit}
 use Rattle.counting.proofs.Solved.{Solution, solved, solution}
 use Rattle.counting.proofs.Preparing.{Given, valued}
-use Rattle.counting.proofs.Tallying.{number_taken}
+use Rattle.counting.proofs.Tallying.{number_placed}
 
-module _ {table secrets read sums terms : List ℕ} {outputs found : ℕ} {plan : Plan} (p : Prepared table secrets read sums terms outputs found plan) {factors : ℕ} (sv : Surveyed sums terms read outputs found factors) (second : Bool) where
+module _ {table secrets read sums terms : List ℕ} {outputs : ℕ} {plan : Plan} (p : Prepared table secrets read sums terms outputs plan) {factors : ℕ} (sv : Surveyed sums terms read outputs factors) (second : Bool) where
+  abbrev found : ℕ
+  found = length read
+
   abbrev k : Circuit
   k = circuit_in table
 
@@ -149,17 +151,16 @@ module _ {table secrets read sums terms : List ℕ} {outputs found : ℕ} {plan 
         ∙ added_flipped 64 x m (f lo) (f hi) (omega (arith, few, within)) (λ s d ne. same (suc s) s (omega arith) (sv.reads i h s d) ne) turned
         ∙ ap (λ y. bit_xor y (byte (lane_bit x m))) (sym (value lo (long false) i h)))
 
-    number_shifted : number_with k set (take found read) hi ≡ bit_xor (number_with k set (take found read) lo) (shift_in sums read found x)
+    number_shifted : number_with k set read hi ≡ bit_xor (number_with k set read lo) (shift_in sums read x)
     number_shifted =
-        let room : found ≤ length read = omega (arith, p.read_in.few, p.read_in.sized) in
-        number_taken (at (values_with k set hi)) found read room
+        number_placed (at (values_with k set hi)) read
         ∙ number_flipped (λ i. at (values_with k set lo) (nth read i)) (λ i. at (values_with k set hi) (nth read i)) (λ i. lane_bit x (nth sums (nth read i))) (range 0 found) (λ i h. wire_flipped i (omega (arith, range_in i 0 found h)))
-        ∙ ap (λ n. bit_xor n (shift_in sums read found x)) (sym (number_taken (at (values_with k set lo)) found read room))
+        ∙ ap (λ n. bit_xor n (shift_in sums read x)) (sym (number_placed (at (values_with k set lo)) read))
 
   -- all pairs
-  module _ {shifts : List ℕ} (sh : ShiftsIn sums read found plan.free shifts) where
+  module _ {shifts : List ℕ} (sh : ShiftsIn sums read plan.free shifts) where
     abbrev wires : List ℕ
-    wires = take found read
+    wires = read
 
     abbrev varied : ℕ → Bool
     varied i = lane_bit i factors
@@ -182,10 +183,8 @@ module _ {table secrets read sums terms : List ℕ} {outputs found : ℕ} {plan 
     pub tallied_all : {tally new : List ℕ} → TalliedSome table (set_of table second secrets) wires factors plan.free tally → Remade (folded varied (nth shifts) plan.free 0 (nth tally)) (2 ^ found) tally new
         → Tallied table (set_of table second secrets) wires new
     tallied_all {tally} {new} t r =
-        let sized : length wires ≡ found = length-take-le found read (omega (arith, p.read_in.few, p.read_in.sized)) in
-        let below : (n : ℕ) → n < 2 ^ length wires → n < 2 ^ found = λ n l. rw (← sized) l in
         record {
-          counts = λ n l. r.are n (below n l) ∙ counted-all t n (below n l);
+          counts = λ n l. r.are n l ∙ counted-all t n l;
           few = λ n. cases (ltb n (2 ^ found))
               (λ e. let l = ltb-true n (2 ^ found) e in omega (arith, r.are n l, counted-few t n l))
               (λ e. omega (arith, r.rest n (ltb-false n (2 ^ found) e), t.few n));

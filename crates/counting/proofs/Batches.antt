@@ -13,8 +13,9 @@ use Rattle.circuit.proofs.Building.{build-shares}
 use Rattle.gadgets.specs.Internal.Accepting.{AcceptedTable, circuit_in}
 use Rattle.gadgets.proofs.Walking.{second_word}
 use Rattle.counting.specs.Counting.{pair_count}
-use Rattle.counting.specs.Internal.Tallying.{Countable, Planned, Divides}
-use Rattle.counting.specs.declared.tally.Plan.{Plan}
+use Rattle.counting.specs.Internal.Pairs.{Divides}
+use Rattle.counting.specs.Internal.Tallying.{Countable, Planned}
+use Rattle.counting.specs.declared.plan.Plan.{Plan}
 use Rattle.counting.proofs.Numbered.{pow_mono}
 
 pub one_batch : (free lanes : ℕ) → free < 7 → lanes ≡ 2 ^ free → Divides free 1 lanes

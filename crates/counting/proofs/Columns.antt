@@ -1,12 +1,14 @@
 -- The pairs of a word counted eight by eight, and those of a batch word by word.
-use mathlib.Core.Path.{◌≡◌, refl, sym, ap, ap₂}
-use mathlib.Core.Bool.{Bool}
+use mathlib.Core.Path.{◌≡◌, refl, sym, ap, ap₂, subst, ◌∙◌}
+use mathlib.Core.Bool.{Bool, true, false}
 use mathlib.Core.List.{List, ◌∷◌, map}
-use Prim.Native.Nat.{ℕ, zero, suc, ◌+◌, ◌-◌, ◌/◌, ◌%◌, ◌^◌, ◌≤◌, ◌<◌}
+use Prim.Native.Nat.{ℕ, zero, suc, ◌+◌, ◌*◌, ◌-◌, ◌/◌, ◌%◌, ◌^◌, min, ◌≤◌, ◌<◌}
 use native.Mathlib.Omega.{arith}
+use lib.ListN.{length}
 use Rattle.circuit.specs.Lists.{range}
+use Rattle.counting.specs.declared.tallies.Tallies.{Tallies}
 use Rattle.counting.specs.Internal.Pairs.{number_of}
-use Rattle.counting.specs.Internal.Lanes.{lane_bit, shown_by, column_of, place_of, shown_in, at_most, Adds}
+use Rattle.counting.specs.Internal.Lanes.{lane_bit, shown_by, column_of, place_of, shown_in, Adds, tally_of}
 use Rattle.counting.proofs.WordBits.{lane_shift}
 use Rattle.counting.proofs.Adding.{adds_none, adds_more}
 
@@ -23,33 +25,28 @@ shown-from : (columns : ℕ → ℕ) (found from l : ℕ) → shown_by (λ i. co
 shown-from columns found from l = number_same (λ i. lane_bit l (columns i / 2 ^ from)) (λ i. lane_bit (from + l) (columns i)) found (λ i k. sym (lane_shift from l (columns i)))
 
 -- the pairs of a word that are counted, and eight more, or those that are left
-pub record WordTo (columns : ℕ → ℕ) (found lanes : ℕ) (old new : List ℕ) (done : ℕ) : Type 0 where
-  pub most : done ≤ lanes
-  pub counted : Adds (shown_by columns found) done old new
+pub word_next : (columns : ℕ → ℕ) (found : ℕ) {done count : ℕ} {old mid new : List ℕ} → Adds (shown_by columns found) done old mid
+    → Adds (shown_by (λ i. columns i / 2 ^ done) found) count mid new → Adds (shown_by columns found) (done + count) old new
+word_next columns found {done} a b = adds_more a b (λ l k. shown-from columns found done l)
 
-pub word_start : (columns : ℕ → ℕ) (found lanes : ℕ) (old : List ℕ) → WordTo columns found lanes old old 0
-word_start columns found lanes old = record { most = omega arith; counted = adds_none _ old }
+-- the pairs of a batch under a set: those of the first word, and those of the second
+pub batch_words : (shown : List ℕ) (found lanes : ℕ) {one other : ℕ} {old mid new : List ℕ} (second : Bool) → lanes ≤ 128 → one ≡ min lanes 64 → other ≡ lanes - 64
+    → Adds (shown_by (column_of shown (place_of second 0)) found) one old mid → Adds (shown_by (column_of shown (place_of second 1)) found) other mid new
+    → Adds (shown_in shown second found) lanes old new
+batch_words shown found lanes {one} {other} {old} {mid} {new} second few e f a b =
+    let n : 0 + one + other ≡ lanes = omega arith in
+    subst (λ m. Adds (shown_in shown second found) m old new) n (adds_more (adds_more (adds_none (shown_in shown second found) old) a (λ l k. word 0 l (omega arith))) b (λ l k. word_behind l k))
+  where
+    word : (w l : ℕ) → l < 64 → shown_by (column_of shown (place_of second w)) found l ≡ shown_in shown second found (64 * w + l)
+    word w l h =
+        let p : w ≡ (64 * w + l) / 64 = omega arith in
+        let q : l ≡ (64 * w + l) % 64 = omega arith in
+        ap₂ (λ x y. shown_by (column_of shown (place_of second x)) found y) p q
 
-pub word_next : {columns : ℕ → ℕ} {found lanes : ℕ} {old mid new : List ℕ} {done count : ℕ} → WordTo columns found lanes old mid done → done < lanes
-    → count ≡ at_most (lanes - done) 8 → Adds (shown_by (λ i. columns i / 2 ^ done) found) count mid new → WordTo columns found lanes old new (done + count)
-word_next {columns} {found} {done = done} w h m a = record { most = omega arith; counted = adds_more w.counted a (λ l k. shown-from columns found done l) }
+    word_behind : (l : ℕ) → l < other → shown_by (column_of shown (place_of second 1)) found l ≡ shown_in shown second found (0 + one + l)
+    word_behind l k = let p : one ≡ 64 = omega arith in let q : 64 + l ≡ 0 + one + l = omega arith in word 1 l (omega arith) ∙ ap (shown_in shown second found) q
 
--- the pairs of a batch that are counted under a set: whole words, but for the last
-pub record BatchTo (shown : List ℕ) (second : Bool) (found lanes : ℕ) (old new : List ℕ) (done : ℕ) : Type 0 where
-  pub most : done ≤ lanes
-  pub counted : Adds (shown_in shown second found) done old new
-  pub whole : done < lanes → done % 64 ≡ 0
-
-pub batch_start : (shown : List ℕ) (second : Bool) (found lanes : ℕ) (old : List ℕ) → BatchTo shown second found lanes old old 0
-batch_start shown second found lanes old = record { most = omega arith; counted = adds_none _ old; whole = λ z. omega arith }
-
-pub batch_next : {shown : List ℕ} {found lanes : ℕ} {old mid new : List ℕ} {done count : ℕ} (second : Bool) → BatchTo shown second found lanes old mid done → done < lanes
-    → count ≡ at_most (lanes - done) 64 → Adds (shown_by (column_of shown (place_of second (done / 64))) found) count mid new → BatchTo shown second found lanes old new (done + count)
-batch_next {shown} {found} {done = done} {count} second b h m a = record {
-  most = omega arith;
-  counted = adds_more b.counted a (λ l k.
-      let w : done / 64 ≡ (done + l) / 64 = omega (arith, b.whole h) in
-      let p : l ≡ (done + l) % 64 = omega (arith, b.whole h) in
-      ap₂ (λ x y. shown_by (column_of shown (place_of second x)) found y) w p);
-  whole = λ z. omega (arith, b.whole h);
-}
+-- both tallies are of one length
+pub tally_sized : (second : Bool) (t : Tallies) → length (tally_of second t) ≡ 256
+tally_sized true t = t.sized.1
+tally_sized false t = t.sized.0

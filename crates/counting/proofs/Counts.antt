@@ -89,14 +89,12 @@ module _ {table : List ℕ} {inputs randoms : ℕ} (n : Numbered table inputs ra
     bit = λ x. rw (get_or-drop (circuit_in table).inputs secrets x 0) (bit ((circuit_in table).inputs + x));
   }
 
-  pub lists : {read first second : List ℕ} {found : ℕ} → ReadIn table read found → Tallied table (set_of table false secrets) (take found read) first → Tallied table (set_of table true secrets) (take found read) second
-      → (old : List ℕ) {new : List ℕ} → 1024 ≤ length old → (count pairs : ℕ) → count ≡ 2 ^ found → pairs ≡ pair_count (circuit_in table) → new ≡ sets old 0 (list_of first second pairs 0 count)
-      → ListsCounts table secrets inputs (take found read) old new
-  lists {read} {first} {second} {found} r t u old room count pairs count_is pairs-are f =
-      let sized : length (take found read) ≡ found = length-take-le found read (omega (arith, r.few, r.sized)) in
+  pub lists : {read first second : List ℕ} → ReadIn table read → Tallied table (set_of table false secrets) read first → Tallied table (set_of table true secrets) read second
+      → (old : List ℕ) {new : List ℕ} → 1024 ≤ length old → (count pairs : ℕ) → count ≡ 2 ^ length read → pairs ≡ pair_count (circuit_in table) → new ≡ sets old 0 (list_of first second pairs 0 count)
+      → ListsCounts table secrets inputs read old new
+  lists {read} {first} {second} r t u old room count pairs count_is pairs-are f =
       let c = circuit_in table in
       record {
-        is = λ probes e. sheet-is (set-countable false) (set-countable true) t u (omega (arith, sized, r.few)) probes e old room
-            (f ∙ ap₂ (λ p m. sets old 0 (list_of first second p 0 m)) pairs-are (count_is ∙ ap (λ m. 2 ^ m) (sym sized)))
+        is = λ probes e. sheet-is (set-countable false) (set-countable true) t u r.few probes e old room (f ∙ ap₂ (λ p m. sets old 0 (list_of first second p 0 m)) pairs-are count_is)
             ∙ ap (λ m. overwrite (count_list c probes (bits (take m secrets)) (bits (drop m secrets))) old) (sym n.inputs_are);
       }

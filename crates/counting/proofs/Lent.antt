@@ -2,19 +2,19 @@
 use mathlib.Core.Path.{◌≡◌, sym, ap, ap₂, ◌∙◌}
 use mathlib.Core.List.{List, [], ◌∷◌, ◌++◌, map}
 use Prim.Native.Nat.{ℕ, zero, suc, ◌+◌, ◌*◌, ◌-◌, ◌^◌, ◌≤◌, ◌<◌}
-use native.Mathlib.Nat.{sub-zero, mul_comm}
+use native.Mathlib.Nat.{mul_comm}
 use native.Mathlib.Omega.{arith}
 use lib.Bits.{bit_xor, xor_lt}
 use lib.ListN.{length, take, drop, replicate, length-drop, length-replicate}
 use lib.Pow.{pow-lt}
-use lib.Seq.{sets, sets-eq, length-sets, take_at, length-take-le, get_or-drop}
+use lib.Seq.{sets, sets-eq, take_at, length-take-le, get_or-drop}
 use Rattle.circuit.specs.Lists.{nth, range}
 use Rattle.circuit.specs.Circuit.{size}
 use Rattle.circuit.proofs.Base.{In, in_head, in_tail}
 use Rattle.circuit.proofs.Parts.{label_lt}
 use Rattle.gadgets.specs.Internal.Accepting.{circuit_in}
 use Rattle.simulation.specs.Internal.Evaluating.{Evaluable}
-use Rattle.counting.specs.declared.tally.Plan.{Plan}
+use Rattle.counting.specs.declared.plan.Plan.{Plan}
 use Rattle.counting.specs.Internal.Words.{shares_of, all_shares}
 use Rattle.counting.specs.Internal.Preparing.{secret_sum, secret_sums, SecretSums, free_sums, prepared_shares, prepared_tape}
 use Rattle.counting.specs.Internal.Tallying.{Countable, Planned}
@@ -73,16 +73,16 @@ prepared-low plan n secrets = (
 )
 
 -- a list written at the start of a buffer, lent by itself
-pub lent_is : (list : List ℕ) (n room : ℕ) → length list ≡ n → n ≤ room → part 0 n (sets (replicate room 0) 0 list) ≡ list
+lent_is : (list : List ℕ) (n room : ℕ) → length list ≡ n → n ≤ room → take n (sets (replicate room 0) 0 list) ≡ list
 lent_is list n room e l =
-    ap (take (n - 0)) (sets-eq list (replicate room 0) 0 (omega (arith, length-replicate {A = ℕ} room 0))) ∙ take_at list (drop (0 + length list) (replicate room 0)) (n - 0) (omega arith)
+    ap (take n) (sets-eq list (replicate room 0) 0 (omega (arith, length-replicate {A = ℕ} room 0))) ∙ take_at list (drop (0 + length list) (replicate room 0)) n (omega arith)
 
-pub lasts_many : {secrets lasts : List ℕ} {inputs : ℕ} → SecretSums secrets inputs lasts → length (take (inputs - 0) lasts) ≡ inputs
-lasts_many {secrets} {lasts} {inputs} ls = ap length (ap (λ n. take n lasts) (sub-zero inputs) ∙ ls.are) ∙ secrets_many inputs secrets
+pub lasts_many : {secrets lasts : List ℕ} {inputs : ℕ} → SecretSums secrets inputs lasts → length (take inputs lasts) ≡ inputs
+lasts_many {secrets} {lasts} {inputs} ls = ap length ls.are ∙ secrets_many inputs secrets
 
 -- the shares and random bits that are lent to the expansion
 module _ {table secrets : List ℕ} {inputs : ℕ} {plan : Plan} (k : Countable table (take inputs secrets)) (pl : Planned table plan) (inputs_are : inputs ≡ (circuit_in table).inputs) {free lasts shares : List ℕ} (fs : free ≡ free_sums)
-    (ls : SecretSums secrets inputs lasts) (sh : shares ≡ sets (replicate 32 0) 0 (all_shares plan.others (take (inputs - 0) lasts) free)) where
+    (ls : SecretSums secrets inputs lasts) (sh : shares ≡ sets (replicate 32 0) 0 (all_shares plan.others (take inputs lasts) free)) where
   abbrev sz : Sizes (take inputs secrets) plan.others plan.start plan.free
   sz = sizes k pl
 
@@ -92,8 +92,8 @@ module _ {table secrets : List ℕ} {inputs : ℕ} {plan : Plan} (k : Countable 
   starts : plan.others * inputs ≡ plan.start
   starts = ap (λ n. plan.others * n) (sym as_many) ∙ sz.starts
 
-  list_is : all_shares plan.others (take (inputs - 0) lasts) free ≡ prepared_shares plan inputs secrets
-  list_is = ap₂ (all_shares plan.others) (ap (λ n. take n lasts) (sub-zero inputs) ∙ ls.are) fs
+  list_is : all_shares plan.others (take inputs lasts) free ≡ prepared_shares plan inputs secrets
+  list_is = ap₂ (all_shares plan.others) ls.are fs
 
   many : length (prepared_shares plan inputs secrets) ≡ (plan.others + 1) * inputs
   many = all-length plan.others (secret_sums inputs secrets) free_sums (omega (arith, ap (λ n. plan.others * n) (secrets_many inputs secrets), starts, sz.within, sz.few)) ∙ ap (λ n. (plan.others + 1) * n) (secrets_many inputs secrets)
@@ -101,11 +101,8 @@ module _ {table secrets : List ℕ} {inputs : ℕ} {plan : Plan} (k : Countable 
   all-few : (plan.others + 1) * inputs ≤ 32
   all-few = omega (arith, ap (λ n. (plan.others + 1) * n) as_many, sz.shares)
 
-  pub buffer : length shares ≡ 32
-  buffer = ap length sh ∙ length-sets (replicate 32 0) 0 (all_shares plan.others (take (inputs - 0) lasts) free)
-
-  pub sharing_is : part 0 ((plan.others + 1) * inputs) shares ≡ prepared_shares plan inputs secrets
-  sharing_is = ap (part 0 ((plan.others + 1) * inputs)) (sh ∙ ap (sets (replicate 32 0) 0) list_is) ∙ lent_is (prepared_shares plan inputs secrets) ((plan.others + 1) * inputs) 32 many all-few
+  pub sharing_is : take ((plan.others + 1) * inputs) shares ≡ prepared_shares plan inputs secrets
+  sharing_is = ap (take ((plan.others + 1) * inputs)) (sh ∙ ap (sets (replicate 32 0) 0) list_is) ∙ lent_is (prepared_shares plan inputs secrets) ((plan.others + 1) * inputs) 32 many all-few
 
   pub tape_is : part plan.start plan.free free ≡ prepared_tape plan
   tape_is = ap (part plan.start plan.free) fs

@@ -1,14 +1,12 @@
--- The marked wires as a list, wire by wire; and that they are those that probes read.
-use mathlib.Core.Path.{◌≡◌, refl, sym, ap, subst, subst₂, ◌∙◌}
+-- The marked wires below a number, wire by wire; and that they are those that probes read.
+use mathlib.Core.Path.{◌≡◌, refl, sym, ap, subst, ◌∙◌}
 use mathlib.Core.Bool.{Bool, true, cond}
 use mathlib.Core.List.{List, [], ◌∷◌, ◌++◌, append-nil}
 use Prim.Native.Nat.{ℕ, zero, suc, ◌+◌, ◌-◌, ◌≤◌, ◌<◌}
 use native.Mathlib.Nat.{zero-add}
 use native.Mathlib.Omega.{arith}
-use lib.Dec.{ltb}
-use lib.ListN.{length, take, length-append, length-set, get_or-append}
-use lib.Seq.{get_or-set_same, get_or-set_other, get_or_at, get_or-take, length-take-le, ext_get_or}
-use borrow.Author.Tests.{ltb-true, ltb-false}
+use lib.ListN.{length, take, length-append}
+use Rattle.std.specs.Prelude.{Option, None, Some, MatchOption}
 use Rattle.circuit.specs.Limits.{wire_limit}
 use Rattle.circuit.specs.Lists.{nth, range, filter}
 use Rattle.circuit.specs.Circuit.{Circuit, size, is_set}
@@ -19,49 +17,39 @@ use Rattle.gadgets.proofs.Bits.{set_low, set_high}
 use Rattle.gadgets.proofs.Ranges.{range_split, filter-append, filter_none}
 use Rattle.reach.specs.Internal.Marks.{Unmarked}
 use Rattle.reach.specs.Internal.Reading.{OnStops}
+use Rattle.counting.specs.declared.read.ReadWires.{ReadWires}
 use Rattle.counting.specs.Counting.{is_read, read_wires}
-use Rattle.counting.specs.Internal.Reading.{marked_below, listed_with, Listed, Probed, ListsRead}
+use Rattle.counting.specs.Internal.Reading.{marked_below, Probed, ReadBy}
 
--- the marked wires below a number, from those below a lower one
-marked_more : (marks : List ℕ) (x n : ℕ) → marked_below marks (x + n) ≡ marked_below marks x ++ filter (λ y. is_set (nth marks y)) (range (0 + x) n)
-marked_more marks x n = ap (filter (λ y. is_set (nth marks y))) (range_split 0 x n) ∙ filter-append (λ y. is_set (nth marks y)) (range 0 x) (range (0 + x) n)
-
-pub listed_start : (marks read : List ℕ) → length read ≡ 8 → Listed marks 0 read 0
-listed_start marks read h = record { all = refl; few = omega arith; sized = h; first = λ i l k. absurd (omega arith) }
-
-module _ {marks read : List ℕ} {x count : ℕ} (l : Listed marks x read count) where
-  abbrev before : List ℕ
-  before = marked_below marks x
+module _ (marks : List ℕ) where
+  -- the marked wires below a number, from those below a lower one
+  marked_more : (x n : ℕ) → marked_below marks (x + n) ≡ marked_below marks x ++ filter (λ y. is_set (nth marks y)) (range (0 + x) n)
+  marked_more x n = ap (filter (λ y. is_set (nth marks y))) (range_split 0 x n) ∙ filter-append (λ y. is_set (nth marks y)) (range 0 x) (range (0 + x) n)
 
   -- wires with no mark
-  pub listed_unmarked : {to : ℕ} → x ≤ to → Unmarked marks x to → Listed marks to read count
-  listed_unmarked {to} h none =
+  pub unmarked : {x to : ℕ} → x ≤ to → Unmarked marks x to → marked_below marks to ≡ marked_below marks x
+  unmarked {x} {to} h none =
       let e : to ≡ x + (to - x) = omega arith in
-      let same : marked_below marks to ≡ before = ap (marked_below marks) e ∙ marked_more marks x (to - x)
-      ∙ ap (λ r. before ++ r) (filter_none (λ y. is_set (nth marks y)) (0 + x) (to - x) (λ y l u. set_low (nth marks y) (none y (omega arith) (omega arith)))) ∙ append-nil before in
-      record { all = l.all ∙ ap length (sym same); few = omega (arith, l.few); sized = l.sized; first = λ i k f. l.first i k f ∙ ap (λ ws. nth ws i) (sym same) }
+      ap (marked_below marks) e ∙ marked_more x (to - x)
+      ∙ ap (λ r. marked_below marks x ++ r) (filter_none (λ y. is_set (nth marks y)) (0 + x) (to - x) (λ y l u. set_low (nth marks y) (none y (omega arith) (omega arith)))) ∙ append-nil (marked_below marks x)
 
-  module _ (h : is_set (nth marks x) ≡ true) where
-    one_more : marked_below marks (x + 1) ≡ before ++ (x ∷ [])
-    one_more = marked_more marks x 1 ∙ simp zero-add (rw h)
+  -- one wire, marked or not
+  pub one_marked : (x : ℕ) → 1 ≤ nth marks x → marked_below marks (x + 1) ≡ marked_below marks x ++ x ∷ []
+  one_marked x h = marked_more x 1 ∙ simp zero-add (rw (set_high (nth marks x) h))
 
-    more : {new : List ℕ} → length new ≡ 8 → ((i : ℕ) → i < count → i < 8 → nth new i ≡ nth read i) → (count < 8 → nth new count ≡ x) → Listed marks (x + 1) new (count + 1)
-    more s same last = record {
-      all = sym (ap length one_more ∙ length-append before (x ∷ []) ∙ omega (arith, l.all));
-      few = omega (arith, l.few);
-      sized = s;
-      first = λ i k f. cases (ltb i count)
-          (λ e. let low = ltb-true i count e in same i low f ∙ l.first i low f ∙ sym (ap (λ ws. nth ws i) one_more ∙ get_or-append before (x ∷ []) 0 i (omega (arith, l.all))))
-          (λ e. let here : i ≡ count = omega (arith, ltb-false i count e) in
-          rw here (last (omega arith) ∙ sym (ap (λ ws. nth ws count) one_more ∙ get_or_at before x [] 0 count (sym l.all))));
-    }
+  pub none_marked : (x : ℕ) → nth marks x ≡ 0 → marked_below marks (x + 1) ≡ marked_below marks x
+  none_marked x h = unmarked (omega arith) (λ y k u. let e : x ≡ y = omega arith in subst (λ (n : ℕ). nth marks n < 1) e (omega arith))
 
-  pub listed_next : {new : List ℕ} {r : ℕ} → r ≡ cond (ltb (nth marks x) 1) count (count + 1) → new ≡ listed_with (nth marks x) x count read → Listed marks (x + 1) new r
-  listed_next {new} {r} e f = subst₂ (λ (ws : List ℕ) (n : ℕ). Listed marks (x + 1) ws n) (sym f) (sym e) (cases (ltb (nth marks x) 1)
-      (λ h. rw h (listed_unmarked (omega arith) (λ y k u. let e : x ≡ y = omega arith in subst (λ (n : ℕ). nth marks n < 1) e (ltb-true _ _ h))))
-      (λ h. let on = set_high (nth marks x) (ltb-false _ _ h) in rw h (cases (ltb count 8)
-      (λ k. rw k (more on (length-set read count x ∙ l.sized) (λ i p q. get_or-set_other read count i x 0 (λ z. omega arith)) (λ p. get_or-set_same read count x 0 (omega (arith, l.sized)))))
-      (λ k. rw k (more on l.sized (λ i p q. refl) (λ p. absurd (omega (arith, ltb-false count 8 k))))))))
+  -- no fewer are below a higher number
+  pub as_many : (x to : ℕ) → x ≤ to → length (marked_below marks x) ≤ length (marked_below marks to)
+  as_many x to h =
+      let rest = filter (λ y. is_set (nth marks y)) (range (0 + x) (to - x)) in
+      let e : to ≡ x + (to - x) = omega arith in
+      omega (arith, ap length (ap (marked_below marks) e ∙ marked_more x (to - x)), length-append (marked_below marks x) rest)
+
+  -- a ninth is one too many
+  pub too_many : (x to : ℕ) → length (marked_below marks x) ≡ 8 → 1 ≤ nth marks x → x < to → 8 < length (marked_below marks to)
+  too_many x to n h l = omega (arith, ap length (one_marked x h), length-append (marked_below marks x) (x ∷ []), as_many (x + 1) to (omega arith))
 
 -- the marks stand on the stops that are read
 filter_same : (p q : ℕ → Bool) (xs : List ℕ) → ((x : ℕ) → p x ≡ q x) → filter p xs ≡ filter q xs
@@ -87,25 +75,29 @@ module _ (k : Circuit) {probes marks : List ℕ} (on : OnStops k.wires probes ma
       ∙ ap (λ r. marked_below marks (size k) ++ r) (filter_none marked (0 + size k) rest
       (λ x l u. cases (marked x) (λ b. absurd (omega (arith, on.made x b))) (λ b. b))) ∙ append-nil (marked_below marks (size k))
 
-  -- the list of those that are read
-  module _ {read : List ℕ} {found : ℕ} (l : Listed marks (size k) read found) where
-    found-is : found ≡ length (read_wires k probes)
-    found-is = l.all ∙ sym (ap length read_marked)
+  -- each is a wire of the circuit
+  marked_made : (i : ℕ) → i < length (marked_below marks (size k)) → nth (marked_below marks (size k)) i < size k
+  marked_made i h = omega (arith, range_in _ 0 (size k) (filter_in marked (range 0 (size k)) (nth (marked_below marks (size k)) i) (nth_in (marked_below marks (size k)) i h)).0)
 
-    read_is : found ≤ 8 → read_wires k probes ≡ take found read
-    read_is h = read_marked ∙ sym (ext_get_or 0 (take found read) (marked_below marks (size k)) (sized ∙ l.all)
-        (λ i j. let z : i < found = omega (arith, sized) in get_or-take found read i 0 z ∙ l.first i z (omega arith)))
-      where
-        sized : length (take found read) ≡ found
-        sized = length-take-le found read (omega (arith, l.sized))
+-- of an accepted table
+module _ {table probes marks : List ℕ} {wires : ℕ} (p : Probed table wires probes) (on : OnStops (circuit_in table).wires probes marks) where
+  below : marked_below marks wires ≡ read_wires (circuit_in table) probes
+  below = ap (marked_below marks) p.wires_are ∙ sym (read_marked (circuit_in table) on (accepted-size p.accepted))
 
-    read_made : (i : ℕ) → i < found → i < 8 → nth read i < size k
-    read_made i h j = rw (l.first i h j) (omega (arith, range_in _ 0 (size k) (filter_in marked (range 0 (size k)) (nth (marked_below marks (size k)) i) (nth_in (marked_below marks (size k)) i (omega (arith, l.all)))).0))
+  read_by : {read : List ℕ} → read ≡ marked_below marks wires → ReadBy table probes read
+  read_by {read} e =
+      let few = accepted-size p.accepted in
+      let same : read ≡ marked_below marks (size (circuit_in table)) = e ∙ ap (marked_below marks) p.wires_are in
+      record {
+        are = e ∙ below;
+        made = λ i l. rw same (marked_made (circuit_in table) on few i (omega (arith, ap length same)));
+      }
 
--- the list of an accepted table's
-pub lists_read : {table probes marks read : List ℕ} {wires found : ℕ} → Probed table wires probes → OnStops (circuit_in table).wires probes marks → Listed marks wires read found → ListsRead table probes read found
-lists_read {table} {marks = marks} {read} {found = found} p on l =
-    let few = accepted-size p.accepted in
-    let k = circuit_in table in
-    let same = subst (λ (n : ℕ). Listed marks n read found) p.wires_are l in
-    record { all = found-is k on few same; sized = l.sized; are = read_is k on few same; made = read_made k on few same }
+  more_read : 8 < length (marked_below marks wires) → 8 < length (read_wires (circuit_in table) probes)
+  more_read h = rw (← below) h
+
+  -- of what is found with the marks
+  pub read_found : (found : Option ReadWires) → MatchOption found (8 < length (marked_below marks wires)) (λ list. take list.count list.wires ≡ marked_below marks wires)
+      → MatchOption found (8 < length (read_wires (circuit_in table) probes)) (λ list. ReadBy table probes (take list.count list.wires))
+  read_found None h = more_read h
+  read_found (Some list) h = read_by h

@@ -23,7 +23,7 @@ use Rattle.symbolic.specs.Internal.Expanding.{Words, Solves}
 use Rattle.symbolic.proofs.Masks.{added_none, added-xor, added-one}
 use Rattle.symbolic.proofs.Running.{term-same}
 use Rattle.symbolic.proofs.Standing.{words-at}
-use Rattle.counting.specs.declared.tally.Plan.{Plan}
+use Rattle.counting.specs.declared.plan.Plan.{Plan}
 use Rattle.counting.specs.Internal.Pairs.{completed, values_with, placed}
 use Rattle.counting.specs.Internal.Lanes.{lane_bit, place_of}
 use Rattle.counting.specs.Internal.Linear.{varied_in}
@@ -131,7 +131,7 @@ pub record Given (plan : Plan) (lanes : ℕ) (given : ℕ → List Bool) (second
   pub one : f 17 ≡ packed lanes (λ l. true)
 
 -- the wires that are read have the words of their sums, where the products have theirs
-module _ {table secrets read sums terms : List ℕ} {outputs found : ℕ} {plan : Plan} (p : Prepared table secrets read sums terms outputs found plan) {lanes : ℕ} {given : ℕ → List Bool} {second : Bool} {f : Values} (g : Given plan lanes given second f) where
+module _ {table secrets read sums terms : List ℕ} {outputs : ℕ} {plan : Plan} (p : Prepared table secrets read sums terms outputs plan) {lanes : ℕ} {given : ℕ → List Bool} {second : Bool} {f : Values} (g : Given plan lanes given second f) where
   abbrev set : List ℕ
   set = set_of table second secrets
 
@@ -166,7 +166,7 @@ module _ {table secrets read sums terms : List ℕ} {outputs found : ℕ} {plan 
         (drawn-packed lanes given plan.free g.each (map (λ m. added m f) free_sums) long free_words plan.others set taken);
   }
 
-  pub valued : Solves terms outputs read found (size (circuit_in table)) f → (i : ℕ) → i < found → packed lanes (λ l. at (values_with (circuit_in table) (bits set) (given l)) (nth read i)) ≡ added (nth sums (nth read i)) f
+  pub valued : Solves terms outputs read (length read) (size (circuit_in table)) f → (i : ℕ) → i < length read → packed lanes (λ l. at (values_with (circuit_in table) (bits set) (given l)) (nth read i)) ≡ added (nth sums (nth read i)) f
   unfolding sharings tapes
   valued s i h =
       let k = circuit_in table in
@@ -187,8 +187,8 @@ place_set true half h = le-leb 2 (half + 2) (omega arith)
 place_set false half h = lt-leb 2 half (omega arith)
 
 -- a batch: the variables, the products and the wires that are read
-module _ {table secrets read sums terms : List ℕ} {outputs found : ℕ} {plan : Plan} (p : Prepared table secrets read sums terms outputs found plan) {factors batch : ℕ} {filled mid final shown : List ℕ}
-    (v : Variables factors plan.free batch filled) (outs : Runs terms 0 outputs filled mid) (reads : Runs terms 32 (32 + found) mid final) (s : Shows sums read found final shown) where
+module _ {table secrets read sums terms : List ℕ} {outputs : ℕ} {plan : Plan} (p : Prepared table secrets read sums terms outputs plan) {factors batch : ℕ} {filled mid final shown : List ℕ}
+    (v : Variables factors plan.free batch filled) (outs : Runs terms 0 outputs filled mid) (reads : Runs terms 32 (32 + length read) mid final) (s : Shows sums read (length read) final shown) where
   few : outputs ≤ 32
   few = p.expanded.few
 
@@ -225,16 +225,16 @@ module _ {table secrets read sums terms : List ℕ} {outputs found : ℕ} {plan 
     }
 
     -- the products have their words
-    solves : Solves terms outputs read found (size (circuit_in table)) f
+    solves : Solves terms outputs read (length read) (size (circuit_in table)) f
     solves = record {
       outs = λ k h. reads.below (4 * (18 + k) + w) (omega (arith, few, l)) ∙ outs.are k w (omega arith) h l
           ∙ term-same terms k (words_at w mid) f (p.expanded.before k (omega arith) h) (λ y i. sym (reads.below (4 * y + w) (omega (arith, few, l))));
       reads = λ i h u. let e : 50 + i ≡ 18 + (32 + i) = omega arith in ap f e ∙ reads.are (32 + i) w (omega arith) (omega arith) l;
     }
 
-    shows : (i : ℕ) → i < found → nth shown (4 * i + w) ≡ packed 64 (λ e. at (values_with (circuit_in table) (bits (set_of table second secrets)) (placed (varied_in factors plan.free) (64 * number + e))) (nth read i))
+    shows : (i : ℕ) → i < length read → nth shown (4 * i + w) ≡ packed 64 (λ e. at (values_with (circuit_in table) (bits (set_of table second secrets)) (placed (varied_in factors plan.free) (64 * number + e))) (nth read i))
     unfolding varied
     shows i h = s.are i w h l ∙ sym (valued p given solves i h)
 
-  pub batch_shown : HoldsShown table secrets factors plan.free batch read found shown
+  pub batch_shown : HoldsShown table secrets factors plan.free batch read shown
   batch_shown = record { are = λ second i half h low. shows second half low i h; sized = s.sized }

@@ -12,8 +12,7 @@ use lib.Seq.{get_or-set_same, get_or-set_other}
 use borrow.Author.Tests.{eqb-true, eqb-false, leb-true, leb-false}
 use Rattle.circuit.specs.Lists.{nth}
 use Rattle.circuit.proofs.Base.{cases}
-use Rattle.counting.specs.Internal.Linear.{folded, Remade, pair_added, FoldsBit}
-use Rattle.counting.specs.Internal.Lanes.{lane_bit}
+use Rattle.counting.specs.Internal.Linear.{folded, Remade, pair_added}
 use Rattle.counting.proofs.Numbered.{pow_mono}
 use Rattle.counting.proofs.Folding.{twice, fold_varied, fold_other, fold_add, fold_moved, fold_same, fold_least}
 
@@ -133,7 +132,7 @@ module _ (varied : ℕ → Bool) (shift : ℕ → ℕ) (free found : ℕ) (old :
     later : (f : ℕ → ℕ) (m : ℕ) → fold (free - (i + 1)) (suc i) f m ≡ fold (free - (i + 1)) (i + 1) f m
     later f m = let e : suc i ≡ i + 1 = omega arith in ap (λ n. fold (free - (i + 1)) n f m) e
 
-    folded-varied : varied i ≡ true → FoldedTo new doubles (i + 1)
+    pub folded-varied : varied i ≡ true → FoldedTo new doubles (i + 1)
     folded-varied e = record {
       most = omega arith;
       few = omega (arith, t.few);
@@ -146,7 +145,7 @@ module _ (varied : ℕ → Bool) (shift : ℕ → ℕ) (free found : ℕ) (old :
       two : (m : ℕ) → fold (free - i) i (nth new) m ≡ fold (free - (i + 1)) (i + 1) (nth new) m + fold (free - (i + 1)) (i + 1) (nth new) (bit_xor m (shift i))
       two m = next (nth new) m ∙ fold_other varied shift (free - (i + 1)) i (nth new) m off ∙ ap₂ ◌+◌ (later (nth new) m) (later (nth new) (bit_xor m (shift i)))
 
-      folded-double : shift i ≡ 0 → FoldedTo new (doubles + 1) (i + 1)
+      pub folded-double : shift i ≡ 0 → FoldedTo new (doubles + 1) (i + 1)
       folded-double z = record {
         most = omega arith;
         few = omega (arith, t.few);
@@ -159,7 +158,7 @@ module _ (varied : ℕ → Bool) (shift : ℕ → ℕ) (free found : ℕ) (old :
         sized = t.sized;
       }
 
-      folded-next : ((j : ℕ) → shift j < 2 ^ found) → {more : List ℕ} → Remade (λ n. nth new n + nth new (bit_xor n (shift i))) (2 ^ found) new more → FoldedTo more doubles (i + 1)
+      pub folded-next : ((j : ℕ) → shift j < 2 ^ found) → {more : List ℕ} → Remade (λ n. nth new n + nth new (bit_xor n (shift i))) (2 ^ found) new more → FoldedTo more doubles (i + 1)
       folded-next low {more} r = record {
         most = omega arith;
         few = omega (arith, t.few);
@@ -177,14 +176,6 @@ module _ (varied : ℕ → Bool) (shift : ℕ → ℕ) (free found : ℕ) (old :
           let F : ℕ → ℕ = fold (free - (i + 1)) (i + 1) (nth new) in
           let some : 1 ≤ 2 ^ doubles = pow_mono doubles 0 (omega arith) in
           omega (arith, fold_least varied shift (free - (i + 1)) (i + 1) (nth new) m, fold_least varied shift (free - (i + 1)) (i + 1) (nth new) (bit_xor m (shift i)), two m, t.left m l, h m l, mul-le-mul_right (fold (free - i) i (nth new) m) some)
-
-    -- as the code does it
-    pub bit-folded : {factors : ℕ} → ((j : ℕ) → varied j ≡ lane_bit j factors) → ((j : ℕ) → shift j < 2 ^ found) → {more : List ℕ} {r : ℕ} → FoldsBit factors (shift i) i (2 ^ found) new more r → FoldedTo more (doubles + r) (i + 1) × (r ≤ 1)
-    bit-folded {factors} same low {more} {r} f = cases (lane_bit i factors)
-        (λ e. let (z, n) = f.varied e in let d : doubles + 0 ≡ doubles = omega arith in rw (z, n, d) (folded-varied (same i ∙ e), omega arith))
-        (λ e. cases (eqb (shift i) 0)
-        (λ b. let s = eqb-true (shift i) 0 b in let (z, n) = f.double e s in rw (z, n) (folded-double (same i ∙ e) s, omega arith))
-        (λ b. let (made, n) = f.moved e (eqb-false (shift i) 0 b) in let d : doubles + 0 ≡ doubles = omega arith in rw (n, d) (folded-next (same i ∙ e) low made, omega arith)))
 
   module _ {new : List ℕ} {doubles i : ℕ} (t : FoldedTo new doubles i) (end : free ≤ i) where
     pub all_left : (m : ℕ) → m < 2 ^ found → fold free 0 (nth old) m ≡ 2 ^ doubles * nth new m

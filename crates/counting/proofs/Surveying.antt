@@ -6,6 +6,7 @@ use Prim.Native.Nat.{ℕ, zero, suc, ◌+◌, ◌*◌, ◌/◌, ◌%◌, max, �
 use native.Mathlib.Omega.{arith}
 use lib.Bits.{bit_or, or_step, or_shr, or_lt}
 use lib.Dec.{ltb}
+use lib.ListN.{length}
 use borrow.Author.Tests.{ltb-true, ltb-false}
 use Rattle.circuit.specs.Lists.{nth}
 use Rattle.circuit.specs.Circuit.{is_set}
@@ -105,9 +106,9 @@ survey_next {n = n} room a b = record {
 }
 
 -- all: those that are read, then the outputs
-module _ {sums terms read : List ℕ} {outputs found start needed factors needed' factors' : ℕ} (few : outputs ≤ 32) (reads : (i : ℕ) → i < found → Within (nth sums (nth read i)) start)
-    (inner : SurveysMore terms 32 (32 + found) start 0 needed factors) (outs : SurveysMore terms 0 outputs needed factors needed' factors') where
-  pub all_surveyed : Surveyed sums terms read outputs found factors'
+module _ {sums terms read : List ℕ} {outputs start needed factors needed' factors' : ℕ} (few : outputs ≤ 32) (reads : (i : ℕ) → i < length read → Within (nth sums (nth read i)) start)
+    (inner : SurveysMore terms 32 (32 + length read) start 0 needed factors) (outs : SurveysMore terms 0 outputs needed factors needed' factors') where
+  pub all_surveyed : Surveyed sums terms read outputs factors'
   all_surveyed = record {
     needed = needed';
     reads = λ i h s d. outs.needed_more s (inner.needed_more s (reads i h s d));
@@ -116,7 +117,7 @@ module _ {sums terms read : List ℕ} {outputs found start needed factors needed
   }
 
   -- where all that are needed vary
-  pub needed_surveyed : Surveyed sums terms read outputs found needed'
+  pub needed_surveyed : Surveyed sums terms read outputs needed'
   needed_surveyed = record {
     needed = needed';
     reads = λ i h s d. outs.needed_more s (inner.needed_more s (reads i h s d));
@@ -127,8 +128,8 @@ module _ {sums terms read : List ℕ} {outputs found start needed factors needed
       both : {n : ℕ} → Surveys terms needed' factors' n → Surveys terms needed' needed' n
       both v = record { one = λ d. ((v.one d).0, (v.one d).0); other = λ d. ((v.other d).0, (v.other d).0) }
 
-pub surveyed_by : {sums terms read : List ℕ} {outputs found factors f : ℕ} → f ≡ factors → Surveyed sums terms read outputs found factors → Surveyed sums terms read outputs found f
-surveyed_by {sums} {terms} {read} {outputs} {found} e s = subst (Surveyed sums terms read outputs found) (sym e) s
+pub surveyed_by : {sums terms read : List ℕ} {outputs factors f : ℕ} → f ≡ factors → Surveyed sums terms read outputs factors → Surveyed sums terms read outputs f
+surveyed_by {sums} {terms} {read} {outputs} e s = subst (Surveyed sums terms read outputs) (sym e) s
 
 -- the variables of the read wires up to one
 pub record ReadTo (sums read : List ℕ) (all i : ℕ) : Type 0 where

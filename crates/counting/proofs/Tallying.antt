@@ -5,16 +5,14 @@ use mathlib.Core.List.{List, map, map-map}
 use Prim.Native.Nat.{ℕ, zero, suc, ◌+◌, ◌*◌, ◌/◌, ◌%◌, ◌^◌, ◌≤◌, ◌<◌}
 use native.Mathlib.Nat.{mul-le-mul_right}
 use native.Mathlib.Omega.{arith}
-use lib.ListN.{length, take, replicate, length-map}
-use lib.Seq.{length-take-le, get_or-take}
+use lib.ListN.{length, replicate, length-map}
 use Rattle.circuit.specs.Lists.{nth, range}
 use Rattle.circuit.proofs.Sizes.{range_length}
 use Rattle.semantics.specs.Values.{bits, at}
 use Rattle.gadgets.specs.Internal.Accepting.{circuit_in}
-use Rattle.counting.specs.Internal.Pairs.{number_of, values_with, number_with, shown_among, placed, count_varied}
+use Rattle.counting.specs.Internal.Pairs.{number_of, values_with, number_with, shown_among, placed, count_varied, Divides}
 use Rattle.counting.specs.Internal.Lanes.{lane_bit, column_of, place_of, shown_in, Adds}
-use Rattle.counting.specs.declared.tally.Enumeration.{Enumeration}
-use Rattle.counting.specs.Internal.Tallying.{HoldsShown, Divides, Enumerates, ReadIn, set_of, TalliedSome}
+use Rattle.counting.specs.Internal.Tallying.{HoldsShown, set_of, TalliedSome}
 use Rattle.counting.specs.Internal.Linear.{varied_in}
 use Rattle.counting.proofs.Numbered.{pow_mono, by_place}
 use Rattle.counting.proofs.WordBits.{packed_lane}
@@ -28,16 +26,12 @@ zeros_at zero n = refl
 zeros_at (suc m) zero = refl
 zeros_at (suc m) (suc n) = zeros_at m n
 
--- the number of the combination that a pair shows on wires, and of the first so many on a list
+-- the number of the combination that a pair shows on wires; of wires by their places on a list
 abbrev number_in : (table secrets wires : List ℕ) (factors free pair : ℕ) → ℕ
 number_in table secrets wires factors free u = number_with (circuit_in table) (bits secrets) wires (placed (varied_in factors free) u)
 
-pub number_taken : (f : ℕ → Bool) (found : ℕ) (read : List ℕ) → found ≤ length read → number_of (map f (take found read)) ≡ number_of (map (λ i. f (nth read i)) (range 0 found))
-number_taken f found read h =
-    let ws = take found read in
-    let n : length ws ≡ found = length-take-le found read h in
-    ap (λ xs. number_of (map f xs)) (by_place ws 0 ∙ ap (λ m. map (nth ws) (range 0 m)) n) ∙ ap number_of (map-map f (nth ws) (range 0 found))
-    ∙ number_same (λ i. f (nth ws i)) (λ i. f (nth read i)) found (λ i l. ap f (get_or-take found read i 0 l))
+pub number_placed : (f : ℕ → Bool) (read : List ℕ) → number_of (map f read) ≡ number_of (map (λ i. f (nth read i)) (range 0 (length read)))
+number_placed f read = ap (λ xs. number_of (map f xs)) (by_place read 0) ∙ ap number_of (map-map f (nth read) (range 0 (length read)))
 
 -- the pairs of the batches so far are counted
 pub record TalliedTo (table secrets wires : List ℕ) (factors free : ℕ) (old tally : List ℕ) (batch lanes : ℕ) : Type 0 where
@@ -52,21 +46,21 @@ tallied_start {table} {secrets} {wires} {factors} {free} {old} {lanes} s h =
     record { counted = subst (λ n. Adds number n old old) z (adds_none number old); none = h; wide = s }
 
 -- one batch more
-module _ {table secrets read : List ℕ} (second : Bool) {factors free : ℕ} {old tally : List ℕ} {found batch lanes : ℕ} (t : TalliedTo table (set_of table second secrets) (take found read) factors free old tally batch lanes) (behind : batch * lanes ≡ 128 * batch) (most : lanes ≤ 128)
-    {shown : List ℕ} (h : HoldsShown table secrets factors free batch read found shown) (r : ReadIn table read found) where
-  pair_shows : (u : ℕ) → u < lanes → shown_in shown second found u ≡ number_in table (set_of table second secrets) (take found read) factors free (batch * lanes + u)
+module _ {table secrets read : List ℕ} (second : Bool) {factors free : ℕ} {old tally : List ℕ} {batch lanes : ℕ} (t : TalliedTo table (set_of table second secrets) read factors free old tally batch lanes) (behind : batch * lanes ≡ 128 * batch) (most : lanes ≤ 128)
+    {shown : List ℕ} (h : HoldsShown table secrets factors free batch read shown) where
+  pair_shows : (u : ℕ) → u < lanes → shown_in shown second (length read) u ≡ number_in table (set_of table second secrets) read factors free (batch * lanes + u)
   pair_shows u l =
       let value : ℕ → ℕ → Bool = λ p x. at (values_with (circuit_in table) (bits (set_of table second secrets)) (placed (varied_in factors free) p)) x in
       let e : 64 * (2 * batch + u / 64) + u % 64 ≡ batch * lanes + u = omega arith in
-      number_same (λ i. lane_bit (u % 64) (column_of shown (place_of second (u / 64)) i)) (λ i. value (batch * lanes + u) (nth read i)) found
+      number_same (λ i. lane_bit (u % 64) (column_of shown (place_of second (u / 64)) i)) (λ i. value (batch * lanes + u) (nth read i)) (length read)
       (λ i k. ap (lane_bit (u % 64)) (h.are second i (u / 64) k (omega arith)) ∙ packed_lane 64 (u % 64) (λ p. value (64 * (2 * batch + u / 64) + p) (nth read i)) (omega arith)
       ∙ ap (λ p. value p (nth read i)) e)
-      ∙ sym (number_taken (value (batch * lanes + u)) found read (omega (arith, r.few, r.sized)))
+      ∙ sym (number_placed (value (batch * lanes + u)) read)
 
-  pub tallied_next : {new : List ℕ} → Adds (shown_in shown second found) lanes tally new → TalliedTo table (set_of table second secrets) (take found read) factors free old new (batch + 1) lanes
+  pub tallied_next : {new : List ℕ} → Adds (shown_in shown second (length read)) lanes tally new → TalliedTo table (set_of table second secrets) read factors free old new (batch + 1) lanes
   tallied_next {new} a =
       let more : batch * lanes + lanes ≡ (batch + 1) * lanes = omega arith in
-      record { counted = subst (λ n. Adds (number_in table (set_of table second secrets) (take found read) factors free) n old new) more (adds_more t.counted a pair_shows); none = t.none; wide = t.wide }
+      record { counted = subst (λ n. Adds (number_in table (set_of table second secrets) read factors free) n old new) more (adds_more t.counted a pair_shows); none = t.none; wide = t.wide }
 
 -- the counts stay small
 module _ {table secrets wires : List ℕ} {factors free : ℕ} {old tally : List ℕ} {batch lanes : ℕ} (t : TalliedTo table secrets wires factors free old tally batch lanes) where
@@ -88,7 +82,3 @@ module _ {table secrets wires : List ℕ} {factors free : ℕ} {old tally : List
 -- no more bits vary than there are
 pub varied-most : (factors free : ℕ) → free ≤ 16 → count_varied (varied_in factors free) ≤ 16
 varied-most factors free l = omega (arith, varied-few (varied_in factors free), length-map (range 0 free) (λ i. lane_bit i factors), range_length 0 free)
-
--- the pairs in batches, as the code divides them
-pub enumerates : {free factors varied : ℕ} (e : Enumeration) → e.factors ≡ factors → varied ≡ count_varied (varied_in factors free) → Divides varied e.batches e.lanes → Enumerates free e
-enumerates {free} e same many d = record { divides = subst (λ (n : ℕ). Divides n e.batches e.lanes) (many ∙ ap (λ f. count_varied (varied_in f free)) (sym same)) d }

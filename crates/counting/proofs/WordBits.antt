@@ -1,10 +1,11 @@
 -- The bits of a word, each a pair's: of a word packed from bits, of a part of a word, and of a word shifted.
 use mathlib.Core.Path.{◌≡◌, refl, sym, ap, ap₂, ◌∙◌}
-use mathlib.Core.Bool.{Bool, true, false}
-use Prim.Native.Nat.{ℕ, zero, suc, ◌+◌, ◌*◌, ◌/◌, ◌%◌, ◌^◌, ◌<◌}
+use mathlib.Core.Bool.{Bool, true, false, not}
+use Prim.Native.Nat.{ℕ, zero, suc, ◌+◌, ◌*◌, ◌/◌, ◌%◌, ◌^◌, ◌≤◌, ◌<◌}
 use native.Mathlib.Nat.{zero-add, suc-add, pow-succ', div-one, div-div-eq-div-mul, div-add-mod'}
 use native.Mathlib.Omega.{arith}
 use lib.Bits.{block_half, block_odd}
+use Rattle.std.specs.Prelude.{nat_eq}
 use Rattle.circuit.specs.Circuit.{is_set}
 use Rattle.circuit.proofs.Base.{cases}
 use Rattle.semantics.specs.Values.{byte}
@@ -57,3 +58,14 @@ digit-is i x = let z : i + 0 ≡ i = omega arith in set-byte (x / 2 ^ i % 2) (om
 
 pub digit-on : (i x : ℕ) → (x / 2 ^ i % 2 ≡ 0 → ⊥) → lane_bit i x ≡ true
 digit-on i x h = cases (lane_bit i x) (λ e. e) (λ e. absurd (h (digit-is i x ∙ ap byte e)))
+
+pub digit-test : (i x : ℕ) → not (nat_eq (x / 2 ^ i % 2) 0) ≡ lane_bit i x
+digit-test i x = rw (digit-is i x) (told (lane_bit i x))
+  where
+    told : (b : Bool) → not (nat_eq (byte b) 0) ≡ b
+    told true = refl
+    told false = refl
+
+pub byte_most : (b : Bool) → byte b ≤ 1
+byte_most true = omega arith
+byte_most false = omega arith

@@ -1,5 +1,5 @@
 -- Document 02: all sharings and tapes counted. What the list of counts holds, rules 24 and 25, and two laws of the counts.
-use Rattle.std.specs.Prelude.{◌≡◌, Bool, true, false, cond, List, [], ◌∷◌, ◌++◌, map, ℕ, zero, suc, ◌+◌, ◌*◌, ◌/◌, ◌^◌, ◌<◌, leb, eqb, length, take, drop}
+use Rattle.std.specs.Prelude.{◌≡◌, Bool, true, false, cond, List, [], ◌∷◌, ◌++◌, map, ℕ, zero, suc, ◌+◌, ◌*◌, ◌/◌, ◌^◌, ◌<◌, leb, eqb, length, take, drop, Result, Ok, Err}
 use Rattle.circuit.specs.Limits.{wire_limit}
 use Rattle.circuit.specs.Lists.{mem, range, filter, concat_map}
 use Rattle.circuit.specs.Circuit.{Circuit}
@@ -8,8 +8,9 @@ use Rattle.semantics.specs.Values.{bits, byte, at}
 use Rattle.semantics.specs.Probes.{stops}
 use Rattle.semantics.specs.Calls.{bytes_rule, probes_rule, circuit_of, written}
 use Rattle.semantics.specs.Counts.{free_bits, count_distinct, pairs_for}
+use Rattle.circuit.specs.Refusals.{number_of}
+use Rattle.circuit.specs.declared.rules.Refusal.{Refusal}
 use Rattle.counting.specs.declared.Counted.{Counted}
-use Rattle.counting.specs.declared.Counted.TheVariants.{Accepted, Refused}
 
 -- all combinations of so many bits, in rising order, the first bit the highest
 abbrev pub combinations : ℕ → List (List Bool)
@@ -57,9 +58,9 @@ pub data CountAnswer : Type 0 where
   refused : (rule frame word : ℕ) → CountAnswer
 
 -- what the code's answer says
-abbrev pub count_answer_of : Counted → CountAnswer
-count_answer_of (Accepted read combinations pairs) = accepted read combinations pairs
-count_answer_of (Refused rule frame word) = refused rule frame word
+abbrev pub count_answer_of : Result Counted Refusal → CountAnswer
+count_answer_of (Ok c) = accepted c.read c.combinations c.pairs
+count_answer_of (Err r) = refused (number_of r.rule) r.frame r.word
 
 -- a call with notes of these words, both sets of secret bits in one list, and a sheet of counts
 module _ (table notes secrets probes counts : List ℕ) where

@@ -1,8 +1,15 @@
 // Rules 15 to 24, behind the checker's.
 ghost use Rattle.counting.specs.Internal.Judging.{Judged};
 
-use checker::Verdict;
+use checker::Accepted;
+use circuit::{Refusal, Rule};
 use evaluation::rules;
+
+// Numbers that the sheet of counts has: four for each combination of eight wires.
+const SHEET: usize = 1024;
+
+// Free bits of a sharing and a tape that may be gone through.
+const FREE_BITS: usize = 16;
 
 // A call judged, but for rule 25: by the checker, then by rules 15, 17, 18, 19 and 24, the sheet of counts having so many numbers.
 pub(crate) fn judge(
@@ -11,35 +18,25 @@ pub(crate) fn judge(
     secrets: &[u8],
     probes: &[u16],
     room: usize,
-) -> Verdict
+) -> Result<Accepted, Refusal>
     ensures { Judged table.now notes.old secrets.now probes.now room notes.new result }
 {
-    let verdict = checker::check(table, notes);
-    let Verdict::Accepted {
-        wires,
-        randoms,
-        latency: _,
-        inputs,
-    } = verdict
-    else {
-        return verdict;
-    };
+    let accepted = checker::check(table, notes)?;
+    let inputs = accepted.inputs;
     if secrets.len() != 2 * inputs {
-        return rules::refusal(15, 0);
+        return Err(Refusal::of_call(Rule::ShareLength, 0));
     }
-    if room < 1024 {
-        return rules::refusal(17, 0);
+    if room < SHEET {
+        return Err(Refusal::of_call(Rule::SheetLength, 0));
     }
-    let byte = rules::first_over(secrets);
-    if byte < secrets.len() {
-        return rules::refusal(18, byte);
+    if let Some(byte) = rules::first_over(secrets) {
+        return Err(Refusal::of_call(Rule::Bit, byte));
     }
-    let probe = rules::first_missing(probes, wires);
-    if probe < probes.len() {
-        return rules::refusal(19, probe);
+    if let Some(probe) = rules::first_missing(probes, accepted.wires) {
+        return Err(Refusal::of_call(Rule::Probe, probe));
     }
-    if 16 < (table[1] as usize - 1) * inputs + randoms {
-        return rules::refusal(24, 0);
+    if FREE_BITS < (table[1] as usize - 1) * inputs + accepted.randoms {
+        return Err(Refusal::of_call(Rule::FreeBits, 0));
     }
-    verdict
+    Ok(accepted)
 }

@@ -1,5 +1,5 @@
 // 64 pairs of a sharing and a tape at once: words of their free bits, and the shares of given secret bits.
-ghost use Rattle.std.specs.Prelude.{◌≡◌, ◌+◌, ◌*◌, ◌≤◌, ◌<◌, length, take, drop};
+ghost use Rattle.std.specs.Prelude.{◌≡◌, ◌+◌, ◌*◌, ◌≤◌, ◌<◌, length};
 ghost use Rattle.std.proofs.lemmas.List.Edits.{sets};
 ghost use Rattle.counting.specs.Internal.Words.{free_word, shares_of, all_shares};
 
@@ -25,40 +25,30 @@ pub(crate) fn free_word(i: usize, number: usize) -> u64
 }
 
 // The shares of a secret bit: free words, and the one that completes them to a given word.
-fn complete_one(
-    words: &[u64; 16],
-    from: usize,
-    others: usize,
-    whole: u64,
-    shares: &mut [u64; 32],
-    at: usize,
-)
-    requires { (from + others ≤ 16) × (at + others + 1 ≤ 32) × (length words.now ≡ 16) × (length shares.old ≡ 32) }
-    ensures { shares.new ≡ sets shares.old at (shares_of whole (take others (drop from words.now))) }
+fn complete_one(words: &[u64], whole: u64, shares: &mut [u64])
+    requires { length shares.old ≡ length words.now + 1 }
+    ensures { shares.new ≡ shares_of whole words.now }
 {
     let mut last = whole;
-    let mut i = 0;
-    while i < others {
-        let word = words[from + i];
-        shares[at + i] = word;
-        last = last ^ word;
-        i += 1;
+    for (i, word) in words.iter().enumerate() {
+        shares[i] = *word;
+        last = last ^ *word;
     }
-    shares[at + others] = last;
+    shares[words.len()] = last;
 }
 
 // The shares of all secret bits, from the words that they complete to.
 pub(crate) fn complete(words: &[u64; 16], lasts: &[u64], others: usize, shares: &mut [u64; 32])
-    requires { (1 ≤ others) × (others * length lasts.now ≤ 16) × (length words.now ≡ 16) × (length shares.old ≡ 32) }
+    requires { (1 ≤ others) × (others * length lasts.now ≤ 16) }
     ensures { shares.new ≡ sets shares.old 0 (all_shares others lasts.now words.now) }
 {
-    let mut from = 0;
-    let mut at = 0;
-    let mut j = 0;
-    while j < lasts.len() {
-        complete_one(words, from, others, lasts[j], shares, at);
-        from += others;
-        at += others + 1;
-        j += 1;
+    for (j, last) in lasts.iter().enumerate() {
+        let from = others * j;
+        let at = from + j;
+        complete_one(
+            &words[from..from + others],
+            *last,
+            &mut shares[at..at + others + 1],
+        );
     }
 }

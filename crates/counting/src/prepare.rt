@@ -8,25 +8,34 @@ ghost use Rattle.counting.specs.Internal.Preparing.{secret_sum, SecretSums, Free
 ghost use Rattle.counting.specs.Internal.Tallying.{Countable, Planned, ReadIn};
 
 use super::pairs;
-use super::tally::Plan;
+use super::plan::Plan;
 use symbolic::expand;
+use symbolic::expand::ONE;
 
-// Numbers of the terms that an expanded table has.
-pub(crate) const TERMS: usize = 80;
+// Sums that are multiplied, two for each product that an expanded table may have.
+pub(crate) const TERM_SUMS: usize = 80;
 
-// The variable that is 1 under the second set of secret bits, and the sum that is 1.
+// The variable that is 1 under the second set of secret bits.
 const SET: u64 = 0x1_0000;
 
-const ONE: u64 = 0x2_0000;
+// The products of an expanded table, and how many of them are in outputs of ANDs.
+#[derive(Drop)]
+pub struct Terms {
+    pub sums: [u64; 80],
+    pub outputs: usize,
+    ghost sized: { length sums ≡ 80 },
+}
 
 // A secret bit as a sum, from its values in both sets.
 fn secret_sum(one: u8, other: u8) -> u64
     ensures { result ≡ secret_sum one other }
 {
-    if one < 1 {
-        return if other < 1 { 0 } else { SET };
+    match (one, other) {
+        (0, 0) => 0,
+        (0, _) => SET,
+        (_, 0) => SET + ONE,
+        _ => ONE,
     }
-    if other < 1 { SET + ONE } else { ONE }
 }
 
 // All secret bits.
@@ -35,10 +44,8 @@ fn secret_sums(secrets: &[u8], inputs: usize) -> [u64; 16]
     ensures { SecretSums secrets.now inputs result }
 {
     let mut sums = [0u64; 16];
-    let mut j = 0;
-    while j < inputs {
+    for j in 0..inputs {
         sums[j] = secret_sum(secrets[j], secrets[inputs + j]);
-        j += 1;
     }
     sums
 }
@@ -53,28 +60,28 @@ fn free_sums() -> [u64; 16]
     ]
 }
 
-// Expands an accepted table for the wires that are read, and answers how many outputs of ANDs it has.
+// Expands an accepted table for the wires that are read.
 pub(crate) fn prepare(
     table: &[u16],
     secrets: &[u8],
     inputs: usize,
     plan: Plan,
-    read: &[u16; 8],
-    found: usize,
+    read: &[u16],
     sums: &mut [u64],
-    terms: &mut [u64; TERMS],
-) -> usize
-    requires { Countable table.now (take inputs secrets.now) × Planned table.now plan × ReadIn table.now read.now found × (inputs ≡ (circuit_in table.now).inputs) × (length secrets.now ≡ inputs + inputs) × (size (circuit_in table.now) ≤ length sums.old) × (length sums.old ≤ wire_limit) × (terms.old ≡ replicate 80 0) }
-    ensures { Expanded table.now (prepared_shares plan inputs secrets.now) (prepared_tape plan) read.now found sums.new terms.new result × (length terms.new ≡ 80) }
+) -> Terms
+    requires { Countable table.now (take inputs secrets.now) × Planned table.now plan × ReadIn table.now read.now × (inputs ≡ (circuit_in table.now).inputs) × (length secrets.now ≡ inputs + inputs) × (size (circuit_in table.now) ≤ length sums.old) × (length sums.old ≤ wire_limit) }
+    ensures { Expanded table.now (prepared_shares plan inputs secrets.now) (prepared_tape plan) read.now (length read.now) sums.new result.sums result.outputs }
 {
     let free = free_sums();
     let lasts = secret_sums(secrets, inputs);
     let mut shares = [0u64; 32];
-    pairs::complete(&free, &lasts[0..inputs], plan.others, &mut shares);
-    let count = (plan.others + 1) * inputs;
-    let sharing = &shares[0..count];
-    let start = plan.start;
-    let end = plan.free;
-    let tape = &free[start..end];
-    expand::expand(table, sharing, tape, read, found, sums, terms)
+    pairs::complete(&free, &lasts[..inputs], plan.others, &mut shares);
+    let sharing = &shares[..(plan.others + 1) * inputs];
+    let tape = &free[plan.start..plan.free];
+    let mut terms = [0u64; TERM_SUMS];
+    let outputs = expand::expand(table, sharing, tape, read, sums, &mut terms);
+    Terms {
+        sums: terms,
+        outputs,
+    }
 }

@@ -1,7 +1,9 @@
 // The wires that probes read, from marks on them.
-ghost use Rattle.std.specs.Prelude.{◌≡◌, ◌+◌, ◌≤◌, ◌<◌, cond, ltb, length, set};
+ghost use Rattle.std.specs.Prelude.{◌≡◌, ◌++◌, [], ◌∷◌, ◌≤◌, ◌<◌, length, take, MatchOption};
 ghost use Rattle.circuit.specs.Limits.{wire_limit};
-ghost use Rattle.counting.specs.Internal.Reading.{listed_with, Listed, Probed, ListsRead};
+ghost use Rattle.gadgets.specs.Internal.Accepting.{circuit_in};
+ghost use Rattle.counting.specs.Counting.{read_wires};
+ghost use Rattle.counting.specs.Internal.Reading.{marked_below, Probed, ReadBy};
 
 use circuit::WIRES;
 use reach::bytes::largest;
@@ -13,88 +15,105 @@ const BLOCK: usize = 64;
 // Wires of a circuit for which small marks do: they are set to 0 at each call, and those of any circuit take longer than such a circuit.
 const FEW: usize = 512;
 
-// One wire more on the list, where it is marked and the list has room; and how many are marked so far.
-fn list_wire(mark: u8, wire: usize, read: &mut [u16; 8], count: usize) -> usize
-    requires { (wire ≤ wire_limit) × (count ≤ wire_limit) × (length read.old ≡ 8) }
-    ensures { (result ≡ cond (ltb mark 1) count (count + 1)) × (read.new ≡ listed_with mark wire count read.old) }
-{
-    if mark < 1 {
-        return count;
-    }
-    if 8 <= count {
-        return count + 1;
-    }
-    read[count] = wire as u16;
-    count + 1
+// Wires on a list, at most eight.
+#[derive(Clone, Copy)]
+pub struct ReadWires {
+    pub wires: [u16; 8],
+    pub count: usize,
+    ghost sized: { length wires ≡ 8 },
+    ghost few: { count ≤ 8 },
 }
 
-// The list with the marked wires from one to another, the lowest first; and how many are marked so far.
-fn list_block(marks: &[u8], from: usize, to: usize, read: &mut [u16; 8], before: usize) -> usize
-    requires { (from ≤ to) × (to ≤ wire_limit) × (to ≤ length marks.now) × Listed marks.now from read.old before }
-    ensures { Listed marks.now to read.new result }
-{
-    let mut count = before;
-    let mut x = from;
-    while x < to {
-        count = list_wire(marks[x], x, read, count);
-        x += 1;
+impl ReadWires {
+    // An empty list.
+    fn none() -> Self
+        ensures { result.count ≡ 0 }
+    {
+        ReadWires {
+            wires: [0; 8],
+            count: 0,
+        }
     }
-    count
+
+    // The list itself.
+    pub(crate) fn as_slice(&self) -> &[u16]
+        ensures { (result.now ≡ take self.now.count self.now.wires) × (length result.now ≤ 8) }
+    {
+        &self.wires[..self.count]
+    }
+
+    // The list with a wire more, where it has room.
+    fn with(self, wire: usize) -> Option<Self>
+        requires { wire ≤ wire_limit }
+        ensures { MatchOption result (self.count ≡ 8) (λ more. take more.count more.wires ≡ take self.count self.wires ++ wire ∷ []) }
+    {
+        if self.count == 8 {
+            return None;
+        }
+        let mut wires = self.wires;
+        wires[self.count] = wire as u16;
+        Some(ReadWires {
+            wires,
+            count: self.count + 1,
+        })
+    }
 }
 
-// Where a block of wires ends that begins below a number.
-fn block_end(from: usize, wires: usize) -> usize
-    requires { from < wires }
-    ensures { (from < result) × (result ≤ wires) }
+// The list of the marked wires below a number, the lowest first, from that of those below a lower one; none where they are too many.
+fn list_block(marks: &[u8], from: usize, to: usize, before: ReadWires) -> Option<ReadWires>
+    requires { (from ≤ to) × (to ≤ wire_limit) × (to ≤ length marks.now) × (take before.count before.wires ≡ marked_below marks.now from) }
+    ensures { MatchOption result (8 < length (marked_below marks.now to)) (λ list. take list.count list.wires ≡ marked_below marks.now to) }
 {
-    if wires - from < BLOCK {
-        wires
-    } else {
-        from + BLOCK
+    let mut list = before;
+    for x in from..to {
+        if marks[x] != 0 {
+            list = list.with(x)?;
+        }
     }
+    Some(list)
 }
 
-// The list with the marked wires of a block. A whole one is passed over where no wire is marked; in fewer wires it is not asked first,
-// since bytes that were just written one by one are slow to read together.
-fn list_some(marks: &[u8], from: usize, to: usize, read: &mut [u16; 8], before: usize) -> usize
-    requires { (from ≤ to) × (to ≤ wire_limit) × (to ≤ length marks.now) × Listed marks.now from read.old before }
-    ensures { Listed marks.now to read.new result }
+// The same, a whole block being passed over where no wire is marked; in fewer wires it is not asked first, since bytes that were just
+// written one by one are slow to read together.
+fn list_some(marks: &[u8], from: usize, to: usize, before: ReadWires) -> Option<ReadWires>
+    requires { (from ≤ to) × (to ≤ wire_limit) × (to ≤ length marks.now) × (take before.count before.wires ≡ marked_below marks.now from) }
+    ensures { MatchOption result (8 < length (marked_below marks.now to)) (λ list. take list.count list.wires ≡ marked_below marks.now to) }
 {
-    if to - from < BLOCK {
-        return list_block(marks, from, to, read, before);
+    if to - from == BLOCK && largest(&marks[from..to]) == 0 {
+        return Some(before);
     }
-    if largest(marks, from, to - from) < 1 {
-        return before;
-    }
-    list_block(marks, from, to, read, before)
+    list_block(marks, from, to, before)
 }
 
-// The marked wires below a number, the lowest first, as far as the list goes; and how many there are.
-fn list_marked(marks: &[u8], wires: usize, read: &mut [u16; 8]) -> usize
-    requires { (wires ≤ wire_limit) × (wires ≤ length marks.now) × (length read.old ≡ 8) }
-    ensures { Listed marks.now wires read.new result }
+// The marked wires below a number, the lowest first; none where they are more than eight.
+fn list_marked(marks: &[u8], wires: usize) -> Option<ReadWires>
+    requires { (wires ≤ wire_limit) × (wires ≤ length marks.now) }
+    ensures { MatchOption result (8 < length (marked_below marks.now wires)) (λ list. take list.count list.wires ≡ marked_below marks.now wires) }
 {
-    let mut count = 0;
-    let mut x = 0;
-    while x < wires {
-        let to = block_end(x, wires);
-        count = list_some(marks, x, to, read, count);
-        x = to;
+    let mut list = ReadWires::none();
+    for from in (0..wires).step_by(BLOCK) {
+        list = list_some(marks, from, wires.min(from + BLOCK), list)?;
     }
-    count
+    Some(list)
 }
 
-// The wires that probes on an accepted table's wires read, the lowest first, as far as the list goes; and how many there are.
-pub(crate) fn list_read(table: &[u16], wires: usize, probes: &[u16], read: &mut [u16; 8]) -> usize
-    requires { Probed table.now wires probes.now × (length read.old ≡ 8) }
-    ensures { ListsRead table.now probes.now read.new result }
+// The wires that probes on an accepted table's wires read, with so many marks.
+fn list_by<const MARKS: usize>(table: &[u16], wires: usize, probes: &[u16]) -> Option<ReadWires>
+    requires { Probed table.now wires probes.now × (wires ≤ MARKS) × (MARKS ≤ wire_limit) }
+    ensures { MatchOption result (8 < length (read_wires (circuit_in table.now) probes.now)) (λ list. ReadBy table.now probes.now (take list.count list.wires)) }
+{
+    let mut marks = [0u8; MARKS];
+    reach_stops(table, probes, &mut marks);
+    list_marked(&marks, wires)
+}
+
+// The wires that probes on an accepted table's wires read, the lowest first; none where they are more than eight.
+pub(crate) fn list_read(table: &[u16], wires: usize, probes: &[u16]) -> Option<ReadWires>
+    requires { Probed table.now wires probes.now }
+    ensures { MatchOption result (8 < length (read_wires (circuit_in table.now) probes.now)) (λ list. ReadBy table.now probes.now (take list.count list.wires)) }
 {
     if FEW < wires {
-        let mut marks = [0u8; WIRES];
-        reach_stops(table, probes, &mut marks);
-        return list_marked(&marks, wires, read);
+        return list_by::<WIRES>(table, wires, probes);
     }
-    let mut marks = [0u8; FEW];
-    reach_stops(table, probes, &mut marks);
-    list_marked(&marks, wires, read)
+    list_by::<FEW>(table, wires, probes)
 }

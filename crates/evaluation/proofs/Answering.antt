@@ -7,7 +7,7 @@ use native.Mathlib.Nat.{add-zero, add-suc, suc-add}
 use native.Mathlib.Omega.{arith}
 use lib.Dec.{leb, ltb, eqb}
 use lib.ListN.{length}
-use borrow.Author.Tests.{eqb-true, lt-ltb, le-ltb, le-leb, lt-leb, leb-true, leb-false, ltb-true}
+use borrow.Author.Tests.{eqb-true, le-leb, lt-leb, leb-true, leb-false, ltb-true}
 use Rattle.circuit.specs.Limits.{wire_limit}
 use Rattle.circuit.specs.Lists.{nth, mem, overwrite}
 use Rattle.circuit.specs.Circuit.{Circuit, size, empty}
@@ -20,15 +20,16 @@ use Rattle.circuit.proofs.Building.{build-shares}
 use Rattle.circuit.proofs.Exact.{sound, accepted-size}
 use Rattle.semantics.specs.Values.{bits, bytes, values_of}
 use Rattle.semantics.specs.Calls.{written, bytes_rule, probes_rule, sheets_rule, circuit_of, call_rule}
-use Rattle.checker.specs.declared.Verdict.{Verdict}
-use Rattle.checker.specs.declared.Verdict.TheVariants as verdict
+use Rattle.std.specs.Prelude.{Option, Some, None, Result, Ok, Err}
+use Rattle.circuit.specs.declared.rules.Refusal.{Refusal}
+use Rattle.checker.specs.declared.Accepted.{Accepted}
 use Rattle.checker.specs.Answers.{answer_of}
 use Rattle.gadgets.specs.Internal.Accepting.{AcceptedTable, circuit_in}
 use Rattle.gadgets.proofs.Framing.{inputs_few}
 use Rattle.gadgets.proofs.Walking.{least-notes, same-circuit}
 use Rattle.simulation.specs.Internal.Evaluating.{Evaluable, Bits, Evaluates}
 use Rattle.simulation.proofs.Single.{single}
-use Rattle.evaluation.specs.Internal.Refusing.{refusal}
+use Rattle.evaluation.proofs.Refusals.{refusal}
 use Rattle.evaluation.specs.Internal.Calling.{Shortest, Judged}
 
 -- a refusal is that of the rules behind it too, and leaves a buffer as found
@@ -46,11 +47,11 @@ kept b rule rest e h = e ∙ ap (λ t. need t rule 0 0 then rest) h
 pub broken : {j : Judgement} (b : Bool) (rule : ℕ) (rest : Judgement) → j ≡ (need b rule 0 0 then rest) → b ≡ false → j ≡ refuse rule 0 0
 broken b rule rest e h = e ∙ ap (λ t. need t rule 0 0 then rest) h
 
-pub none_found : {j : Judgement} (rule i : ℕ) (xs : List ℕ) (r : ℕ) (rest : Judgement) → j ≡ (refusal rule i xs r then rest) → length xs ≤ r → j ≡ rest
-none_found rule i xs r rest e h = e ∙ rw (le-ltb r (length xs) h)
+pub none_found : {j : Judgement} (rule i : ℕ) {r : Option ℕ} (rest : Judgement) → j ≡ (refusal rule i r then rest) → r ≡ None → j ≡ rest
+none_found rule i rest e h = e ∙ rw h
 
-pub first_found : {j : Judgement} (rule i : ℕ) (xs : List ℕ) (r : ℕ) (rest : Judgement) → j ≡ (refusal rule i xs r then rest) → r < length xs → (w : ℕ) → i + r ≡ w → j ≡ refuse rule 0 w
-first_found rule i xs r rest e h w z = e ∙ rw (lt-ltb r (length xs) h) (ap (refuse rule 0) z)
+pub first_found : {j : Judgement} (rule i : ℕ) {r : Option ℕ} (rest : Judgement) → j ≡ (refusal rule i r then rest) → {x : ℕ} → r ≡ Some x → j ≡ refuse rule 0 (i + x)
+first_found rule i rest e h = e ∙ rw h
 
 -- shares, then tape
 pub then_assoc : (i j k : Judgement) → ((i then j) then k) ≡ (i then (j then k))
@@ -180,10 +181,10 @@ module _ (table notes shares tape : List ℕ) (sheets : List (List ℕ)) (probes
   holds p bytes old e = e ∙ sym (ap₂ (λ i c. written i (bytes c) old) p.passes p.of.circuit_is)
 
 -- a judged call by its answer: accepted, it rests on that; refused, its buffers are as found
-module _ {table notes shares tape probes new : List ℕ} {room : ℕ} {r : Verdict} (j : Judged table notes shares tape probes room new r) (sheets : List (List ℕ)) (shortest : Shortest room sheets) where
-  pub passed : {w n l i : ℕ} → r ≡ verdict.Accepted w n l i → Passed table notes shares tape sheets probes room w
+module _ {table notes shares tape probes new : List ℕ} {room : ℕ} {r : Result Accepted Refusal} (j : Judged table notes shares tape probes room new r) (sheets : List (List ℕ)) (shortest : Shortest room sheets) where
+  pub passed : {a : Accepted} → r ≡ Ok a → Passed table notes shares tape sheets probes room a.wires
   passed e = let (p, wires, _) = answer-pass (circuit_of table notes) (call_rule table notes shares tape sheets probes) (sym (ap answer_of e) ∙ j.answers sheets shortest) in
       passed_by table notes shares tape sheets probes room _ shortest p wires
 
-  pub left : {a b c : ℕ} → r ≡ verdict.Refused a b c → (bytes old : List ℕ) → old ≡ written (call_rule table notes shares tape sheets probes) bytes old
+  pub left : {f : Refusal} → r ≡ Err f → (bytes old : List ℕ) → old ≡ written (call_rule table notes shares tape sheets probes) bytes old
   left e bytes old = untouched (circuit_of table notes) (call_rule table notes shares tape sheets probes) (sym (ap answer_of e) ∙ j.answers sheets shortest) bytes old

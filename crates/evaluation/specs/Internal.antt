@@ -1,3 +1,2 @@
 -- For the contracts of the crate's own functions.
-pub mod Refusing
 pub mod Calling

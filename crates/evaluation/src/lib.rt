@@ -8,8 +8,8 @@ ghost use Rattle.semantics.specs.Values.{bits, values_of};
 ghost use Rattle.semantics.specs.Counts.{EqualCounts};
 ghost use Rattle.secrecy.specs.Gadgets.{Computes};
 
-use checker::Verdict;
-use circuit::WIRES;
+use checker::Accepted;
+use circuit::{Refusal, WIRES};
 use reach::readings;
 use simulation::values;
 
@@ -22,7 +22,7 @@ pub fn evaluate(
     shares: &[u8],
     tape: &[u8],
     values: &mut [u8],
-) -> Verdict
+) -> Result<Accepted, Refusal>
     ensures answered { answer_of result ≡ call_answer table.now notes.old shares.now tape.now (values.old ∷ []) [] }
     ensures noted { notes.new ≡ call_notes table.now notes.old shares.now tape.now }
     ensures valued { values.new ≡ written (call_rule table.now notes.old shares.now tape.now (values.old ∷ []) [])
@@ -32,18 +32,12 @@ pub fn evaluate(
 {
     let room = values.len();
     let none = &table[0..0];
-    let verdict = rules::judge(table, notes, shares, tape, none, room);
-    let Verdict::Accepted {
-        wires: _,
-        randoms: _,
-        latency: _,
-        inputs: _,
-    } = verdict
-    else {
-        return verdict;
+    let answer = rules::judge(table, notes, shares, tape, none, room);
+    let Ok(_) = answer else {
+        return answer;
     };
     values::fill(table, shares, tape, values);
-    verdict
+    answer
 }
 
 // Writes the value of each wire of an accepted circuit, and what the probes read. A refusal leaves both buffers as found.
@@ -55,7 +49,7 @@ pub fn read_probes(
     values: &mut [u8],
     probes: &[u16],
     reading: &mut [u8],
-) -> Verdict
+) -> Result<Accepted, Refusal>
     ensures answered { answer_of result ≡ call_answer table.now notes.old shares.now tape.now (values.old ∷ reading.old ∷ []) probes.now }
     ensures noted { notes.new ≡ call_notes table.now notes.old shares.now tape.now }
     ensures valued { values.new ≡ written (call_rule table.now notes.old shares.now tape.now (values.old ∷ reading.old ∷ []) probes.now)
@@ -65,20 +59,14 @@ pub fn read_probes(
     ensures secret { Accepts table.now notes.old
         → EqualCounts (circuit_of table.now notes.old) probes.now }
 {
-    let room = rules::smaller(values.len(), reading.len());
-    let verdict = rules::judge(table, notes, shares, tape, probes, room);
-    let Verdict::Accepted {
-        wires,
-        randoms: _,
-        latency: _,
-        inputs: _,
-    } = verdict
-    else {
-        return verdict;
+    let room = values.len().min(reading.len());
+    let answer = rules::judge(table, notes, shares, tape, probes, room);
+    let Ok(Accepted { wires, .. }) = answer else {
+        return answer;
     };
     values::fill(table, shares, tape, values);
     let mut marks = [0u8; WIRES];
     readings::reach_stops(table, probes, &mut marks);
     readings::show(&marks, values, wires, reading);
-    verdict
+    answer
 }

@@ -131,7 +131,8 @@ impl Walk {
     }
 
     // The frame at the walk's place, and the walk behind it, where a gadget takes so many random bits; none at the table's end; or
-    // which of rules 5 and 6 the words there break.
+    // which of rules 5 and 6 the words there break. A loop that called it, and had it not in its own body, would take three times as long.
+    #[inline(always)]
     #[tactic(auto, using(std::proofs::lemmas::Bool::Decides::nat_tests))]
     pub fn step(self, table: &[u16], randoms: u16) -> Result<Option<Next>, Rule>
         ensures { result ≡ step_with (shape_taking randoms self.d) table.now self.d self.at }

@@ -8,6 +8,3 @@ eights x y h k = omega (arith, mul-le-mul {n₁ = x} {m₁ = y} {n₂ = 8} {m₂
 
 pub squares : (d : ℕ) → d ≤ 8 → d * (d - 1) ≤ 64
 squares d h = eights d (d - 1) h (omega arith)
-
-pub sixteens : (x y : ℕ) → x ≤ 8 → y ≤ 16 → x * y ≤ 128
-sixteens x y h k = omega (arith, mul-le-mul {n₁ = x} {m₁ = y} {n₂ = 8} {m₂ = 16} h k)

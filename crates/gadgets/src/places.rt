@@ -99,6 +99,19 @@ pub struct Gadget {
 }
 
 impl Gadget {
+    // One of d shares, behind so many wires and random bits.
+    pub fn new(d: usize, first: usize, used: usize) -> Self
+        requires { Small first d }
+        ensures { (result.d ≡ d) × (result.first ≡ first) × (result.used ≡ used) }
+    {
+        Gadget {
+            d,
+            pairs: pairs(d),
+            first,
+            used,
+        }
+    }
+
     // AND's wire r of the shares i and j; R stands behind it.
     pub fn pair_at(self, i: usize, j: usize) -> usize
         requires { (i < self.d) × (j < self.d) × (j ≡ i → ⊥) }

@@ -3,7 +3,7 @@ use mathlib.Core.Path.{◌≡◌, sym, ap, ◌∙◌}
 use mathlib.Core.Bool.{true, false, ◌&&◌}
 use mathlib.Core.List.{List, map}
 use Prim.Native.Nat.{ℕ, ◌+◌, ◌*◌, ◌≤◌, ◌<◌}
-use native.Mathlib.Nat.{mul-le-mul_left, mul-le-mul_right}
+use native.Mathlib.Nat.{mul-le-mul_right}
 use native.Mathlib.Omega.{arith}
 use lib.Dec.{leb, eqb}
 use lib.ListN.{length}
@@ -44,19 +44,9 @@ module _ (table : List ℕ) (at by n step : ℕ) where
   pub not-rising : (i : ℕ) → i < n → (OnStep table at by step i → ⊥) → rising table at by n step ≡ false
   not-rising i l differ = cases (rising table at by n step) (λ e. absurd (differ (rises_each e i l))) (λ e. e)
 
--- the places of so many frames of one length, and of a word of each
-pub few_words : {n size : ℕ} → n ≤ 8 → size ≤ 8 → n * size ≤ 64
-few_words {n} p q = omega (arith, mul-le-mul_left n q)
-
-pub has_frames : (table : List ℕ) (at size n : ℕ) → at + n * size ≤ length table → 1 ≤ size → Has table at size n
-has_frames table at size n h l = record { each = λ i m. omega (arith, mul-le-mul_right size m) }
-
+-- the places that a word of each frame of a run has
 pub has_column : (table : List ℕ) (at size n word : ℕ) → at + n * size ≤ length table → word < size → Has table (at + word) size n
 has_column table at size n word h l = record { each = λ i m. omega (arith, mul-le-mul_right size m) }
-
--- and of words in a row
-pub has_row : (table : List ℕ) (at n : ℕ) → at + n ≤ length table → Has table at 1 n
-has_row table at n h = record { each = λ i l. omega arith }
 
 -- frames that stand from a place on are in the table
 pub run_room : (table : List ℕ) (at size n : ℕ) → alike_from table at size n ≡ true → at + n * size ≤ length table

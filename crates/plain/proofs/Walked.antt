@@ -2,7 +2,7 @@
 use mathlib.Core.Path.{◌≡◌, refl, sym, ap, ap₂, subst, subst₂, ◌∙◌}
 use mathlib.Core.Bool.{Bool, true, false, cond}
 use mathlib.Core.List.{List, [], ◌∷◌, ◌++◌, append_assoc}
-use Prim.Native.Nat.{ℕ, zero, suc, ◌+◌, ◌-◌, ◌*◌, ◌≤◌, ◌<◌}
+use Prim.Native.Nat.{ℕ, suc, ◌+◌, ◌-◌, ◌*◌, ◌≤◌, ◌<◌}
 use native.Mathlib.Nat.{mul-le-mul_left}
 use native.Mathlib.Omega.{arith}
 use lib.Dec.{eqb}
@@ -21,13 +21,14 @@ use Rattle.circuit.proofs.Sizes.{words-AND, words-REF, words-OUT}
 use Rattle.frames.specs.declared.walk.Frame.{Frame as FrameCode}
 use Rattle.frames.specs.declared.kinds.Shape.{Shape as ShapeCode}
 use Rattle.frames.specs.declared.walk.Walk.{Walk}
-use Rattle.frames.specs.declared.walk.Step.{Step}
-use Rattle.frames.specs.declared.walk.Step.TheVariants.{Next, Refused, End}
+use Rattle.frames.specs.declared.walk.Next.{Next}
+use Rattle.circuit.specs.declared.rules.Rule.{Rule}
+use Rattle.std.specs.Prelude.{Option, Some, None, Result, Ok, Err}
 use Rattle.frames.specs.Walk.{kind_code, shape_code, frame_code, behind, step_at}
 use Rattle.gadgets.specs.Internal.Accepting.{AcceptedTable, circuit_in, Between}
 use Rattle.gadgets.proofs.Walking.{second_word, so_far, between_start, fitting, same_d, all-built, ended, step_is}
 use Rattle.plain.specs.Sharings.{Plain, none, is_run, fits, joined, further, groups_from, going, whole_from, whole_of}
-use Rattle.plain.specs.Internal.Tests.{frame_fits, RowsIn, Labels, misfit}
+use Rattle.plain.specs.Internal.Tests.{frame_fits, RowsIn, Labels}
 use Rattle.plain.proofs.Kept.{Kept}
 use Rattle.plain.proofs.Framed.{frames_in_lem, groups_skip}
 use Rattle.plain.proofs.Keeping.{kept_start, kept_next}
@@ -56,11 +57,6 @@ whole_start {table} a = record {
   few = omega arith;
   same = ap₂ (λ d fs. (whole_from (empty d) none (groups_from d 1 0 fs)).judgement) (second_word a) (frames_in_lem a);
 }
-
--- the number of a frame that does not fit is the judgement
-pub named-misfit : (frame : ℕ) → 1 ≤ frame → misfit frame ≡ refuse 26 frame 0
-named-misfit zero l = absurd (omega arith)
-named-misfit (suc frame) l = refl
 
 one_more : (n : ℕ) → 1 ≤ 1 + n
 one_more n = omega arith
@@ -161,8 +157,8 @@ module _ {table notes : List ℕ} {at number : ℕ} (h : WholeTo table at number
     sized-one : length f.ops ≡ words k.d f.kind
     sized-one = (fit-sized k (f ∷ later) least time fit).0
 
-    refused : is_fit ≡ false → (whole_of table).judgement ≡ misfit number
-    refused z = judged ∙ rw z (sym (named-misfit number h.some))
+    refused : is_fit ≡ false → (whole_of table).judgement ≡ refuse 26 number 0
+    refused z = judged ∙ rw z
 
     -- the frames that go together, where they fit
     module _ (z : is_fit ≡ true) where
@@ -240,7 +236,7 @@ module _ {table notes : List ℕ} {at number : ℕ} (h : WholeTo table at number
   pub record Turn (d : ℕ) (fr : FrameCode) (sh : ShapeCode) (wk : Walk) : Type 0 where
     pub inside : at + 1 + sh.words ≤ length table
     pub rows : RowsIn table at d fr
-    pub wrong : frame_fits table notes at d fr ≡ false → (whole_of table).judgement ≡ misfit number
+    pub wrong : frame_fits table notes at d fr ≡ false → (whole_of table).judgement ≡ refuse 26 number 0
     pub right : frame_fits table notes at d fr ≡ true → Further (wk.at + more_by d sh * (1 + sh.words)) (more_by d sh)
 
   rows_in : {kind : Kind} {ops : List ℕ} → Fits k kind ops → at + 1 + words k.d kind ≤ length table → RowsIn table at k.d (frame_code (kind_code kind) ops)
@@ -272,12 +268,12 @@ module _ {table notes : List ℕ} {at number : ℕ} (h : WholeTo table at number
   unfolding whole_from groups_from
   ending e = h.same ∙ ap (λ fs. (whole_from k h.plain (groups_from a.d number 0 fs)).judgement) e
 
-  abbrev pub Meets : ℕ → Step → Type 0
-  Meets d (Next fr sh wk) = Turn d fr sh wk
-  Meets d (Refused rule) = ⊥
-  Meets d End = (whole_of table).judgement ≡ pass
+  abbrev pub Meets : ℕ → Result (Option Next) Rule → Type 0
+  Meets d (Ok (Some n)) = Turn d n.frame n.shape n.walk
+  Meets d (Ok None) = (whole_of table).judgement ≡ pass
+  Meets d (Err rule) = ⊥
 
-  pub turn : {d : ℕ} {s : Step} → d ≡ nth table 1 → step_at table d at ≡ s → Meets d s
+  pub turn : {d : ℕ} {s : Result (Option Next) Rule} → d ≡ nth table 1 → step_at table d at ≡ s → Meets d s
   turn {d} {s} same e = subst (Meets d) e (rw (same ∙ second_word a) (go b.after refl (fitting a b).1))
     where
       at_d : (P : ℕ → Type 0) → P k.d → P a.d

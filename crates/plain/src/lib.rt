@@ -9,34 +9,19 @@ ghost use Rattle.checker.specs.Answers.{answer_of};
 ghost use Rattle.plain.specs.Sharings.{whole_of, sharings_rule, sharings_answer};
 ghost use Rattle.plain.specs.Plain.{IsPlainOf};
 
-use checker::Verdict;
+use checker::Accepted;
+use circuit::Refusal;
 
 mod sharing;
 
 // Checks a table, then its sharings: 26, which is the no, at the first frame, or the first frame of a run, that fits none. The last promise says
 // what a yes is good for: the added shares are the plain circuit's bits, for all shares and tapes.
-pub fn check_sharings(table: &[u16], notes: &mut [u16]) -> Verdict
+pub fn check_sharings(table: &[u16], notes: &mut [u16]) -> Result<Accepted, Refusal>
     ensures answered { answer_of result ≡ sharings_answer table.now notes.old }
     ensures noted { notes.new ≡ notes_after (checked table.now (length notes.old)).circuit notes.old }
     ensures plain { sharings_rule table.now notes.old ≡ pass → IsPlainOf table.now (circuit_of table.now notes.old) (whole_of table.now).plain }
 {
-    let verdict = checker::check(table, notes);
-    let Verdict::Accepted {
-        wires: _,
-        randoms: _,
-        latency: _,
-        inputs: _,
-    } = verdict
-    else {
-        return verdict;
-    };
-    let frame = sharing::first_misfit(table, notes);
-    if frame != 0 {
-        return Verdict::Refused {
-            rule: 26,
-            frame,
-            word: 0,
-        };
-    }
-    verdict
+    let accepted = checker::check(table, notes)?;
+    sharing::judge(table, notes)?;
+    Ok(accepted)
 }

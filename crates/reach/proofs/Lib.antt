@@ -4,7 +4,6 @@ pub mod Highest
 pub mod Marked
 pub mod Reaching
 pub mod Moved
-pub mod Marking
 pub mod Propagating
 -- Frames listed
 pub mod Listed

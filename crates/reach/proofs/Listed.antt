@@ -4,10 +4,10 @@ use mathlib.Core.Bool.{Bool, true, false, cond, ◌&&◌}
 use mathlib.Core.List.{List, [], ◌∷◌, ◌++◌, append-nil}
 use Prim.Native.Nat.{ℕ, ◌+◌, ◌-◌, ◌*◌, ◌≤◌, ◌<◌}
 use native.Mathlib.Omega.{arith}
-use lib.Dec.{ltb, leb}
+use lib.Dec.{ltb, leb, eqb}
 use lib.ListN.{length, take, drop, set, length-append, length-drop}
-use lib.Seq.{take_at, take-add, get_or-set_same}
-use borrow.Author.Tests.{lt-ltb, ltb-true, ltb-false}
+use lib.Seq.{take_at, take-add, get_or-set_same, get_or-set_other}
+use borrow.Author.Tests.{lt-ltb, ltb-true, ltb-false, eqb-true, eqb-false}
 use Rattle.circuit.specs.Limits.{table_limit, wire_limit}
 use Rattle.circuit.specs.Lists.{nth}
 use Rattle.circuit.specs.Kinds.{kind_of, pairs, words}
@@ -15,16 +15,16 @@ use Rattle.circuit.specs.Circuit.{size, empty}
 use Rattle.circuit.specs.Composition.{Frame, build, words_of}
 use Rattle.circuit.proofs.Base.{cases}
 use Rattle.circuit.proofs.Building.{build_more, build-append}
-use Rattle.frames.specs.declared.walk.Frame.{Frame as FrameCode}
-use Rattle.frames.specs.declared.walk.Walk.{Walk}
-use Rattle.frames.specs.declared.walk.Step.TheVariants.{Next, Refused}
+use Rattle.frames.specs.declared.walk.Next.{Next}
+use Rattle.circuit.specs.declared.rules.Rule.TheVariants.{Kind, WordCount}
+use Rattle.std.specs.Prelude.{Some, Ok, Err}
 use Rattle.frames.specs.declared.kinds.Shape.{Shape as ShapeCode}
 use Rattle.frames.specs.Walk.{kind_code, shape_taking, frame_code, operands_at, behind, step_with}
 use Rattle.frames.proofs.KindTable.{right_step}
 use Rattle.gadgets.specs.Internal.Accepting.{AcceptedTable, circuit_in, Between}
-use Rattle.gadgets.proofs.Stored.{nth-set}
 use Rattle.gadgets.proofs.Walking.{whole-few, so_far, between_start, wires-grow, second_word, Met, Answers, step_answers}
-use Rattle.reach.specs.Internal.Listing.{wires_before, ListedTo, Lists}
+use Rattle.reach.specs.declared.listing.Listed.{Listed}
+use Rattle.reach.specs.Internal.Listing.{at_place, start_of, first_of, wires_before, ListedTo, Lists}
 
 -- the frames before a place, by their number; and how many wires they make
 pub before-is : {table : List ℕ} {fs : List Frame} {at : ℕ} (b : Between table fs at) {n : ℕ} → length b.before ≡ n → b.before ≡ take n fs
@@ -46,8 +46,8 @@ module _ {table : List ℕ} (a : AcceptedTable table) where
       let e : j ≡ i + (j - i) = omega arith in
       rw (e, take-add i (j - i) a.fs) (build-grow (take i a.fs) (take (j - i) (drop i a.fs)))
 
-pub listed_start : {table : List ℕ} → AcceptedTable table → (starts firsts : List ℕ) → ListedTo table starts firsts 2 0 0
-listed_start a starts firsts = record {
+pub listed_start : {table : List ℕ} → AcceptedTable table → (list : List Listed) → ListedTo table list 2 0 0
+listed_start a list = record {
   accepted = a;
   between = between_start a;
   counted = refl;
@@ -57,6 +57,12 @@ listed_start a starts firsts = record {
   spaced = omega arith;
 }
 
+-- an entry of a list in which one was written
+listed_set : {A : Type 0} (list : List Listed) (p : ℕ) (e : Listed) (x : ℕ) → p < length list → (x ≡ p → at_place (set list p e) x ≡ e → A) → ((x ≡ p → ⊥) → at_place (set list p e) x ≡ at_place list x → A) → A
+listed_set list p e x room f g = cases (eqb x p)
+    (λ h. let q = eqb-true x p h in f q (ap (at_place (set list p e)) q ∙ get_or-set_same list p e _ room))
+    (λ h. g (eqb-false x p h) (get_or-set_other list p x e _ (eqb-false x p h)))
+
 -- a frame passed: the next begins behind it, and the numbers stay small
 pub record Passes (words at next first wires count : ℕ) : Type 0 where
   pub past : at + 2 ≤ next
@@ -65,7 +71,7 @@ pub record Passes (words at next first wires count : ℕ) : Type 0 where
   pub few : first + wires ≤ wire_limit
   pub room : 2 * count + 2 ≤ words
 
-module _ {table starts firsts : List ℕ} {at first count : ℕ} (l : ListedTo table starts firsts at first count) where
+module _ {table : List ℕ} {list : List Listed} {at first count : ℕ} (l : ListedTo table list at first count) where
   abbrev a : AcceptedTable table
   a = l.accepted
 
@@ -90,7 +96,7 @@ module _ {table starts firsts : List ℕ} {at first count : ℕ} (l : ListedTo t
     abbrev next : ℕ
     next = at + (1 + shape.words)
 
-    the_frame : (k m : Bool) {d w from : ℕ} {fr : FrameCode} {sh : ShapeCode} {wk : Walk} → Answers a l.between d w from (cond k (cond m (Next fr sh wk) (Refused 6)) (Refused 5)) → Met a l.between d w from fr sh wk
+    the_frame : (k m : Bool) {d w from : ℕ} {n : Next} → Answers a l.between d w from (cond k (cond m (Ok (Some n)) (Err WordCount)) (Err Kind)) → Met a l.between d w from n.frame n.shape n.walk
     the_frame true true m = m
     the_frame true false m = absurd m
     the_frame false k m = absurd m
@@ -108,17 +114,17 @@ module _ {table starts firsts : List ℕ} {at first count : ℕ} (l : ListedTo t
       room = omega (arith, l.spaced, l.between.most);
     }
 
-    pub listed_next : count < length starts → count < length firsts → ListedTo table (set starts count at) (set firsts count first) next (first + shape.wires) (count + 1)
-    listed_next room room' = record {
+    pub listed_next : count < length list → ListedTo table (set list count (record { start = at; first = first })) next (first + shape.wires) (count + 1)
+    listed_next room = record {
       accepted = a;
       between = onward.0;
       counted = onward.1;
-      starts_are = λ i h. nth-set starts count at i room
-          (λ same z. rw z (l.between, before-is l.between (l.counted ∙ sym same)))
-          (λ other z. rw z (l.starts_are i (omega arith)));
-      firsts_are = λ i h. nth-set firsts count first i room'
-          (λ same z. z ∙ l.first_is ∙ ap (wires_before a) (sym same))
-          (λ other z. z ∙ l.firsts_are i (omega arith));
+      starts_are = λ i h. listed_set list count (record { start = at; first = first }) i room
+          (λ same z. rw (start_of, z) (l.between, before-is l.between (l.counted ∙ sym same)))
+          (λ other z. rw (start_of, z) (l.starts_are i (omega arith)));
+      firsts_are = λ i h. listed_set list count (record { start = at; first = first }) i room
+          (λ same z. rw (first_of, z) (l.first_is ∙ ap (wires_before a) (sym same)))
+          (λ other z. rw (first_of, z) (l.firsts_are i (omega arith)));
       first_is = omega (arith, first_so_far, met.wires_next, wires-before a met.onward {n = count + 1} (omega (arith, met.longer, l.counted)));
       spaced = omega (arith, l.spaced, met.later);
     }
@@ -127,16 +133,18 @@ module _ {table starts firsts : List ℕ} {at first count : ℕ} (l : ListedTo t
         onward = subst (λ (n : ℕ). (b : Between table a.fs n) × (length b.before ≡ count + 1)) (omega arith) (met.onward, omega (arith, met.longer, l.counted))
 
   -- the frames so far, and behind them how many wires come before
-  pub listed_end : count < length firsts → Lists table starts (set firsts count first) count × (nth (set firsts count first) count ≡ first)
-  listed_end room = (
+  pub listed_end : count < length list → (last : Listed) → last.first ≡ first → Lists table (set list count last) count × (first_of (set list count last) count ≡ first)
+  listed_end room last e = (
     record {
       accepted = a;
       most = omega (arith, l.counted, ap length l.between.split, length-append l.between.before l.between.after);
       few = omega (arith, l.spaced, l.between.most);
-      starts_are = l.starts_are;
-      firsts_are = λ i h. nth-set firsts count first i room
-          (λ same z. z ∙ l.first_is ∙ ap (wires_before a) (sym same))
-          (λ other z. z ∙ l.firsts_are i (omega arith));
+      starts_are = λ i h. listed_set list count last i room
+          (λ same z. absurd (omega arith))
+          (λ other z. rw (start_of, z) (l.starts_are i h));
+      firsts_are = λ i h. listed_set list count last i room
+          (λ same z. rw (first_of, z) (e ∙ l.first_is ∙ ap (wires_before a) (sym same)))
+          (λ other z. rw (first_of, z) (l.firsts_are i (omega arith)));
     },
-    get_or-set_same firsts count first 0 room,
+    ap (λ (l : Listed). l.first) (get_or-set_same list count last _ room) ∙ e,
   )

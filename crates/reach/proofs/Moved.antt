@@ -113,13 +113,16 @@ cross_moved x a b r marks {one} {two} p q s = rw s
     (moves_then (omega arith) (moves_at refl (omega arith) (moves_stop (x + 1) two (λ g h. ap is_stop h.1)))
     (moves_gate x (and_not a (r + 1)) two refl (λ g h. h.0)))))))
 
-pub six_apart_turn : (x count k : ℕ) → k < count → six_apart x (count - k) ≡ x ∷ six_apart (x + 6) (count - (k + 1))
+pub six_apart_turn : (from count k : ℕ) → k < count → six_apart (from + 6 * k) (count - k) ≡ (from + 6 * k) ∷ six_apart (from + 6 * (k + 1)) (count - (k + 1))
 unfolding six_apart
-six_apart_turn x count k h = let e : count - k ≡ suc (count - (k + 1)) = omega arith in ap (six_apart x) e
+six_apart_turn from count k h =
+    let e : count - k ≡ suc (count - (k + 1)) = omega arith in
+    let f : from + 6 * k + 6 ≡ from + 6 * (k + 1) = omega arith in
+    rw (e, f)
 
-pub six_apart_end : (x count k : ℕ) → count ≤ k → six_apart x (count - k) ≡ []
+pub six_apart_end : (from count k : ℕ) → count ≤ k → six_apart (from + 6 * k) (count - k) ≡ []
 unfolding six_apart
-six_apart_end x count k h = let e : count - k ≡ 0 = omega arith in ap (six_apart x) e
+six_apart_end from count k h = let e : count - k ≡ 0 = omega arith in ap (six_apart (from + 6 * k)) e
 
 -- the outputs from i on
 pub outs-moved : (d first i : ℕ) {n : ℕ} {old mid new : List ℕ} → i < d → n ≡ i + 1 → Moves (OutGates d first) (out_at d first n) (out_at d first d) old mid

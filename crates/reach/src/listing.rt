@@ -1,74 +1,53 @@
 // The frames of an accepted table, listed: where each begins, and how many wires come before it.
-ghost use Rattle.std.specs.Prelude.{◌≤◌, ◌<◌};
-ghost use Rattle.circuit.specs.Lists.{nth};
+ghost use Rattle.std.specs.Prelude.{◌≤◌};
 ghost use Rattle.circuit.specs.Circuit.{size};
 ghost use Rattle.gadgets.specs.Internal.Accepting.{AcceptedTable, circuit_in};
-ghost use Rattle.reach.specs.Internal.Listing.{Room, ListedTo, Lists};
+ghost use Rattle.reach.specs.Internal.Listing.{Room, Lists, first_of};
 
 use frames::kinds::decide;
 use frames::randoms::random_bits;
 
-// How far a list goes: where the next frame begins, and how many wires and frames come before it.
+// A frame of a table: where it begins, and how many wires come before it.
 #[derive(Clone, Copy)]
-pub(crate) struct ListEnd {
-    at: usize,
-    first: usize,
-    count: usize,
+pub(crate) struct Listed {
+    pub start: u16,
+    pub first: u16,
 }
 
-// The next frame, and those of its kind that follow it, as long as fewer wires than `limit` come before. Frames of one kind stand in
-// rows: the place of the next is then known before its kind word is read.
-fn list_row(
-    table: &[u16],
-    limit: usize,
-    from: ListEnd,
-    starts: &mut [u16],
-    firsts: &mut [u16],
-) -> ListEnd
-    requires { ListedTo table.now starts.old firsts.old from.at from.first from.count × (from.first < limit) × (limit ≤ size (circuit_in table.now)) × Room table.now starts.old firsts.old }
-    ensures { ListedTo table.now starts.new firsts.new result.at result.first result.count × (from.at < result.at) }
-{
-    let d = table[1];
-    let mut at = from.at;
-    let mut first = from.first;
-    let mut count = from.count;
-    let kind = table[at];
-    let shape = decide(kind, d, random_bits(d));
-    loop {
-        starts[count] = at as u16;
-        firsts[count] = first as u16;
-        count += 1;
-        at += 1 + shape.words;
-        first += shape.wires;
-        if limit <= first {
-            return ListEnd { at, first, count };
-        }
-        if table[at] != kind {
-            return ListEnd { at, first, count };
-        }
-    }
+impl Listed {
+    pub const NONE: Listed = Listed { start: 0, first: 0 };
 }
 
 // The frames that make the wires below `limit`, and behind the last of them how many wires come before; the answer is how many frames
-// these are.
-pub(crate) fn list_frames(
-    table: &[u16],
-    limit: usize,
-    starts: &mut [u16],
-    firsts: &mut [u16],
-) -> usize
-    requires { AcceptedTable table.now × (limit ≤ size (circuit_in table.now)) × Room table.now starts.old firsts.old }
-    ensures { Lists table.now starts.new firsts.new result × (limit ≤ nth firsts.new result) }
+// these are. Frames of one kind stand in rows: the place of the next is then known before its kind word is read.
+pub(crate) fn list_frames(table: &[u16], limit: usize, list: &mut [Listed]) -> usize
+    requires { AcceptedTable table.now × (limit ≤ size (circuit_in table.now)) × Room table.now list.old }
+    ensures { Lists table.now list.new result × (limit ≤ first_of list.new result) }
 {
-    let mut listed = ListEnd {
-        at: 2,
-        first: 0,
-        count: 0,
-    };
-    while listed.first < limit {
-        listed = list_row(table, limit, listed, starts, firsts);
+    let d = table[1];
+    let randoms = random_bits(d);
+    let mut kind = 0;
+    let mut shape = decide(kind, d, randoms);
+    let mut at = 2;
+    let mut first = 0;
+    let mut count = 0;
+    // a frame has as many words and wires as its kind says
+    while first < limit {
+        if table[at] != kind {
+            kind = table[at];
+            shape = decide(kind, d, randoms);
+        }
+        list[count] = Listed {
+            start: at as u16,
+            first: first as u16,
+        };
+        count += 1;
+        at += 1 + shape.words;
+        first += shape.wires;
     }
-    let count = listed.count;
-    firsts[count] = listed.first as u16;
+    list[count] = Listed {
+        start: at as u16,
+        first: first as u16,
+    };
     count
 }

@@ -1,23 +1,22 @@
 // What probes read: marks on probed wires, moved on frame by frame from the last to the first, and shown where they end.
-ghost use Rattle.std.specs.Prelude.{◌≡◌, ℕ, ◌+◌, ◌≤◌, ◌<◌, length};
-ghost use Rattle.circuit.specs.Limits.{wire_limit};
-ghost use Rattle.circuit.specs.Lists.{nth};
+ghost use Rattle.std.specs.Prelude.{◌≡◌, ℕ, ◌+◌, ◌*◌, ◌≤◌, ◌<◌, length};
+ghost use Rattle.circuit.specs.Limits.{wire_limit, table_limit};
 ghost use Rattle.circuit.proofs.Base.{In};
 ghost use Rattle.circuit.specs.Circuit.{size};
 ghost use Rattle.gadgets.specs.Internal.Places.{word_a, word_b};
 ghost use Rattle.gadgets.specs.Internal.Gates.{AndGates, FrameGates};
-ghost use Rattle.gadgets.specs.Internal.Frames.{frame_wires, Small, FrameEarly};
+ghost use Rattle.gadgets.specs.Internal.Frames.{frame_wires, FrameEarly};
 ghost use Rattle.gadgets.specs.Internal.Accepting.{circuit_in};
 ghost use Rattle.reach.specs.Internal.Marks.{Marked, mark_all, Moves, GatesOf, Unmarked, shown_at};
-ghost use Rattle.reach.specs.Internal.Listing.{Room, Lists};
+ghost use Rattle.reach.specs.Internal.Listing.{Room, Lists, first_of};
 ghost use Rattle.reach.specs.Internal.Reading.{Reachable, OnStops, Shows};
 
-use super::listing::list_frames;
+use super::listing::{Listed, list_frames};
 use super::{bytes, reach};
 use circuit::{TABLE_WORDS, WIRES};
 use frames::randoms::random_bits;
-use frames::walk::{Frame, Gate, Step, Walk};
-use gadgets::places;
+use frames::walk::{Frame, Gate, Walk};
+use gadgets::places::Gadget;
 
 // The most frames behind HEAD: each of them, and HEAD too, has at least two words.
 const FRAMES: usize = TABLE_WORDS / 2;
@@ -28,26 +27,17 @@ const FEW_FRAMES: usize = FEW_WORDS / 2;
 // Frames that are passed over together where no wire of theirs is marked.
 const FRAME_BLOCK: usize = 16;
 
-// The larger of two numbers.
-fn larger(one: u16, other: u16) -> u16
-    ensures { (one ≤ result) × (other ≤ result) × ((n : ℕ) → one < n → other < n → result < n) }
-{
-    if one < other { other } else { one }
-}
-
 // One past the highest probed wire, 0 without probes. A search of the marks, which reads many at once, would wait for those that were
 // just written one by one; and a loop that also marks would go slowly.
 fn marks_end(probes: &[u16]) -> usize
     ensures { ((x : ℕ) → In x probes.now → x < result) × ((wires : ℕ) → ((x : ℕ) → In x probes.now → x < wires) → result ≤ wires) }
 {
-    if probes.len() == 0 {
+    if probes.is_empty() {
         return 0;
     }
     let mut most: u16 = 0;
-    let mut i = 0;
-    while i < probes.len() {
-        most = larger(most, probes[i]);
-        i += 1;
+    for &wire in probes {
+        most = most.max(wire);
     }
     most as usize + 1
 }
@@ -57,151 +47,120 @@ fn mark(marks: &mut [u8], probes: &[u16])
     requires { (x : ℕ) → In x probes.now → x < length marks.old }
     ensures { marks.new ≡ mark_all marks.old probes.now }
 {
-    let mut i = 0;
-    while i < probes.len() {
-        let wire = probes[i] as usize;
-        marks[wire] = 1;
-        i += 1;
+    for &wire in probes {
+        marks[wire as usize] = 1;
     }
 }
 
 // AND's wires, where one of them is marked.
-fn propagate_and(marks: &mut [u8], first: usize, d: usize, ops: &[u16])
-    requires { Small first d × (first + frame_wires Frame.And d ≤ length marks.old) × FrameEarly Frame.And d first ops.now }
-    ensures { Moves (λ g. AndGates g d first (word_a ops.now) (word_b d ops.now)) first (first + frame_wires Frame.And d) marks.old marks.new }
+fn propagate_and(marks: &mut [u8], gadget: Gadget, ops: &[u16])
+    requires { (gadget.first + frame_wires Frame.And gadget.d ≤ length marks.old) × FrameEarly Frame.And gadget.d gadget.first ops.now }
+    ensures { Moves (λ g. AndGates g gadget.d gadget.first (word_a ops.now) (word_b gadget.d ops.now)) gadget.first (gadget.first + frame_wires Frame.And gadget.d) marks.old marks.new }
 {
-    let most = bytes::largest(marks, first, places::and_wires(d));
-    if most < 1 {
-        return;
+    let end = gadget.first + gadget.and_wires();
+    if 0 < bytes::largest(&marks[gadget.first..end]) {
+        reach::propagate_and(marks, gadget, ops);
     }
-    reach::propagate_and(marks, first, d, ops);
 }
 
-// A frame's wires.
-fn propagate_frame(marks: &mut [u8], frame: Frame, d: usize, first: usize, ops: &[u16])
-    requires { Small first d × (first + frame_wires frame d ≤ length marks.old) × FrameEarly frame d first ops.now }
-    ensures { (from : ℕ) → Moves (FrameGates frame d first from ops.now) first (first + frame_wires frame d) marks.old marks.new }
+// A frame's wires, from where a gadget would stand there.
+fn propagate_frame(marks: &mut [u8], frame: Frame, place: Gadget, ops: &[u16])
+    requires { (place.first + frame_wires frame place.d ≤ length marks.old) × FrameEarly frame place.d place.first ops.now }
+    ensures { (from : ℕ) → Moves (FrameGates frame place.d place.first from ops.now) place.first (place.first + frame_wires frame place.d) marks.old marks.new }
 {
     match frame {
         Frame::Gate(gate) => match gate {
-            Gate::In { stage: _ } => {}
-            Gate::Con {
-                label: _,
-                value: _,
-                stage: _,
-            } => {}
-            Gate::Xor {
-                first: one,
-                second: other,
-            } => reach::propagate_gate(marks, first, one, other),
-            Gate::Not { wire } => reach::propagate_gate(marks, first, wire, wire),
-            Gate::Reg { wire: _ } => {}
+            Gate::In { .. } => {}
+            Gate::Con { .. } => {}
+            Gate::Xor { first, second } => {
+                reach::propagate(marks, place.first, first as usize, second as usize)
+            }
+            Gate::Not { wire } => {
+                reach::propagate(marks, place.first, wire as usize, wire as usize)
+            }
+            Gate::Reg { .. } => {}
             Gate::Out => {}
         },
-        Frame::And => propagate_and(marks, first, d, ops),
-        Frame::Ref => reach::propagate_refresh(marks, first, d, ops),
+        Frame::And => propagate_and(marks, place, ops),
+        Frame::Ref => reach::propagate_refresh(marks, place, ops),
     }
 }
 
 // The marks on the wires of the listed frames from one to another, moved on, the last frame first.
-fn propagate_block(
-    table: &[u16],
-    starts: &[u16],
-    firsts: &[u16],
-    from: usize,
-    to: usize,
-    marks: &mut [u8],
-)
-    requires { Lists table.now starts.now firsts.now to × (from ≤ to) × Room table.now starts.now firsts.now × (size (circuit_in table.now) ≤ length marks.old) }
-    ensures { Moves (GatesOf table.now) (nth firsts.now from) (nth firsts.now to) marks.old marks.new }
+fn propagate_block(table: &[u16], list: &[Listed], from: usize, to: usize, marks: &mut [u8])
+    requires { Lists table.now list.now to × (from ≤ to) × Room table.now list.now × (size (circuit_in table.now) ≤ length marks.old) }
+    ensures { Moves (GatesOf table.now) (first_of list.now from) (first_of list.now to) marks.old marks.new }
 {
     let d = table[1];
-    let n = d as usize;
     let randoms = random_bits(d);
-    let mut i = to;
-    while from < i {
-        i -= 1;
+    for i in (from..to).rev() {
+        let listed = list[i];
         let walk = Walk {
             d,
-            at: starts[i] as usize,
+            at: listed.start as usize,
         };
-        let step = walk.step(table, randoms);
-        match step {
-            Step::End => {
-                return;
-            }
-            Step::Refused { rule: _ } => {
-                return;
-            }
-            Step::Next {
-                frame,
-                shape: _,
-                walk: _,
-            } => {
-                let ops = walk.operands(table);
-                propagate_frame(marks, frame, n, firsts[i] as usize, ops);
-            }
-        }
+        // an accepted table has a frame at each listed place
+        let Ok(Some(next)) = walk.step(table, randoms) else {
+            return;
+        };
+        let place = Gadget {
+            d: d as usize,
+            pairs: randoms as usize,
+            first: listed.first as usize,
+            // no random bit is read here
+            used: 0,
+        };
+        propagate_frame(marks, next.frame, place, walk.operands(table));
     }
 }
 
 // The marks moved on, from the last listed frame to the first. The last block of frames is not asked for a mark, as the list ends at the
 // highest one; each other is passed over where no wire of its frames is marked.
-fn propagate_frames(table: &[u16], starts: &[u16], firsts: &[u16], count: usize, marks: &mut [u8])
-    requires { Lists table.now starts.now firsts.now count × Room table.now starts.now firsts.now × (size (circuit_in table.now) ≤ length marks.old) }
-    ensures { Moves (GatesOf table.now) 0 (nth firsts.now count) marks.old marks.new }
+fn propagate_frames(table: &[u16], list: &[Listed], count: usize, marks: &mut [u8])
+    requires { Lists table.now list.now count × Room table.now list.now × (size (circuit_in table.now) ≤ length marks.old) }
+    ensures { Moves (GatesOf table.now) 0 (first_of list.now count) marks.old marks.new }
 {
-    if count == 0 {
-        return;
-    }
-    let mut to = bytes::block_start(count, FRAME_BLOCK);
-    propagate_block(table, starts, firsts, to, count, marks);
+    let mut to = count.saturating_sub(FRAME_BLOCK);
+    propagate_block(table, list, to, count, marks);
     while 0 < to {
-        let from = bytes::block_start(to, FRAME_BLOCK);
-        let low = firsts[from] as usize;
-        let high = firsts[to] as usize;
-        if 0 < bytes::largest(marks, low, high - low) {
-            propagate_block(table, starts, firsts, from, to, marks);
+        let from = to.saturating_sub(FRAME_BLOCK);
+        let low = list[from].first as usize;
+        let high = list[to].first as usize;
+        let marked = 0 < bytes::largest(&marks[low..high]);
+        if marked {
+            propagate_block(table, list, from, to, marks);
         }
         to = from;
     }
 }
 
 // From clear marks, a mark on exactly the stops that the probes on an accepted table's wires read; the frames that make the marked
-// wires are listed on the way.
-fn reach_listed(
-    table: &[u16],
-    starts: &mut [u16],
-    firsts: &mut [u16],
-    probes: &[u16],
-    marks: &mut [u8],
-)
-    requires { Reachable table.now probes.now marks.old × Room table.now starts.old firsts.old }
+// wires are listed on the way, in a list of so many.
+fn reach_listed<const FRAMES: usize>(table: &[u16], probes: &[u16], marks: &mut [u8])
+    requires { Reachable table.now probes.now marks.old × (length table.now ≤ 2 * FRAMES) × (2 * FRAMES ≤ table_limit) }
     ensures { OnStops (circuit_in table.now).wires probes.now marks.new }
 {
+    let mut list = [Listed::NONE; FRAMES];
     mark(marks, probes);
     let end = marks_end(probes);
-    let count = list_frames(table, end, starts, firsts);
-    propagate_frames(table, starts, firsts, count, marks);
+    let count = list_frames(table, end, &mut list);
+    propagate_frames(table, &list, count, marks);
 }
 
-// The same, with lists of its own.
+// The same, by a list that is long enough for the table.
 pub fn reach_stops(table: &[u16], probes: &[u16], marks: &mut [u8])
     requires { Reachable table.now probes.now marks.old }
     ensures { OnStops (circuit_in table.now).wires probes.now marks.new }
 {
     if FEW_WORDS < table.len() {
-        let mut starts = [0u16; FRAMES];
-        let mut firsts = [0u16; FRAMES];
-        reach_listed(table, &mut starts, &mut firsts, probes, marks);
-        return;
+        reach_listed::<FRAMES>(table, probes, marks);
+    } else {
+        reach_listed::<FEW_FRAMES>(table, probes, marks);
     }
-    let mut starts = [0u16; FEW_FRAMES];
-    let mut firsts = [0u16; FEW_FRAMES];
-    reach_listed(table, &mut starts, &mut firsts, probes, marks);
 }
 
 // A wire's byte of the reading: its value where it is marked, 2 elsewhere.
+#[tactic(auto, using(std::proofs::lemmas::Bool::Decides::nat_tests))]
 fn shown(mark: u8, value: u8) -> u8
     ensures { result ≡ shown_at mark value }
 {
@@ -213,13 +172,10 @@ pub fn show(marks: &[u8; WIRES], values: &[u8], wires: usize, reading: &mut [u8]
     requires { (wires ≤ wire_limit) × (wire_limit ≤ length values.now) × (wire_limit ≤ length reading.old) × ((x : ℕ) → Marked marks.now x → x < wires) }
     ensures { Shows marks.now values.now reading.old reading.new }
 {
-    let mut x = 0;
-    while x < wires {
+    for x in 0..wires {
         reading[x] = shown(marks[x], values[x]);
-        x += 1;
     }
-    while x < WIRES {
+    for x in wires..WIRES {
         reading[x] = 2;
-        x += 1;
     }
 }

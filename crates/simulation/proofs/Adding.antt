@@ -2,12 +2,16 @@
 use mathlib.Core.Path.{◌≡◌, refl, sym, ap, ap₂, ◌∙◌}
 use mathlib.Core.List.{List, [], ◌∷◌, ◌++◌, map}
 use Prim.Native.Nat.{ℕ, zero, suc, ◌+◌, ◌-◌, ◌*◌, ◌/◌, ◌%◌, ◌≤◌, ◌<◌}
+use native.Mathlib.Nat.{sub-zero}
 use native.Mathlib.Omega.{arith}
+use lib.Dec.{eqb}
+use mathlib.Core.Bool.{not}
+use borrow.Author.Tests.{ne_eqb}
 use lib.Arith.{bin_ind}
 use lib.Bits.{bit_xor, differ, xor_step, xor_comm, xor_zero_r, xor_shr}
-use Rattle.circuit.specs.Lists.{range}
+use Rattle.circuit.specs.Lists.{range, filter}
 use Rattle.circuit.specs.Gadgets.{others}
-use Rattle.circuit.proofs.Base.{In, in_head, in_tail}
+use Rattle.circuit.proofs.Base.{In, in_head, in_tail, eqb_sym, eqb_refl}
 use Rattle.gadgets.proofs.Ranges.{range_turn, range_end, others-split}
 use Rattle.simulation.specs.Internal.Filling.{Values, word_sum}
 
@@ -74,3 +78,22 @@ add_others f word d i l =
     let lower = range 0 (i - 0) in
     let upper = range (i + 1) (d - (i + 1)) in
     xor_assoc word (word_sum lower f) (word_sum upper f) ∙ ap (bit_xor word) (sym (ap (λ r. word_sum r f) (others-split d i l) ∙ word_sum-append f lower upper))
+
+-- the same of the numbers other than i
+abbrev pub rest : (d i j : ℕ) → List ℕ
+rest d i j = filter (λ k. not (eqb i k)) (range j (d - j))
+
+module _ {whole : ℕ} (sum : ℕ) (f : Values) (d i : ℕ) where
+  pub rest_start : whole ≡ bit_xor sum (word_sum (others d i) f) → whole ≡ bit_xor sum (word_sum (rest d i 0) f)
+  rest_start e = simp sub-zero e
+
+  module _ (j : ℕ) (so_far : whole ≡ bit_xor sum (word_sum (rest d i j) f)) where
+    pub rest_itself : j < d → j ≡ i → whole ≡ bit_xor sum (word_sum (rest d i (j + 1)) f)
+    rest_itself l e = so_far ∙ ap (λ xs. bit_xor sum (word_sum (filter (λ k. not (eqb i k)) xs) f)) (range_turn d j l) ∙ rw (e, eqb_refl i)
+
+    pub rest_turn : j < d → (j ≡ i → ⊥) → whole ≡ bit_xor (bit_xor sum (f j)) (word_sum (rest d i (j + 1)) f)
+    rest_turn l ne = so_far ∙ ap (λ xs. bit_xor sum (word_sum (filter (λ k. not (eqb i k)) xs) f)) (range_turn d j l)
+        ∙ rw (eqb_sym i j, ne_eqb j i ne) (sym (xor_assoc sum (f j) (word_sum (rest d i (j + 1)) f)))
+
+    pub rest_end : d ≤ j → sum ≡ whole
+    rest_end h = sym (so_far ∙ ap (λ xs. bit_xor sum (word_sum (filter (λ k. not (eqb i k)) xs) f)) (range_end d j h) ∙ xor_zero_r sum)

@@ -1,5 +1,6 @@
 -- The values of an accepted table's wires, frame by frame: those of the frames before the walk's place are filled in.
 use mathlib.Core.Path.{◌≡◌, refl, ap, subst, subst₂, ◌∙◌}
+use mathlib.Core.Bool.{Bool, true, true≢false}
 use mathlib.Core.List.{List, []}
 use Prim.Native.Nat.{ℕ, ◌+◌, ◌*◌, ◌≤◌}
 use native.Mathlib.Omega.{arith}
@@ -16,10 +17,15 @@ use Rattle.gadgets.proofs.Walking.{whole, whole_ordered, Met}
 use Rattle.simulation.specs.Internal.Filling.{Known, Fills, FrameValues}
 use Rattle.simulation.specs.Internal.Evaluating.{Evaluable, Evaluates}
 use Rattle.simulation.proofs.Filled.{known-all}
-use Rattle.simulation.specs.Internal.Walked.{values_at, FilledTo}
+use Rattle.simulation.specs.Internal.Walked.{values_at, FilledTo, GateWritten}
 use Rattle.simulation.proofs.Walked.{walked_start, rank_is, frame-within, walked_next, walked_all}
 use Rattle.simulation.proofs.Equations.{frame-values}
 use Rattle.simulation.proofs.Single.{one, packs}
+
+-- a gate of one wire is written
+pub written : {fr : FrameCode} {first : ℕ} {old new : List ℕ} → ((d : ℕ) → frame_wires fr d ≡ 1)
+    → ((d from used : ℕ) (ops shares tape : List ℕ) → Fills (FrameValues fr 1 d first from used ops shares tape) first (first + frame_wires fr d) old new) → GateWritten fr first old new true
+written one fills = record { gate = λ e. one; fills = λ e. fills; left = λ e. absurd (true≢false e); other = λ e. absurd (true≢false e) }
 
 pub filled_start : {table shares tape old : List ℕ} → Evaluable table shares tape (length old) → FilledTo table shares tape old old 2 0 0 0
 filled_start e = record { walked = walked_start e; known = λ shared drawn x l u. absurd (omega arith); above = λ x l. refl; sized = refl }
@@ -54,6 +60,10 @@ module _ {table shares tape old values : List ℕ} {place w from used : ℕ} (f 
         let none : from + d * sh.inputs ≡ from = ap (λ n. from + d * n) i ∙ omega arith in
         let bare : used + sh.randoms ≡ used = omega (arith, r) in
         subst₂ (λ (k l : ℕ). FilledTo table shares tape old new at n k l) none bare g
+
+    -- a gate of one wire that is written
+    pub gate-filled : {new : List ℕ} {r : Bool} → GateWritten fr w values new r → r ≡ true → FilledTo table shares tape old new wk.at (w + sh.wires) from used
+    gate-filled g is = few_kept (omega (arith, m.as_many, g.gate is d)) (frame-filled _ (g.fills is d from used (operands_at table d place) shares tape))
 
   -- all frames are filled in
   pub all-filled : f.walked.between.after ≡ [] → Evaluates table shares tape old values

@@ -1,14 +1,19 @@
 -- Sheets on which values are filled in: one wire more, one part behind another.
 use mathlib.Core.Path.{◌≡◌, refl, sym, ap, subst, subst₂, ◌∙◌}
 use mathlib.Core.List.{List}
-use Prim.Native.Nat.{ℕ, ◌+◌, ◌≤◌, ◌<◌}
+use Prim.Native.Nat.{ℕ, ◌+◌, ◌-◌, ◌≤◌, ◌<◌}
 use native.Mathlib.Omega.{arith}
 use lib.Dec.{ltb}
-use lib.ListN.{length, set, length-set}
+use lib.ListN.{length, set, take, drop, length-set, length-drop}
+use lib.Seq.{get_or-take, get_or-drop, length-take-le}
+use Rattle.std.proofs.Common.{rules}
+use borrow.Rule.Slice.PartMut.{put_mid}
+use Rattle.std.proofs.lemmas.List.{places}
 use borrow.Author.Tests.{ltb-true, ltb-false}
 use Rattle.circuit.proofs.Base.{cases}
 use Rattle.gadgets.proofs.Stored.{nth-set}
-use Rattle.simulation.specs.Internal.Filling.{Values, Known, Fills}
+use Rattle.circuit.specs.Lists.{nth}
+use Rattle.simulation.specs.Internal.Filling.{Values, Known, Fills, Copied}
 
 -- the values up to the end of what is filled in
 pub known-all : {E : Values → Type 0} {from to : ℕ} {old new : List ℕ} → Fills E from to old new → (v : Values) → E v → Known v 0 from old → Known v 0 to new
@@ -62,3 +67,20 @@ fills-set {E} {from} {p} {to} {old} {mid} e place h f = record {
 pub fills_one : {E : Values → Type 0} (first : ℕ) (sheet : List ℕ) (e : ℕ) → first < length sheet → ((v : Values) → E v → Known v 0 first sheet → e ≡ v first)
     → Fills E first (first + 1) sheet (set sheet first e)
 fills_one first sheet e room h = fills-set e (omega arith) h (fills-none first sheet)
+
+-- bytes copied from another buffer
+pub fills_copied : (source : List ℕ) (from at count k n : ℕ) (old part : List ℕ) → at + count ≤ length old → from + count ≤ length source → k ≡ count → n ≡ count → part ≡ take n (drop from source)
+    → Fills (Copied source from at count) at (at + count) old (put_mid at k old part)
+fills_copied source from at count k n old part room given k_is n_is part_is =
+    let whole : length part ≡ count = ap length part_is ∙ length-take-le n (drop from source) (omega (arith, length-drop from source)) ∙ n_is in
+    record {
+      filled = λ v e known x l u.
+          let q = x - at in
+          let here : at + q ≡ x = omega arith in
+          let source_is : nth part q ≡ nth source (from + q) = rw part_is (get_or-take n (drop from source) q 0 (omega arith) ∙ get_or-drop from source q 0) in
+          let put_is : nth (put_mid at k old part) x ≡ nth part q = search (rules, places) in
+          put_is ∙ source_is ∙ sym (e q (omega arith)) ∙ ap v here;
+      below = λ x l. search (rules, places);
+      above = λ x l. search (rules, places);
+      size = search (rules, places);
+    }

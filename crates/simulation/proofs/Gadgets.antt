@@ -10,7 +10,7 @@ use Rattle.circuit.specs.Lists.{nth, range}
 use Rattle.circuit.specs.Gadgets.{others}
 use Rattle.circuit.specs.Kinds.{pairs}
 use Rattle.circuit.proofs.Sizes.{pairs_twice}
-use Rattle.gadgets.specs.Internal.Places.{word_a, cross_start, product_at, out_at, mask_at, sum_at}
+use Rattle.gadgets.specs.Internal.Places.{word_a, cross_start, product_at, out_at, mask_at, sum_at, held_at}
 use Rattle.gadgets.proofs.Slots.{mask_lt}
 use Rattle.simulation.specs.Internal.Filling.{Values, word_sum, Known, Fills, Copied, Drawn, ShareProducts, Multiplied, AndValues, Masked, DrawnMasked, Held, RefValues}
 use Rattle.simulation.specs.Internal.Gadgets.{Sums}
@@ -37,6 +37,9 @@ pub record MasksOn (d first i word from to : ℕ) (values : List ℕ) (sum j : �
 pub masks_start : {d first i word from to : ℕ} {values : List ℕ} → from ≤ to → MasksOn d first i word from to values word from
 masks_start h = record { low = omega arith; high = h; adds = λ v k. refl }
 
+pub masks_at : {d first i word from to : ℕ} {values : List ℕ} {sum j k : ℕ} → j ≡ k → MasksOn d first i word from to values sum j → MasksOn d first i word from to values sum k
+masks_at {d} {first} {i} {word} {from} {to} {values} {sum} e on = subst (λ (n : ℕ). MasksOn d first i word from to values sum n) e on
+
 module _ {d first i word from to : ℕ} {values : List ℕ} {sum j : ℕ} (on : MasksOn d first i word from to values sum j) where
   pub masks_turn : i < d → j < d → (j ≡ i → ⊥) → j < to → (p : ℕ) → p ≡ mask_at d first i j → MasksOn d first i word from to values (bit_xor sum (nth values p)) (j + 1)
   masks_turn l k ne h p e = record {
@@ -49,46 +52,46 @@ module _ {d first i word from to : ℕ} {values : List ℕ} {sum j : ℕ} (on : 
   masks_end h = record { is = λ v k. adds_end sum (λ m. v (mask_at d first i m)) to j (on.adds v k) h }
 
 -- one sum of REF
-module _ {d first : ℕ} {a : ℕ → ℕ} {old mid : List ℕ} {i : ℕ} (f : Fills (Masked d first a) (first + pairs d) (first + pairs d + i) old mid)
-    (l : i < d) (room : first + pairs d + i < length old) (early : a i < first) (x p : ℕ) (x_is : x ≡ a i) (p-is : p ≡ first + pairs d + i)
+module _ {d first : ℕ} {a : ℕ → ℕ} {old mid : List ℕ} {i : ℕ} (f : Fills (Masked d first a) (sum_at d first 0) (sum_at d first i) old mid)
+    (l : i < d) (room : sum_at d first i < length old) (early : a i < first) (x p : ℕ) (x_is : x ≡ a i) (p-is : p ≡ sum_at d first i)
     {s t : ℕ} (r : Sums d first i (nth mid x) 0 i mid s) (q : Sums d first i s (i + 1) d mid t) where
-  sum_is : (v : Values) → Masked d first a v → Known v 0 (first + pairs d) old → t ≡ v (sum_at d first i)
+  sum_is : (v : Values) → Masked d first a v → Known v 0 (sum_at d first 0) old → t ≡ v (sum_at d first i)
   sum_is v e k =
       let g : Values = λ j. v (mask_at d first i j) in
       let known : Known v 0 (first + pairs d) mid = λ x p u. known-all f v e k x p (omega arith) in
       q.is v known ∙ ap (λ z. bit_xor z (word_sum (range (i + 1) (d - (i + 1))) g)) (r.is v known) ∙ add_others g (nth mid x) d i l
       ∙ ap (λ z. bit_xor z (word_sum (others d i) g)) (ap (nth mid) x_is ∙ known (a i) (omega arith) (omega arith)) ∙ sym (e i l)
 
-  pub masked_turn : Fills (Masked d first a) (first + pairs d) (first + pairs d + (i + 1)) old (set mid p t)
+  pub masked_turn : Fills (Masked d first a) (sum_at d first 0) (sum_at d first (i + 1)) old (set mid p t)
   masked_turn = rw p-is (fills-set t (omega arith) sum_is f)
 
 -- one output of REF; where the code finds the sum
-pub held_turn : (d first : ℕ) {old mid : List ℕ} (i : ℕ) → Fills (Held d first) (first + pairs d + d) (first + pairs d + d + i) old mid → i < d → first + pairs d + d + i < length old
-    → (p : ℕ) → p ≡ sum_at d first i → Fills (Held d first) (first + pairs d + d) (first + pairs d + d + (i + 1)) old (set mid (p + d) (nth mid p))
+pub held_turn : (d first : ℕ) {old mid : List ℕ} (i : ℕ) → Fills (Held d first) (held_at d first 0) (held_at d first i) old mid → i < d → held_at d first i < length old
+    → (p : ℕ) → p ≡ sum_at d first i → Fills (Held d first) (held_at d first 0) (held_at d first (i + 1)) old (set mid (p + d) (nth mid p))
 held_turn d first i f l room p p-is =
-    let here : first + pairs d + d + i ≡ sum_at d first i + d = omega arith in
+    let here : held_at d first i ≡ sum_at d first i + d = omega arith in
     rw p-is (fills-set _ (omega arith) (λ v e k. rw (← here, e i l) (known-all f v e k (sum_at d first i) (omega arith) (omega arith))) (fills-at refl here f))
 
 -- REF's random bits and sums
 pub mask_filled : (d first : ℕ) (a : ℕ → ℕ) (tape : List ℕ) (used : ℕ) {old one two : List ℕ} (count : ℕ) → count ≡ pairs d
-    → Fills (Copied tape used first count) first (first + count) old one → Fills (Masked d first a) (first + pairs d) (first + pairs d + d) one two
-    → Fills (DrawnMasked d first a tape used) first (first + pairs d + d) old two
+    → Fills (Copied tape used first count) first (first + count) old one → Fills (Masked d first a) (sum_at d first 0) (sum_at d first d) one two
+    → Fills (DrawnMasked d first a tape used) first (sum_at d first d) old two
 mask_filled d first a tape used count e draws sums =
     fills-next (omega arith) (omega arith) (λ v q k. q.masked)
     (fills_for (λ v q. subst (λ (n : ℕ). Copied tape used first n v) (sym e) q.drawn) (fills-at refl (omega (arith, e)) draws)) sums
 
 -- the words that they take are the first d behind the kind's first
-pub row_word : (d : ℕ) (ops : List ℕ) (i : ℕ) → i < d → word_a (take (1 + d - 0) ops) i ≡ word_a ops i
-row_word d ops i l = get_or-take (1 + d - 0) ops (1 + i) 0 (omega arith)
+pub row_word : (d : ℕ) (ops : List ℕ) (i : ℕ) → i < d → word_a (take (1 + d) ops) i ≡ word_a ops i
+row_word d ops i l = get_or-take (1 + d) ops (1 + i) 0 (omega arith)
 
-pub row_long : (d : ℕ) (ops : List ℕ) → 1 + d ≤ length ops → 1 + d ≤ length (take (1 + d - 0) ops)
-row_long d ops h = omega (arith, length-take-le (1 + d - 0) ops (omega arith))
+pub row_long : (d : ℕ) (ops : List ℕ) → 1 + d ≤ length ops → 1 + d ≤ length (take (1 + d) ops)
+row_long d ops h = omega (arith, length-take-le (1 + d) ops (omega arith))
 
-pub row_masks : (d first : ℕ) (ops tape : List ℕ) (used : ℕ) {old new : List ℕ} {from to : ℕ} → Fills (DrawnMasked d first (word_a (take (1 + d - 0) ops)) tape used) from to old new → Fills (DrawnMasked d first (word_a ops) tape used) from to old new
+pub row_masks : (d first : ℕ) (ops tape : List ℕ) (used : ℕ) {old new : List ℕ} {from to : ℕ} → Fills (DrawnMasked d first (word_a (take (1 + d) ops)) tape used) from to old new → Fills (DrawnMasked d first (word_a ops) tape used) from to old new
 row_masks d first ops tape used = fills_for (λ v q. record { drawn = q.drawn; masked = λ i l. rw (row_word d ops i l) (q.masked i l) })
 
-pub ref_filled : (d first : ℕ) (a : ℕ → ℕ) (tape : List ℕ) (used : ℕ) {old one two : List ℕ} → Fills (DrawnMasked d first a tape used) first (first + pairs d + d) old one
-    → Fills (Held d first) (first + pairs d + d) (first + pairs d + d + d) one two → Fills (RefValues d first a tape used) first (first + (pairs d + 2 * d)) old two
+pub ref_filled : (d first : ℕ) (a : ℕ → ℕ) (tape : List ℕ) (used : ℕ) {old one two : List ℕ} → Fills (DrawnMasked d first a tape used) first (sum_at d first d) old one
+    → Fills (Held d first) (held_at d first 0) (held_at d first d) one two → Fills (RefValues d first a tape used) first (first + (pairs d + 2 * d)) old two
 ref_filled d first a tape used masks holds =
     fills-next (omega arith) (omega arith) (λ v q k. q.held)
-    (fills_for (λ v q. record { drawn = q.drawn; masked = q.masked }) masks) (fills-at refl (omega arith) holds)
+    (fills_for (λ v q. record { drawn = q.drawn; masked = q.masked }) (fills-at refl (omega arith) masks)) (fills-at refl (omega arith) holds)

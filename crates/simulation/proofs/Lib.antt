@@ -3,7 +3,6 @@ pub mod Adding
 pub mod Packing
 -- Buffers filled in
 pub mod Filled
-pub mod Crossing
 pub mod Products
 pub mod Rows
 pub mod Ranks

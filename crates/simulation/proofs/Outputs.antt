@@ -1,21 +1,20 @@
 -- The wires of AND behind B, m and M, share by share: a row, then its output, which stands behind all rows.
 use mathlib.Core.Path.{◌≡◌, refl, sym, ap, ap₂, ◌∙◌}
 use mathlib.Core.List.{List}
-use Prim.Native.Nat.{ℕ, ◌+◌, ◌-◌, ◌≤◌, ◌<◌}
+use Prim.Native.Nat.{ℕ, ◌+◌, ◌≤◌, ◌<◌}
 use native.Mathlib.Omega.{arith}
 use lib.Bits.{bit_xor}
 use lib.Dec.{ltb}
 use lib.ListN.{length, set, length-set}
 use borrow.Author.Tests.{ltb-true, ltb-false}
-use Rattle.circuit.specs.Lists.{nth, range}
+use Rattle.circuit.specs.Lists.{nth}
 use Rattle.circuit.specs.Gadgets.{others}
 use Rattle.circuit.proofs.Base.{cases}
-use Rattle.gadgets.specs.Internal.Places.{cross_start, product_at, cross_at, out_at}
+use Rattle.gadgets.specs.Internal.Places.{cross_start, product_at, out_at}
 use Rattle.gadgets.proofs.Stored.{nth-set}
-use Rattle.gadgets.proofs.Slots.{slot_low, product-early, row_room, RowEnds, row_ends}
+use Rattle.gadgets.proofs.Slots.{product-early, row_room}
 use Rattle.simulation.specs.Internal.Filling.{Values, word_sum, Known, Fills, RowCrossed, crossing_at, Multiplied}
 use Rattle.simulation.specs.Internal.Gadgets.{CrossesRow}
-use Rattle.simulation.proofs.Adding.{add_others}
 use Rattle.simulation.proofs.Filled.{known-all}
 
 -- the rows of the shares below i, and their outputs
@@ -50,20 +49,7 @@ outputs_end {d = d} {first} {i = i} h on =
     }
 
 module _ {d first : ℕ} {a : ℕ → ℕ} {old values : List ℕ} {i : ℕ} (on : OutputsOn d first a old values i) (l : i < d) (early : a i < first) (room : out_at d first d ≤ length old)
-    {one two : List ℕ} {s t : ℕ} (r : CrossesRow d first i (nth values (a i)) (nth values (product_at d first i + 2)) 0 i values one s) (q : CrossesRow d first i (nth values (a i)) s (i + 1) d one two t) where
-  ends : RowEnds d first i
-  ends = row_ends d first i l
-
-  -- the values before the output, where it is not in this row
-  kept_low : (x : ℕ) → x < first + cross_start d i → nth two x ≡ nth values x
-  kept_low x h = q.fills.below x (omega (arith, ends, slot_low i i (omega arith))) ∙ r.fills.below x (omega (arith, ends))
-
-  kept_high : (x : ℕ) → first + cross_start d (i + 1) ≤ x → nth two x ≡ nth values x
-  kept_high x h = q.fills.above x (omega (arith, ends)) ∙ r.fills.above x (omega (arith, ends.within))
-
-  size-two : length two ≡ length old
-  size-two = q.fills.size ∙ r.fills.size ∙ on.size
-
+    {row : List ℕ} {s : ℕ} (r : CrossesRow d first i (nth values (a i)) (nth values (product_at d first i + 2)) values row s) where
   module _ (v : Values) (e : Multiplied 1 d first a v) (k : Known v 0 (first + cross_start d 0) old) where
     now_known : Known v 0 (first + cross_start d i) values
     now_known = on.known v e k
@@ -74,38 +60,27 @@ module _ {d first : ℕ} {a : ℕ → ℕ} {old values : List ℕ} {i : ℕ} (on
     by : RowCrossed 1 d first i (nth values (a i)) v
     by = rw a_is (e.crossed i l)
 
-    start_known : Known v 0 (cross_at d first i 0) values
-    start_known x p u = now_known x p (omega (arith, ends.first_is))
-
-    mid-known : Known v 0 (cross_at d first i (i + 1)) one
-    mid-known x p u = known-all r.fills v by start_known x p (omega (arith, ends.mid))
-
-    row-known : Known v 0 (first + cross_start d (i + 1)) two
-    row-known x p u = known-all q.fills v by mid-known x p (omega (arith, ends.last))
-
-    out-known : t ≡ v (out_at d first i)
-    out-known =
-        let f : Values = crossing_at 1 d first i (nth values (a i)) v in
-        q.adds v by mid-known ∙ ap (λ z. bit_xor z (word_sum (range (i + 1) (d - (i + 1))) f)) (r.adds v by start_known) ∙ add_others f (nth values (product_at d first i + 2)) d i l
+    out-known : s ≡ v (out_at d first i)
+    out-known = r.adds v by now_known
         ∙ ap₂ (λ m x. bit_xor m (word_sum (others d i) (crossing_at 1 d first i x v))) (now_known (product_at d first i + 2) (omega arith) (product-early d first i i l)) a_is ∙ sym (e.out i l)
 
-  in_room : out_at d first i < length two
-  in_room = omega (arith, size-two)
+  in_room : out_at d first i < length row
+  in_room = omega (arith, r.fills.size, on.size)
 
-  turned : OutputsOn d first a old (set two (out_at d first i) t) (i + 1)
+  turned : OutputsOn d first a old (set row (out_at d first i) s) (i + 1)
   turned = record {
     most = omega arith;
-    known = λ v e k x p u. nth-set two (out_at d first i) t x in_room (λ same z. absurd (omega (arith, row_room d first i l))) (λ other z. z ∙ row-known v e k x p u);
-    outs = λ v e k x p u. nth-set two (out_at d first i) t x in_room
+    known = λ v e k x p u. nth-set row (out_at d first i) s x in_room (λ same z. absurd (omega (arith, row_room d first i l))) (λ other z. z ∙ known-all r.fills v (by v e k) (now_known v e k) x p u);
+    outs = λ v e k x p u. nth-set row (out_at d first i) s x in_room
         (λ same z. z ∙ out-known v e k ∙ ap v (sym same))
-        (λ other z. z ∙ kept_high x (omega (arith, row_room d first i l)) ∙ on.outs v e k x p (omega arith));
-    below = λ x h. nth-set two (out_at d first i) t x in_room (λ same z. absurd (omega arith)) (λ other z. z ∙ kept_low x (omega arith) ∙ on.below x h);
-    above = λ x h. nth-set two (out_at d first i) t x in_room (λ same z. absurd (omega arith)) (λ other z. z ∙ kept_high x (omega (arith, row_room d first i l)) ∙ on.above x h);
-    size = length-set two (out_at d first i) t ∙ size-two;
+        (λ other z. z ∙ r.fills.above x (omega (arith, row_room d first i l)) ∙ on.outs v e k x p (omega arith));
+    below = λ x h. nth-set row (out_at d first i) s x in_room (λ same z. absurd (omega arith)) (λ other z. z ∙ r.fills.below x (omega arith) ∙ on.below x h);
+    above = λ x h. nth-set row (out_at d first i) s x in_room (λ same z. absurd (omega arith)) (λ other z. z ∙ r.fills.above x (omega (arith, row_room d first i l)) ∙ on.above x h);
+    size = length-set row (out_at d first i) s ∙ r.fills.size ∙ on.size;
   }
 
 -- where the code finds a, M and the output
 pub outputs_turn : {d first : ℕ} {a : ℕ → ℕ} {old values : List ℕ} {i : ℕ} → OutputsOn d first a old values i → i < d → a i < first → out_at d first d ≤ length old
-    → (x o p : ℕ) → x ≡ a i → o ≡ product_at d first i + 2 → p ≡ out_at d first i → {one two : List ℕ} {s t : ℕ}
-    → CrossesRow d first i (nth values x) (nth values o) 0 i values one s → CrossesRow d first i (nth values x) s (i + 1) d one two t → OutputsOn d first a old (set two p t) (i + 1)
-outputs_turn on l early room x o p x_is o_is p-is r q = rw p-is (turned on l early room (rw (x_is, o_is) at r) (rw x_is at q))
+    → (x o p : ℕ) → x ≡ a i → o ≡ product_at d first i + 2 → p ≡ out_at d first i → {row : List ℕ} {s : ℕ}
+    → CrossesRow d first i (nth values x) (nth values o) values row s → OutputsOn d first a old (set row p s) (i + 1)
+outputs_turn on l early room x o p x_is o_is p-is r = rw p-is (turned on l early room (rw (x_is, o_is) at r))

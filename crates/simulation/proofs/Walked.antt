@@ -14,9 +14,12 @@ use Rattle.semantics.proofs.Randoms.{randoms_in, build-randoms}
 use Rattle.frames.specs.declared.walk.Frame.{Frame as FrameCode}
 use Rattle.frames.specs.declared.walk.Walk.{Walk}
 use Rattle.frames.specs.declared.kinds.Shape.{Shape as ShapeCode}
-use Rattle.frames.specs.declared.walk.Step.{Step}
-use Rattle.frames.specs.declared.walk.Step.TheVariants as step
-use Rattle.frames.specs.Walk.{step_at}
+use Rattle.frames.specs.declared.walk.Next.{Next}
+use Rattle.circuit.specs.declared.rules.Rule.{Rule}
+use Rattle.std.specs.Prelude.{Option, Result}
+use Rattle.frames.specs.Walk.{shape_taking, step_with, step_at}
+use Rattle.frames.proofs.KindTable.{right_step}
+use Rattle.circuit.specs.Kinds.{pairs}
 use Rattle.gadgets.specs.Internal.Frames.{frame_wires}
 use Rattle.gadgets.specs.Internal.Accepting.{AcceptedTable, circuit_in}
 use Rattle.gadgets.proofs.Walking.{whole, so_far, between_start, all-built, wires_in, wires-grow, inputs-grow, randoms-grow, Met, Answers, second_word, step_answers}
@@ -44,14 +47,12 @@ module _ {table shares tape : List ℕ} {room place w from used : ℕ} (f : Walk
       ap randoms_in (ap₂ take f.wires_are e ∙ take_at k.wires more (size k) refl) ∙ build-randoms (empty a.d) f.between.before refl ∙ sym f.used_are
 
   -- what the step says at the place
-  pub walked-answers : {s : Step} → step_at table (nth table 1) place ≡ s → Answers a f.between (nth table 1) w from s
+  pub walked-answers : {s : Result (Option Next) Rule} → step_at table (nth table 1) place ≡ s → Answers a f.between (nth table 1) w from s
   walked-answers = step_answers a f.between (second_word a) f.wires_are f.from_are
 
-  -- a step without a frame: none is left
-  pub walked_end : (s : Step) → step_at table (nth table 1) place ≡ s → ((fr : FrameCode) (sh : ShapeCode) (wk : Walk) → s ≡ step.Next fr sh wk → ⊥) → f.between.after ≡ []
-  walked_end (step.Next fr sh wk) e k = absurd (k fr sh wk refl)
-  walked_end (step.Refused rule) e k = absurd (walked-answers e)
-  walked_end step.End e k = walked-answers e
+  -- the same, with the walk's number of shares and the random bits that the step is given
+  pub walked-step : {s : Result (Option Next) Rule} {randoms d : ℕ} → s ≡ step_with (shape_taking randoms d) table d place → d ≡ nth table 1 → randoms ≡ pairs (nth table 1) → Answers a f.between (nth table 1) w from s
+  walked-step {s} {randoms} {d} e same given = walked-answers (sym (right_step table randoms d place e (given ∙ ap pairs (sym same)) ∙ ap (λ n. step_at table n place) same))
 
   -- the frame that is met
   module _ {d : ℕ} {fr : FrameCode} {sh : ShapeCode} {wk : Walk} (same : d ≡ a.d) (m : Met a f.between d w from fr sh wk) where

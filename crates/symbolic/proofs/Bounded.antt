@@ -1,21 +1,21 @@
 -- Sums of variables before a place: what is made of such sums is one too.
-use mathlib.Core.Path.{sym, subst}
 use mathlib.Core.List.{List, [], ◌∷◌}
-use Prim.Native.Nat.{ℕ, ◌+◌, ◌*◌, ◌-◌, ◌/◌, ◌%◌, ◌^◌, ◌≤◌, ◌<◌}
+use Prim.Native.Nat.{ℕ, ◌+◌, ◌^◌, ◌≤◌, ◌<◌}
 use native.Mathlib.Omega.{arith}
-use lib.Bits.{bit_xor, xor_lt}
-use lib.Dec.{ltb}
+use lib.Bits.{xor_lt}
 use lib.Pow.{pow_mono}
-use borrow.Author.Tests.{ltb-true, ltb-false}
 use Rattle.circuit.specs.Lists.{nth, range}
 use Rattle.circuit.specs.Gadgets.{others}
-use Rattle.circuit.proofs.Base.{cases, In, in_head, in_tail}
+use Rattle.circuit.proofs.Base.{In, in_head, in_tail}
 use Rattle.circuit.proofs.Parts.{label_lt}
 use Rattle.gadgets.specs.Internal.Places.{word_a, word_b, cross_start, mask_at}
 use Rattle.simulation.specs.Internal.Filling.{Values, word_sum}
 use Rattle.symbolic.specs.declared.gadget.Term.{Term}
-use Rattle.symbolic.specs.Internal.Terms.{one, alone, times, product_term, cross_term, share_at, inner_term, output_term}
-use Rattle.symbolic.proofs.Inside.{decoded, inner_mask, inner-share, inner_pair}
+use Rattle.symbolic.specs.declared.offsets.Inner.{Inner}
+use Rattle.symbolic.specs.declared.offsets.Inner.TheVariants.{R, B, M, U, V, W}
+use Rattle.symbolic.specs.Internal.Inside.{inner_at, WireOf}
+use Rattle.symbolic.specs.Internal.Terms.{one, alone, times, wire_term, inner_term, output_term}
+use Rattle.symbolic.proofs.Inside.{shares_fit}
 
 pub some : (m : ℕ) → 0 < 2 ^ m
 some m = omega (arith, pow_mono {i = 0} {j = m} (omega arith))
@@ -51,25 +51,13 @@ module _ (m : ℕ) (least : 18 ≤ m) (d : ℕ) (ops sums tape : List ℕ) (used
     third = sum_below m _ (others d i) (λ j h. r (mask_at d used i j));
   }
 
-  share-below : (i part : ℕ) → i < d → Below m (product_term (nth sums (word_a ops i)) (nth sums (word_b d ops i)) part)
-  share-below i part l = cases (ltb part 1) (λ e. rw e (alone-below (b i l))) (λ e. rw e (times_below (a i l) (b i l)))
-
-  pair_below : (i j x part : ℕ) → i < d → j < d → Below m (cross_term (nth sums (word_a ops i)) (nth sums (word_b d ops j)) (nth tape x) part)
-  pair_below i j x part l k =
-      let one_lt : one < 2 ^ m = more {x = one} {m = 18} {k = m} least (omega arith) in
-      let v : bit_xor (nth sums (word_b d ops j)) (nth tape x) < 2 ^ m = xor_lt m _ _ (b j k) (r x) in
-      cases (ltb part 2) (λ e. rw e (times_below (xor_lt m one _ one_lt (a i l)) (r x)))
-      (λ e. cases (ltb part 4) (λ e'. rw (e, e') (alone-below v)) (λ e'. rw (e, e') (times_below (a i l) v)))
+  wire_below : (w : Inner) → WireOf d w → Below m (wire_term d ops sums tape used w)
+  wire_below (R q) l = alone-below (r (used + q))
+  wire_below (B i) l = alone-below (b i l)
+  wire_below (M i) l = times_below (a i l) (b i l)
+  wire_below (U i j) l = times_below (xor_lt m one _ (more {x = one} {m = 18} {k = m} least (omega arith)) (a i l.0)) (r _)
+  wire_below (V i j) l = alone-below (xor_lt m _ _ (b j l.1) (r _))
+  wire_below (W i j) l = times_below (a i l.0) (xor_lt m _ _ (b j l.1) (r _))
 
   pub inner_below : (o : ℕ) → 2 ≤ d → o < cross_start d d → Below m (inner_term d ops sums tape used o)
-  inner_below o two h = cases (ltb o (d * (d - 1)))
-      (λ e. subst (Below m) (sym (inner_mask d ops sums tape used o (ltb-true o (d * (d - 1)) e))) (alone-below (r (used + o / 2))))
-      (λ e. let l = ltb-false o (d * (d - 1)) e in cases (ltb o (d * (d - 1) + 3 * d))
-      (λ e'. let u = ltb-true o (d * (d - 1) + 3 * d) e' in subst (Below m) (sym (inner-share d ops sums tape used o l u)) (share-below ((o - d * (d - 1)) / 3) ((o - d * (d - 1)) % 3) (omega arith)))
-      (λ e'. let u = ltb-false o (d * (d - 1) + 3 * d) e' in
-      let p = o - (d * (d - 1) + 3 * d) in
-      let i = p / (6 * (d - 1)) in
-      let rest = p % (6 * (d - 1)) in
-      let j = share_at i (rest / 6) in
-      let t = decoded d 0 p two (omega arith) in
-      subst (Below m) (sym (inner_pair d ops sums tape used o u)) (pair_below i j (mask_at d used i j) (rest % 6) t.few t.other)))
+  inner_below o two h = wire_below (inner_at d o) (shares_fit d o two h)

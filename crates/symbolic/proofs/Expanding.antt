@@ -2,6 +2,7 @@
 use mathlib.Core.Path.{◌≡◌, refl, sym, ap, subst, ◌∙◌}
 use mathlib.Core.Bool.{Bool, true}
 use mathlib.Core.List.{List, [], map}
+use Rattle.std.specs.Prelude.{Option, Some, None, Result, Ok, Err}
 use Prim.Native.Nat.{ℕ, zero, suc, ◌+◌, ◌*◌, ◌-◌, ◌^◌, ◌≤◌, ◌<◌}
 use native.Mathlib.Omega.{arith}
 use lib.Dec.{ltb}
@@ -11,11 +12,13 @@ use Rattle.circuit.specs.Lists.{nth}
 use Rattle.circuit.specs.Circuit.{Circuit, size, look_up, is_named}
 use Rattle.circuit.proofs.Base.{cases}
 use Rattle.gadgets.specs.Internal.Accepting.{AcceptedTable, circuit_in}
+use Rattle.circuit.specs.declared.rules.Rule.{Rule}
 use Rattle.frames.specs.declared.walk.Frame.{Frame as FrameCode}
+use Rattle.frames.specs.declared.walk.Next.{Next}
 use Rattle.frames.specs.declared.walk.Walk.{Walk}
 use Rattle.frames.specs.declared.kinds.Shape.{Shape as ShapeCode}
 use Rattle.frames.specs.Walk.{operands_at}
-use Rattle.gadgets.proofs.Walking.{whole, whole_ordered, randoms-grow, Met}
+use Rattle.gadgets.proofs.Walking.{whole, whole_ordered, randoms-grow, Met, Answers}
 use Rattle.simulation.specs.Internal.Filling.{Values, FrameValues}
 use Rattle.simulation.specs.Internal.Evaluating.{packed, Evaluable}
 use Rattle.simulation.specs.Internal.Walked.{WalkedTo, values_at}
@@ -75,6 +78,12 @@ module _ {room : ℕ} {table shares tape read : List ℕ} {found : ℕ} {sums te
 
   abbrev k : Circuit
   k = whole a
+
+  -- no frame: none is left
+  pub none_met : (s : Result (Option Next) Rule) → Answers a t.walked.between (nth table 1) w from s → ((n : Next) → s ≡ Ok (Some n) → ⊥) → t.walked.between.after ≡ []
+  none_met (Ok (Some n)) h none = absurd (none n refl)
+  none_met (Ok None) h none = h
+  none_met (Err rule) h none = absurd h
 
   -- words of variables that are right behind a frame are right before it
   pub earlier : {terms' : List ℕ} {r w' : ℕ} (f : Values) → outputs ≤ r → w ≤ w' → ((n : ℕ) → n < outputs → term_at terms' n ≡ term_at terms n) → ((i : ℕ) → i < found → nth read i < w → term_at terms' (32 + i) ≡ term_at terms (32 + i))

@@ -97,8 +97,8 @@ pub record AddedTo (m : ℕ) (f : Values) (sum rest : ℕ) : Type 0 where
 pub added_start : (m : ℕ) (f : Values) → AddedTo m f 0 m
 added_start m f = record { left = refl }
 
-pub added_next : {m : ℕ} {f : Values} {sum rest s : ℕ} → AddedTo m f sum rest → Lowest 64 rest f s → AddedTo m f (bit_xor sum (f s)) (bit_and rest (rest - 1))
-added_next {f = f} {sum} {rest} {s} a l = record { left = a.left ∙ ap (bit_xor sum) l.left ∙ sym (xor_assoc sum (f s) (added_in 64 (bit_and rest (rest - 1)) f)) }
+pub added_next : {m : ℕ} {f : Values} {sum rest s new word : ℕ} → AddedTo m f sum rest → Lowest 64 rest f s → new ≡ bit_xor sum word → word ≡ f s → AddedTo m f new (bit_and rest (rest - 1))
+added_next {f = f} {sum} {rest} {s} a l e at = record { left = a.left ∙ ap (bit_xor sum) l.left ∙ sym (xor_assoc sum (f s) (added_in 64 (bit_and rest (rest - 1)) f)) ∙ ap (λ n. bit_xor n (added_in 64 (bit_and rest (rest - 1)) f)) (sym (e ∙ ap (bit_xor sum) at)) }
 
 pub added_end : {m : ℕ} {f : Values} {sum rest : ℕ} → AddedTo m f sum rest → rest ≡ 0 → sum ≡ added_in 64 m f
 added_end {f = f} {sum} a e = sym (a.left ∙ ap (λ n. bit_xor sum (added_in 64 n f)) e ∙ ap (bit_xor sum) (added_none 64 f) ∙ xor_zero_r sum)

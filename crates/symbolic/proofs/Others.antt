@@ -1,15 +1,14 @@
 -- A word for each share other than i, added to another: what is added so far, and what is left.
 use mathlib.Core.Path.{◌≡◌, sym, ap, ◌∙◌}
-use mathlib.Core.Bool.{Bool, cond, not}
+use mathlib.Core.Bool.{Bool, not}
 use Prim.Native.Nat.{ℕ, ◌+◌, ◌-◌, ◌≤◌, ◌<◌}
-use native.Mathlib.Nat.{sub-zero}
 use native.Mathlib.Omega.{arith}
-use lib.Bits.{bit_xor, xor_zero_r}
+use lib.Bits.{bit_xor}
 use lib.Dec.{eqb}
+use borrow.Author.Tests.{eq-eqb, ne_eqb}
 use Rattle.circuit.specs.Lists.{range, filter}
 use Rattle.circuit.specs.Gadgets.{others}
-use Rattle.circuit.proofs.Base.{cases}
-use Rattle.gadgets.proofs.Ranges.{range_turn, range_end}
+use Rattle.gadgets.proofs.Ranges.{range_turn}
 use Rattle.simulation.specs.Internal.Filling.{Values, word_sum}
 use Rattle.simulation.proofs.Adding.{xor_assoc}
 
@@ -20,15 +19,14 @@ pub record AddsOthers (d i : ℕ) (f : Values) (sum all j : ℕ) : Type 0 where
   pub most : j ≤ d
   pub left : bit_xor sum (word_sum (others d i) f) ≡ bit_xor all (word_sum (filter (is_other i) (range j (d - j))) f)
 
-pub others_start : (d i : ℕ) (f : Values) (sum : ℕ) → AddsOthers d i f sum sum 0
-others_start d i f sum = record { most = omega arith; left = simp sub-zero }
-
 module _ {d i : ℕ} {f : Values} {sum all j : ℕ} (a : AddsOthers d i f sum all j) where
-  pub others_turn : j < d → AddsOthers d i f sum (cond (eqb i j) all (bit_xor all (f j))) (j + 1)
-  others_turn l = record {
-    most = omega arith;
-    left = a.left ∙ ap (λ r. bit_xor all (word_sum (filter (is_other i) r) f)) (range_turn d j l) ∙ cases (eqb i j) (λ e. rw e) (λ e. rw e (sym (xor_assoc all (f j) (word_sum (filter (is_other i) (range (j + 1) (d - (j + 1)))) f))));
-  }
+  -- the next share is i, or another
+  pub others-own : j ≡ i → j < d → AddsOthers d i f sum all (j + 1)
+  others-own e l = record { most = omega arith; left = a.left ∙ ap (λ r. bit_xor all (word_sum (filter (is_other i) r) f)) (range_turn d j l) ∙ rw (eq-eqb i j (sym e)) }
 
-  pub others_end : d ≤ j → all ≡ bit_xor sum (word_sum (others d i) f)
-  others_end l = sym (a.left ∙ ap (λ r. bit_xor all (word_sum (filter (is_other i) r) f)) (range_end d j l) ∙ xor_zero_r all)
+  pub others-next : (j ≡ i → ⊥) → j < d → AddsOthers d i f sum (bit_xor all (f j)) (j + 1)
+  others-next ne l = record {
+    most = omega arith;
+    left = a.left ∙ ap (λ r. bit_xor all (word_sum (filter (is_other i) r) f)) (range_turn d j l)
+        ∙ rw (ne_eqb i j (λ e. ne (sym e))) (sym (xor_assoc all (f j) (word_sum (filter (is_other i) (range (j + 1) (d - (j + 1)))) f)));
+  }

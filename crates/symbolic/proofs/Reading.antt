@@ -1,7 +1,7 @@
 -- The wires of AND that are written: those on the list, one after the other, and the outputs.
-use mathlib.Core.Path.{◌≡◌, refl, sym, ap, ap₂, subst, ◌∙◌}
+use mathlib.Core.Path.{◌≡◌, refl, sym, ap, subst, ◌∙◌}
 use mathlib.Core.List.{List}
-use Prim.Native.Nat.{ℕ, ◌+◌, ◌*◌, ◌-◌, ◌/◌, ◌%◌, ◌^◌, ◌≤◌, ◌<◌}
+use Prim.Native.Nat.{ℕ, ◌+◌, ◌*◌, ◌-◌, ◌^◌, ◌≤◌, ◌<◌}
 use native.Mathlib.Omega.{arith}
 use lib.Bits.{bit_xor, xor_zero_l}
 use lib.Dec.{eqb, leb, ltb}
@@ -15,49 +15,27 @@ use Rattle.gadgets.specs.Internal.Places.{word_a, word_b, mask_at, cross_start, 
 use Rattle.gadgets.proofs.Stored.{nth-set}
 use Rattle.simulation.specs.Internal.Filling.{word_sum}
 use Rattle.symbolic.specs.declared.gadget.Term.{Term}
-use Rattle.symbolic.specs.Internal.Terms.{term, product, sum_with, product_term, cross_term, share_at, inner_term, output_term, term_at, with_term, AndAsks, Inside, read_sums, read_terms, ReadsInside, WritesOutputs}
-use Rattle.symbolic.proofs.Inside.{decoded, inner_mask, inner-share, inner_pair}
+use Rattle.symbolic.specs.declared.offsets.Inner.{Inner}
+use Rattle.symbolic.specs.declared.offsets.Inner.TheVariants.{R, B, M, U, V, W}
+use Rattle.symbolic.specs.Internal.Inside.{inner_at, WireOf}
+use Rattle.symbolic.specs.Internal.Terms.{term, product, sum_with, wire_term, inner_term, output_term, term_at, with_term, AndAsks, Inside, read_sums, read_terms, ReadsInside}
+use Rattle.symbolic.proofs.Inside.{shares_fit}
 use Rattle.symbolic.proofs.Written.{term_parts, term_here, term-other, term-sized}
 
 -- the term of a wire inside AND rests on the sums before it
 module _ {d first : ℕ} {ops : List ℕ} {room drawn used : ℕ} (asks : AndAsks d first ops room drawn used) where
+  wire_same : (sums sums' tape : List ℕ) (w : Inner) → WireOf d w → ((x : ℕ) → x < first → nth sums' x ≡ nth sums x) → wire_term d ops sums' tape used w ≡ wire_term d ops sums tape used w
+  wire_same sums sums' tape (R q) l h = refl
+  wire_same sums sums' tape (B i) l h = rw (h _ (asks.early_b i l))
+  wire_same sums sums' tape (M i) l h = rw (h _ (asks.early_a i l), h _ (asks.early_b i l))
+  wire_same sums sums' tape (U i j) l h = rw (h _ (asks.early_a i l.0))
+  wire_same sums sums' tape (V i j) l h = rw (h _ (asks.early_b j l.1))
+  wire_same sums sums' tape (W i j) l h = rw (h _ (asks.early_a i l.0), h _ (asks.early_b j l.1))
+
   pub inner-same : (sums sums' tape : List ℕ) (o : ℕ) → o < cross_start d d → ((x : ℕ) → x < first → nth sums' x ≡ nth sums x) → inner_term d ops sums' tape used o ≡ inner_term d ops sums tape used o
-  inner-same sums sums' tape o l h = cases (ltb o (d * (d - 1)))
-      (λ e. let k = ltb-true o (d * (d - 1)) e in inner_mask d ops sums' tape used o k ∙ sym (inner_mask d ops sums tape used o k))
-      (λ e. let k = ltb-false o (d * (d - 1)) e in cases (ltb o (d * (d - 1) + 3 * d))
-      (λ f. let m = ltb-true o (d * (d - 1) + 3 * d) f in inner-share d ops sums' tape used o k m ∙ share m ∙ sym (inner-share d ops sums tape used o k m))
-      (λ f. let m = ltb-false o (d * (d - 1) + 3 * d) f in inner_pair d ops sums' tape used o m ∙ pair m ∙ sym (inner_pair d ops sums tape used o m)))
-    where
-      a : (i : ℕ) → i < d → nth sums' (word_a ops i) ≡ nth sums (word_a ops i)
-      a i k = h (word_a ops i) (asks.early_a i k)
+  inner-same sums sums' tape o l h = wire_same sums sums' tape (inner_at d o) (shares_fit d o asks.two l) h
 
-      b : (i : ℕ) → i < d → nth sums' (word_b d ops i) ≡ nth sums (word_b d ops i)
-      b i k = h (word_b d ops i) (asks.early_b i k)
-
-      share : o < d * (d - 1) + 3 * d → let i = (o - d * (d - 1)) / 3 in let part = (o - d * (d - 1)) % 3 in
-          product_term (nth sums' (word_a ops i)) (nth sums' (word_b d ops i)) part ≡ product_term (nth sums (word_a ops i)) (nth sums (word_b d ops i)) part
-      share m = rw (a ((o - d * (d - 1)) / 3) (omega arith), b ((o - d * (d - 1)) / 3) (omega arith))
-
-      pair : d * (d - 1) + 3 * d ≤ o → let p = o - (d * (d - 1) + 3 * d) in let i = p / (6 * (d - 1)) in let j = share_at i (p % (6 * (d - 1)) / 6) in
-          cross_term (nth sums' (word_a ops i)) (nth sums' (word_b d ops j)) (nth tape (mask_at d used i j)) (p % (6 * (d - 1)) % 6) ≡ cross_term (nth sums (word_a ops i)) (nth sums (word_b d ops j)) (nth tape (mask_at d used i j)) (p % (6 * (d - 1)) % 6)
-      pair m =
-          let p = o - (d * (d - 1) + 3 * d) in
-          let k = decoded d first p asks.two (omega arith) in
-          let i = p / (6 * (d - 1)) in
-          let j = share_at i (p % (6 * (d - 1)) / 6) in
-          ap₂ (λ x y. cross_term x y (nth tape (mask_at d used i j)) (p % (6 * (d - 1)) % 6)) (a i k.few) (b j k.other)
-
--- wires on the list: none, and one more
-pub reads_none : (d first : ℕ) (ops tape : List ℕ) (used : ℕ) (read sums terms : List ℕ) → ReadsInside d first ops tape used read 0 sums terms sums terms
-reads_none d first ops tape used read sums terms = record {
-  term_is = λ i l z. absurd (omega arith);
-  sum_is = λ i l z. absurd (omega arith);
-  term_kept = λ n h. refl;
-  sum_kept = λ x h. refl;
-  sums_sized = refl;
-  terms_sized = refl;
-}
-
+-- wires on the list: one more
 module _ {d first : ℕ} {ops tape : List ℕ} {used : ℕ} {read sums terms sums' terms' : List ℕ} {i : ℕ} (r : ReadsInside d first ops tape used read i sums terms sums' terms') where
   pub reads_end : {found : ℕ} → i ≡ found → ReadsInside d first ops tape used read found sums terms sums' terms'
   reads_end e = rw (← e) r
@@ -113,27 +91,7 @@ module _ (d first : ℕ) (ops tape : List ℕ) (used outputs : ℕ) (sums terms 
     pub sums_sized : length sums' ≡ length sums
     pub terms_sized : length terms' ≡ length terms
 
-  pub outputs-none : OutputsTo sums terms 0
-  outputs-none = record {
-    term_is = λ j l. absurd (omega arith);
-    sum_is = λ j l. absurd (omega arith);
-    term_kept = λ n h. refl;
-    sum_kept = λ x h. refl;
-    sums_sized = refl;
-    terms_sized = refl;
-  }
-
 module _ {d first : ℕ} {ops tape : List ℕ} {used outputs : ℕ} {sums terms sums' terms' : List ℕ} {i : ℕ} (r : OutputsTo d first ops tape used outputs sums terms sums' terms' i) where
-  pub outputs_end : i ≡ d → WritesOutputs d first ops tape used outputs sums terms sums' terms'
-  outputs_end e = record {
-    term_is = λ j l. r.term_is j (omega arith);
-    sum_is = λ j l. r.sum_is j (omega arith);
-    term_kept = λ n h. r.term_kept n (λ l u. h l (omega arith));
-    sum_kept = r.sum_kept;
-    sums_sized = r.sums_sized;
-    terms_sized = r.terms_sized;
-  }
-
   -- one share more
   pub outputs-next : (w row masks p e : ℕ) → out_at d first i < length sums → 2 * (outputs + i) + 2 ≤ length terms → w < first
       → (w ≡ word_a ops i) × (row ≡ word_sum (range 0 d) (λ j. nth sums (word_b d ops j))) × (masks ≡ bit_xor 0 (word_sum (others d i) (λ j. nth tape (mask_at d used i j)))) × (p ≡ out_at d first i) × (e ≡ bit_xor (2 ^ (18 + outputs + i)) masks)

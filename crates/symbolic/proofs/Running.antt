@@ -1,5 +1,5 @@
 -- Four words written at a place; the words of products, one after the other, and those of wires on a list.
-use mathlib.Core.Path.{◌≡◌, refl, sym, ap₂, ◌∙◌}
+use mathlib.Core.Path.{◌≡◌, sym, ap₂, ◌∙◌}
 use mathlib.Core.List.{List}
 use Prim.Native.Nat.{ℕ, zero, suc, ◌+◌, ◌*◌, ◌≤◌, ◌<◌}
 use native.Mathlib.Omega.{arith}
@@ -71,13 +71,7 @@ product-written {terms} {old} {new} {n} b f = record {
   sized = f.sized;
 }
 
--- none, and one more
-pub runs_none : (terms : List ℕ) (n : ℕ) (words : List ℕ) → Runs terms n n words words
-runs_none terms n words = record { are = λ m w l u h. absurd (omega arith); below = λ x l. refl; above = λ x l. refl; sized = refl }
-
-pub runs_end : {terms old new : List ℕ} {from n to : ℕ} → n ≡ to → Runs terms from n old new → Runs terms from to old new
-runs_end e r = rw (← e) r
-
+-- one more
 pub runs_next : {terms old mid new : List ℕ} {from n : ℕ} → from ≤ n → BoundedTerms terms from (n + 1) → Runs terms from n old mid → Runs terms n (n + 1) mid new → Runs terms from (n + 1) old new
 runs_next {terms} {old} {mid} {new} {from} {n} low b r s = record {
   are = λ m w l u h. cases (ltb m n)

@@ -22,7 +22,8 @@ use Rattle.simulation.proofs.Adding.{word_sum_ext}
 use Rattle.simulation.proofs.Equations.{apart}
 use Rattle.symbolic.specs.declared.gadget.Term.{Term}
 use Rattle.symbolic.specs.Internal.Sums.{added}
-use Rattle.symbolic.specs.Internal.Terms.{one, alone, times, sum_with, product_term, cross_term, inner_term, output_term}
+use Rattle.symbolic.specs.Internal.Inside.{product_wire, cross_wire}
+use Rattle.symbolic.specs.Internal.Terms.{one, alone, times, sum_with, wire_term, inner_term, output_term}
 use Rattle.symbolic.proofs.Masks.{added_none, added-xor, added-sum, added-one}
 use Rattle.symbolic.proofs.Products.{output-is}
 use Rattle.symbolic.proofs.Inside.{decoded, inner_mask, inner-share, inner_pair}
@@ -93,7 +94,7 @@ module _ (n : ℕ) (g : ℕ → ℕ → Bool) (f : Values) (full : f 17 ≡ pack
         part (suc (suc r)) e p = absurd (omega arith)
 
     -- B, m and M
-    share-right : (i part : ℕ) → i < d → part < 3 → v (product_at d first i + part) ≡ term_value f (product_term (nth sums (a i)) (nth sums (b i)) part)
+    share-right : (i part : ℕ) → i < d → part < 3 → v (product_at d first i + part) ≡ term_value f (wire_term d ops sums tape used (product_wire i part))
     share-right i zero l h = (let z : product_at d first i + 0 ≡ product_at d first i = omega arith in ap v z) ∙ (w.products i l).0 ∙ is_b i l ∙ sym (alone-value f _)
     share-right i (suc zero) l h = (w.products i l).1 ∙ ap₂ bit_and (is-a i l) (is_b i l) ∙ sym (times-value f _ _)
     share-right i (suc (suc zero)) l h = (w.products i l).2 ∙ ap₂ bit_and (is-a i l) (is_b i l) ∙ sym (times-value f _ _)
@@ -119,7 +120,7 @@ module _ (n : ℕ) (g : ℕ → ℕ → Bool) (f : Values) (full : f 17 ≡ pack
       is_w : bit_and (v (a i)) (bit_xor (v (product_at d first j)) (v (pair_at d first i j))) ≡ term_value f (times α (bit_xor β ρ))
       is_w = ap₂ bit_and (is-a i l) is_sum ∙ sym (times-value f _ _)
 
-      pair_right : (part : ℕ) → part < 6 → v (cross_at d first i j + part) ≡ term_value f (cross_term α β ρ part)
+      pair_right : (part : ℕ) → part < 6 → v (cross_at d first i j + part) ≡ term_value f (wire_term d ops sums tape used (cross_wire i j part))
       pair_right zero h = (let z : cross_at d first i j + 0 ≡ cross_at d first i j = omega arith in ap v z) ∙ (w.multiplied.crossed i l j k ne).0 ∙ is_u
       pair_right (suc zero) h = (w.multiplied.crossed i l j k ne).1 ∙ is_u
       pair_right (suc (suc zero)) h = (w.multiplied.crossed i l j k ne).2 ∙ is_sum ∙ sym (alone-value f _)
@@ -130,14 +131,14 @@ module _ (n : ℕ) (g : ℕ → ℕ → Bool) (f : Values) (full : f 17 ≡ pack
 
     pub inner-right : (o : ℕ) → 2 ≤ d → o < cross_start d d → v (first + o) ≡ term_value f (inner_term d ops sums tape used o)
     inner-right o two h = cases (ltb o (d * (d - 1)))
-        (λ e. let l = ltb-true o (d * (d - 1)) e in drawn-right o l ∙ ap (term_value f) (sym (inner_mask d ops sums tape used o l)))
+        (λ e. let l = ltb-true o (d * (d - 1)) e in drawn-right o l ∙ ap (λ w. term_value f (wire_term d ops sums tape used w)) (sym (inner_mask d o l)))
         (λ e. let l = ltb-false o (d * (d - 1)) e in cases (ltb o (d * (d - 1) + 3 * d))
         (λ e'. let u = ltb-true o (d * (d - 1) + 3 * d) e' in
         let p = o - d * (d - 1) in
         let z : first + o ≡ product_at d first (p / 3) + p % 3 = omega arith in
-        ap v z ∙ share-right (p / 3) (p % 3) (omega arith) (omega arith) ∙ ap (term_value f) (sym (inner-share d ops sums tape used o l u)))
+        ap v z ∙ share-right (p / 3) (p % 3) (omega arith) (omega arith) ∙ ap (λ w. term_value f (wire_term d ops sums tape used w)) (sym (inner-share d o l u)))
         (λ e'. let u = ltb-false o (d * (d - 1) + 3 * d) e' in
         let p = o - (d * (d - 1) + 3 * d) in
         let t = decoded d first p two (omega arith) in
         let z : first + o ≡ first + cross_start d 0 + p = omega arith in
-        ap v (z ∙ t.place) ∙ pair_right _ _ t.few t.other t.apart _ (omega arith) ∙ ap (term_value f) (sym (inner_pair d ops sums tape used o u))))
+        ap v (z ∙ t.place) ∙ pair_right _ _ t.few t.other t.apart _ (omega arith) ∙ ap (λ w. term_value f (wire_term d ops sums tape used w)) (sym (inner_pair d o u))))

@@ -1,4 +1,4 @@
--- What is written: sums that are copied, the wires of REF, and a term at its place.
+-- What is written: the wires of REF, and a term at its place.
 use mathlib.Core.Path.{◌≡◌, refl, ap, ◌∙◌}
 use mathlib.Core.List.{List}
 use Prim.Native.Nat.{ℕ, ◌+◌, ◌*◌, ◌≤◌, ◌<◌}
@@ -11,27 +11,9 @@ use Rattle.circuit.specs.Kinds.{pairs}
 use Rattle.circuit.specs.Gadgets.{others}
 use Rattle.gadgets.specs.Internal.Places.{word_a, mask_at, sum_at, held_at}
 use Rattle.gadgets.specs.Internal.Frames.{RowBefore}
-use Rattle.gadgets.proofs.Stored.{nth-set}
 use Rattle.simulation.specs.Internal.Filling.{word_sum}
 use Rattle.symbolic.specs.declared.gadget.Term.{Term}
 use Rattle.symbolic.specs.Internal.Terms.{term, product, term_at, with_term, Copies, Refreshes}
-
--- sums that are copied: none, and one more
-pub copies_none : (source : List ℕ) (from at : ℕ) (old : List ℕ) → Copies source from at 0 old old
-copies_none source from at old = record { are = λ q l. absurd (omega arith); below = λ x l. refl; sized = refl }
-
-pub copies_next : {source old new : List ℕ} {from at q : ℕ} → at + q < length old → Copies source from at q old new → Copies source from at (q + 1) old (set new (at + q) (nth source (from + q)))
-copies_next {source} {old} {new} {from} {at} {q} room h = record {
-  are = λ p l. nth-set new (at + q) (nth source (from + q)) (at + p) here (λ same z. z ∙ ap (nth source) (omega arith)) (λ other z. z ∙ h.are p (omega arith));
-  below = λ x l. get_or-set_other new (at + q) x (nth source (from + q)) 0 (λ z. omega arith) ∙ h.below x l;
-  sized = length-set new (at + q) (nth source (from + q)) ∙ h.sized;
-}
-  where
-    here : at + q < length new
-    here = omega (arith, h.sized)
-
-pub copies_end : {source old new : List ℕ} {from at q count : ℕ} → q ≡ count → Copies source from at q old new → Copies source from at count old new
-copies_end e h = rw (← e) h
 
 -- REF up to a share, from sums among which its random bits are
 abbrev refreshed : (d : ℕ) (ops tape : List ℕ) (used : ℕ) (sums : List ℕ) (i : ℕ) → ℕ
@@ -43,24 +25,7 @@ pub record RefreshedTo (d first : ℕ) (ops tape : List ℕ) (used : ℕ) (old n
   pub below : (x : ℕ) → x < sum_at d first 0 → nth new x ≡ nth old x
   pub sized : length new ≡ length old
 
-pub refreshed_none : (d first : ℕ) (ops tape : List ℕ) (used : ℕ) (old : List ℕ) → RefreshedTo d first ops tape used old old 0
-refreshed_none d first ops tape used old = record { summed = λ j l. absurd (omega arith); held = λ j l. absurd (omega arith); below = λ x l. refl; sized = refl }
-
 module _ {d first : ℕ} {ops tape : List ℕ} {used : ℕ} {old new : List ℕ} {i : ℕ} (r : RefreshedTo d first ops tape used old new i) where
-  pub refreshed_next : (w p q e : ℕ) → i < d → first + (pairs d + 2 * d) ≤ length old → w < first → (w ≡ word_a ops i) × (p ≡ sum_at d first i) × (q ≡ held_at d first i) × (e ≡ bit_xor (nth new w) (word_sum (others d i) (λ j. nth tape (mask_at d used i j))))
-      → RefreshedTo d first ops tape used old (set (set new p e) q e) (i + 1)
-  refreshed_next w p q e l room early (wire, at, behind, is) = record {
-    summed = λ j m. get_or-set_other (set new p e) q (sum_at d first j) e 0 (λ z. omega arith)
-        ∙ nth-set new p e (sum_at d first j) (omega (arith, r.sized)) (λ same z. z ∙ value j (omega arith)) (λ apart z. z ∙ r.summed j (omega arith));
-    held = λ j m. nth-set (set new p e) q e (held_at d first j) (simp length-set (omega (arith, r.sized))) (λ same z. z ∙ value j (omega arith))
-        (λ apart z. z ∙ get_or-set_other new p (held_at d first j) e 0 (λ y. omega arith) ∙ r.held j (omega arith));
-    below = λ x m. get_or-set_other (set new p e) q x e 0 (λ z. omega arith) ∙ get_or-set_other new p x e 0 (λ z. omega arith) ∙ r.below x m;
-    sized = simp length-set r.sized;
-  }
-    where
-      value : (j : ℕ) → i ≡ j → e ≡ refreshed d ops tape used old j
-      value j same = is ∙ ap (λ n. bit_xor n (word_sum (others d i) (λ k. nth tape (mask_at d used i k)))) (r.below w (omega arith) ∙ ap (nth old) wire) ∙ ap (refreshed d ops tape used old) same
-
   pub refreshed_end : {sums : List ℕ} → RowBefore first d (word_a ops) → d ≤ i → Copies tape used first (pairs d) sums old → Refreshes d first ops tape used sums new
   refreshed_end {sums} early u h = record {
     drawn = λ q l. r.below (first + q) (omega arith) ∙ h.are q l;

@@ -1,19 +1,21 @@
 // The wires of an accepted table as sums of variables, frame by frame.
-ghost use Rattle.std.specs.Prelude.{◌≡◌, cond, ℕ, ◌+◌, ◌^◌, ◌≤◌, ◌<◌, length, set, replicate};
-ghost use Rattle.std.specs.Int.Bits.{bit_xor};
+ghost use Rattle.std.specs.Prelude.{◌≡◌, cond, ℕ, ◌+◌, ◌^◌, ◌≤◌, ◌<◌, length, replicate};
 ghost use Rattle.circuit.specs.Limits.{wire_limit};
 ghost use Rattle.circuit.specs.Lists.{nth};
 ghost use Rattle.circuit.specs.Circuit.{is_set, size};
-ghost use Rattle.circuit.specs.Kinds.{pairs};
 ghost use Rattle.gadgets.specs.Internal.Accepting.{circuit_in};
 ghost use Rattle.simulation.specs.Internal.Evaluating.{Evaluable};
-ghost use Rattle.symbolic.specs.Internal.Terms.{one, AndAsks};
-ghost use Rattle.symbolic.specs.Internal.Expanding.{AndWrites, FrameAsks, FrameWrites, Expanded};
+ghost use Rattle.symbolic.specs.Internal.Terms.{one, AndTakes, Listed};
+ghost use Rattle.symbolic.specs.Internal.Expanding.{GateAsks, GateWrites, AndWrites, FrameAsks, FrameWrites, Expanded};
 
 use super::gadget;
-use super::gadget::ONE;
 use frames::randoms::random_bits;
-use frames::walk::{Frame, Gate, Step, Walk};
+use frames::walk::{Frame, Gate, Walk};
+use gadgets::places::Gadget;
+use simulation::values::Before;
+
+// The sum that is 1.
+pub const ONE: u64 = 0x2_0000;
 
 // A constant as a sum.
 fn constant(value: u16) -> u64
@@ -22,123 +24,72 @@ fn constant(value: u16) -> u64
     if value < 1 { 0 } else { ONE }
 }
 
-// The sum that a wire is.
-fn sum_of(sums: &[u64], wire: u16) -> u64
-    requires { wire < length sums.now }
-    ensures { result ≡ nth sums.now wire }
+// The wires of a gate, from the first of them on; `shares` begins with those that an IN takes.
+fn write_gate(sums: &mut [u64], gate: Gate, first: usize, d: usize, shares: &[u64])
+    requires { GateAsks gate d first (length sums.old) (length shares.now) }
+    ensures { GateWrites gate d first 0 shares.now sums.old sums.new }
 {
-    sums[wire as usize]
-}
-
-// The wire of a CON.
-fn write_constant(sums: &mut [u64], first: usize, value: u16)
-    requires { (first < length sums.old) × (length sums.old ≤ wire_limit) }
-    ensures { sums.new ≡ set sums.old first (cond (is_set value) one 0) }
-{
-    sums[first] = constant(value);
-}
-
-// The wire of an XOR.
-fn write_xor(sums: &mut [u64], first: usize, one: u16, other: u16)
-    requires { (first < length sums.old) × (length sums.old ≤ wire_limit) × (one < first) × (other < first) }
-    ensures { sums.new ≡ set sums.old first (bit_xor (nth sums.old one) (nth sums.old other)) }
-{
-    sums[first] = sum_of(sums, one) ^ sum_of(sums, other);
-}
-
-// The wire of a NOT.
-fn write_not(sums: &mut [u64], first: usize, wire: u16)
-    requires { (first < length sums.old) × (length sums.old ≤ wire_limit) × (wire < first) }
-    ensures { sums.new ≡ set sums.old first (bit_xor one (nth sums.old wire)) }
-{
-    sums[first] = ONE ^ sum_of(sums, wire);
-}
-
-// The wire of a REG.
-fn write_register(sums: &mut [u64], first: usize, wire: u16)
-    requires { (first < length sums.old) × (length sums.old ≤ wire_limit) × (wire < first) }
-    ensures { sums.new ≡ set sums.old first (nth sums.old wire) }
-{
-    sums[first] = sum_of(sums, wire);
+    match gate {
+        Gate::In { stage: _ } => sums[first..first + d].copy_from_slice(&shares[..d]),
+        Gate::Con {
+            label: _,
+            value,
+            stage: _,
+        } => sums[first] = constant(value),
+        Gate::Xor {
+            first: one,
+            second: other,
+        } => sums[first] = sums[one as usize] ^ sums[other as usize],
+        Gate::Not { wire } => sums[first] = ONE ^ sums[wire as usize],
+        Gate::Reg { wire } => sums[first] = sums[wire as usize],
+        Gate::Out => {}
+    }
 }
 
 // AND: the wires inside it that are read, then its outputs.
 fn write_and(
     sums: &mut [u64],
-    terms: &mut [u64],
-    first: usize,
-    d: usize,
+    terms: &mut [u64; 80],
+    gadget: Gadget,
     ops: &[u16],
     tape: &[u64],
-    used: usize,
     read: &[u16],
-    found: usize,
     outputs: usize,
 )
-    requires { AndAsks d first ops.now (length sums.old) (length tape.now) used × (length terms.old ≡ 80) × (found ≤ 8) × (found ≤ length read.now) × ((i : ℕ) → i < found → nth read.now i < length sums.old) × (outputs + d ≤ 32) }
-    ensures { AndWrites d first ops.now tape.now used read.now found outputs sums.old terms.old sums.new terms.new }
+    requires { AndTakes gadget ops.now sums.old tape.now × (outputs + gadget.d ≤ 32) × Listed read.now (length sums.old) }
+    ensures { AndWrites gadget.d gadget.first ops.now tape.now gadget.used read.now (length read.now) outputs sums.old terms.old sums.new terms.new }
 {
-    gadget::read_inside(sums, terms, first, d, ops, tape, used, read, found);
-    gadget::write_outputs(sums, terms, first, d, ops, tape, used, outputs);
+    gadget::read_inside(sums, terms, gadget, ops, tape, read);
+    gadget::write_outputs(sums, terms, gadget, ops, tape, outputs);
 }
 
-// The wires of a frame, behind so many wires, shares, random bits and outputs of ANDs. The answer is how many outputs there are then.
+// The wires of a frame at a place, behind so many outputs of ANDs; `shares` begins with those that an IN takes. The answer is how many
+// outputs there are then.
 fn write_frame(
     sums: &mut [u64],
-    terms: &mut [u64],
+    terms: &mut [u64; 80],
     frame: Frame,
-    d: usize,
-    randoms: u16,
-    first: usize,
-    from: usize,
-    used: usize,
+    place: Gadget,
     ops: &[u16],
     shares: &[u64],
     tape: &[u64],
     read: &[u16],
-    found: usize,
     outputs: usize,
 ) -> usize
-    requires { FrameAsks frame d first from used ops.now (length sums.old) (length shares.now) (length tape.now) outputs × (randoms ≡ pairs d) × (length terms.old ≡ 80) × (found ≤ 8) × (found ≤ length read.now) × ((i : ℕ) → i < found → nth read.now i < length sums.old) }
-    ensures { FrameWrites frame d first from used ops.now shares.now tape.now read.now found outputs sums.old terms.old sums.new terms.new result }
+    requires { FrameAsks frame place.d place.first place.used ops.now (length sums.old) (length shares.now) (length tape.now) outputs × Listed read.now (length sums.old) }
+    ensures { FrameWrites frame place.d place.first place.used ops.now shares.now tape.now read.now (length read.now) outputs sums.old terms.old sums.new terms.new result }
 {
     match frame {
-        Frame::Gate(gate) => match gate {
-            Gate::In { stage: _ } => {
-                gadget::copy(sums, first, shares, from, d);
-                outputs
-            }
-            Gate::Con {
-                label: _,
-                value,
-                stage: _,
-            } => {
-                write_constant(sums, first, value);
-                outputs
-            }
-            Gate::Xor {
-                first: one,
-                second: other,
-            } => {
-                write_xor(sums, first, one, other);
-                outputs
-            }
-            Gate::Not { wire } => {
-                write_not(sums, first, wire);
-                outputs
-            }
-            Gate::Reg { wire } => {
-                write_register(sums, first, wire);
-                outputs
-            }
-            Gate::Out => outputs,
-        },
+        Frame::Gate(gate) => {
+            write_gate(sums, gate, place.first, place.d, shares);
+            outputs
+        }
         Frame::And => {
-            write_and(sums, terms, first, d, ops, tape, used, read, found, outputs);
-            outputs + d
+            write_and(sums, terms, place, ops, tape, read, outputs);
+            outputs + place.d
         }
         Frame::Ref => {
-            gadget::refresh(sums, first, d, randoms as usize, ops, tape, used);
+            gadget::refresh(sums, place, ops, tape);
             outputs
         }
     }
@@ -151,46 +102,38 @@ pub fn expand(
     shares: &[u64],
     tape: &[u64],
     read: &[u16],
-    found: usize,
     sums: &mut [u64],
-    terms: &mut [u64],
+    terms: &mut [u64; 80],
 ) -> usize
     requires { Evaluable table.now shares.now tape.now (length sums.old) × (length tape.now ≤ 16) × ((x : ℕ) → nth shares.now x < 2 ^ 18) × ((x : ℕ) → nth tape.now x < 2 ^ 18) × (length sums.old ≤ wire_limit)
-        × (found ≤ 8) × (found ≤ length read.now) × ((i : ℕ) → i < found → nth read.now i < size (circuit_in table.now)) × (terms.old ≡ replicate 80 0) }
-    ensures { Expanded table.now shares.now tape.now read.now found sums.new terms.new result }
+        × (length read.now ≤ 8) × ((i : ℕ) → i < length read.now → nth read.now i < size (circuit_in table.now)) × (terms.old ≡ replicate 80 0) }
+    ensures { Expanded table.now shares.now tape.now read.now (length read.now) sums.new terms.new result }
 {
     let d = table[1];
     let n = d as usize;
     let randoms = random_bits(d);
     let mut walk = Walk { d, at: 2 };
-    let mut first = 0;
-    let mut from = 0;
-    let mut used = 0;
+    let mut before = Before {
+        first: 0,
+        from: 0,
+        used: 0,
+    };
     let mut outputs = 0;
-    loop {
-        let step = walk.step(table, randoms);
-        match step {
-            Step::Next {
-                frame,
-                shape,
-                walk: next,
-            } => {
-                let ops = walk.operands(table);
-                outputs = write_frame(
-                    sums, terms, frame, n, randoms, first, from, used, ops, shares, tape, read,
-                    found, outputs,
-                );
-                first += shape.wires;
-                from += n * shape.inputs;
-                used += shape.randoms;
-                walk = next;
-            }
-            Step::End => {
-                return outputs;
-            }
-            Step::Refused { rule: _ } => {
-                return outputs;
-            }
-        }
+    // a walk's step goes over as many words as the frame has
+    while let Ok(Some(next)) = walk.step(table, randoms) {
+        let ops = walk.operands(table);
+        let place = Gadget {
+            d: n,
+            pairs: randoms as usize,
+            first: before.first,
+            used: before.used,
+        };
+        let given = &shares[before.from..];
+        outputs = write_frame(
+            sums, terms, next.frame, place, ops, given, tape, read, outputs,
+        );
+        before = before.behind(next.shape, n);
+        walk = next.walk;
     }
+    outputs
 }

@@ -9,3 +9,4 @@
 pub mod evaluate;
 pub mod expand;
 mod gadget;
+mod offsets;

@@ -1,50 +1,59 @@
--- The loop's invariant: the frames so far are a circuit whose notes are written, and the rest is still to be judged. Each turn passes
--- a frame or answers.
-use mathlib.Core.Path.{◌≡◌}
+-- Each turn passes a frame or answers.
+use mathlib.Core.Path.{◌≡◌, sym, ap, ◌∙◌}
 use native.Mathlib.Omega.{arith}
 use lib.ListN.{length}
-use Rattle.std.specs.Prelude.{Some, Ok}
+use Rattle.std.specs.Prelude.{Some, Ok, Err}
+use Rattle.std.proofs.lemmas.Result.{err_from_is_err_and}
+use Rattle.circuit.specs.Refusals.{refusal}
 use Rattle.frames.specs.Walk.{step_at}
+use Rattle.checker.proofs.Mapped.{was_ok, was_err}
 use Rattle.checker.proofs.Checking.{headed, start}
-use Rattle.checker.proofs.Listed.{refused_listed}
 use Rattle.checker.proofs.Ways.{stepped, way_end, way_refused, frame_of, way_broken, turn, less_left, bounded}
 use Rattle.checker.proofs.check_frames.Goals as goal
 use Rattle.checker.proofs.check_frames.Goals.{After-operands-ops}
 
 -- a whole frame stands at the walk's place
-met : (c : After-operands-ops) → Ok (Some c.in-Ok-Some.next) ≡ step_at c.args.table.now c.frames.walk.d c.frames.walk.at
-met c = stepped c.frames.invariant c.random_bits-randoms.ensures.0 (rw c.in-Ok-Some.field-0-is at c.in-Ok-Some.ensures)
+met : (c : After-operands-ops) → Ok (Some c.in-Some.next) ≡ step_at c.args.table.now c.loop-next.walk.d c.loop-next.walk.at
+met c = sym (was_ok _ c.step.result c.map_err.result c.map_err.ensures.cases (c.in_ok-next.was ∙ ap Ok c.in-Some.is)) ∙ stepped c.loop-next.invariant c.random_bits-randoms.ensures.0 c.step.ensures
 
 pub bounds-table-1 : goal.bounds-table-1
 bounds-table-1 c = omega (arith, (headed c.args.table.now (length c.args.notes.now) c.requires).two)
 
-pub frames-init : goal.frames-init
-frames-init c = rw c.head_alone-tally.ensures (start c.args.table.now c.args.notes.now c.requires)
+pub loop-next-init : goal.loop-next-init
+loop-next-init c = rw c.head_alone-tally.ensures (start c.args.table.now c.args.notes.now c.requires)
 
-pub returns-in-Ok-None : goal.returns-in-Ok-None
-returns-in-Ok-None c =
-    let p = way_end c.frames.invariant (stepped c.frames.invariant c.random_bits-randoms.ensures.0 (rw c.in-Ok-None.field-0-is at c.in-Ok-None.ensures)) in
+pub returns-in_err-next : goal.returns-in_err-next
+returns-in_err-next c =
+    let w = c.loop-next.invariant in
+    let (rule, was, is) = was_err _ c.step.result c.map_err.result c.map_err.ensures.cases c.in_err-next.was in
+    let e = err_from_is_err_and c.from_residual.result c.from_residual.ensures.1 in
+    let same : c.from_residual.result ≡ Err (refusal rule c.loop-next.tally.frames 0) = cc in
+    let p = way_refused w rule (sym was ∙ stepped w c.random_bits-randoms.ensures.0 c.step.ensures) in
+    rw same (record { answered = p.0; noted = p.1.0; inputs = p.1.1 })
+
+pub add-requires : goal.add-requires
+add-requires c = let w = c.loop-next.invariant in (bounded w, frame_of w (met (goal.at.add-requires c).After-operands-ops) c.operands-ops.result.now c.operands-ops.ensures)
+
+pub loop-next-smaller : goal.loop-next-smaller
+loop-next-smaller c = less_left c.loop-next.invariant (met (goal.at.loop-next-smaller c).After-operands-ops) c.operands-ops.result.now c.operands-ops.ensures
+
+pub loop-next-preserved : goal.loop-next-preserved
+loop-next-preserved c =
+    turn c.loop-next.invariant (met (goal.at.loop-next-preserved c).After-operands-ops) c.operands-ops.result.now c.operands-ops.ensures _ c.add.result c.add.ensures _
+    (was_ok _ c.add.result c.map_err-in-Some.result c.map_err-in-Some.ensures.cases c.in_ok-tally.was)
+
+pub returns-in_err-tally : goal.returns-in_err-tally
+returns-in_err-tally c =
+    let w = c.loop-next.invariant in
+    let (spot, was, is) = was_err _ c.add.result c.map_err-in-Some.result c.map_err-in-Some.ensures.cases c.in_err-tally.was in
+    let e = err_from_is_err_and c.from_residual-in_err-tally.result c.from_residual-in_err-tally.ensures.1 in
+    let same : c.from_residual-in_err-tally.result ≡ Err (refusal spot.rule c.loop-next.tally.frames spot.word) = cc in
+    let p = way_broken w (met (goal.at.returns-in_err-tally c).After-operands-ops) c.operands-ops.result.now c.operands-ops.ensures _ c.add.result c.add.ensures spot was in
+    rw same (record { answered = p.0; noted = p.1.0; inputs = p.1.1 })
+
+pub returns : goal.returns
+returns c =
+    let w = c.loop-next.invariant in
+    let was = was_ok _ c.step.result c.map_err.result c.map_err.ensures.cases (c.in_ok-next.was ∙ ap Ok c.in_default.is) in
+    let p = way_end w (sym was ∙ stepped w c.random_bits-randoms.ensures.0 c.step.ensures) in
     rw c.answer.ensures (record { answered = p.0; noted = p.1.0; inputs = p.1.1 })
-
-pub returns-in-Err : goal.returns-in-Err
-returns-in-Err c =
-    let p = way_refused c.frames.invariant c.in-Err.rule (stepped c.frames.invariant c.random_bits-randoms.ensures.0 c.in-Err.ensures) in
-    record { answered = p.0; noted = p.1.0; inputs = p.1.1 }
-
-pub add-added-requires : goal.add-added-requires
-add-added-requires c = let w = c.frames.invariant in (bounded w, frame_of w (met (goal.at.add-added-requires c).After-operands-ops) c.operands-ops.result.now c.operands-ops.ensures)
-
-pub frames-smaller : goal.frames-smaller
-frames-smaller c = less_left c.frames.invariant (met (goal.at.frames-smaller c).After-operands-ops) c.operands-ops.result.now c.operands-ops.ensures
-
-pub frames-preserved : goal.frames-preserved
-frames-preserved c =
-    turn c.frames.invariant (met (goal.at.frames-preserved c).After-operands-ops) c.operands-ops.result.now c.operands-ops.ensures _ c.add-added.result c.add-added.ensures _ c.in-Next.is
-
-pub named-requires : goal.named-requires
-named-requires c = refused_listed c.add-added.ensures c.in-Refused.is
-
-pub returns-in-Refused : goal.returns-in-Refused
-returns-in-Refused c =
-    let p = way_broken c.frames.invariant (met (goal.at.returns-in-Refused c).After-operands-ops) c.operands-ops.result.now c.operands-ops.ensures _ c.add-added.result c.add-added.ensures c.in-Refused.spot c.named.result c.named.ensures c.in-Refused.is in
-    record { answered = p.0; noted = p.1.0; inputs = p.1.1 }

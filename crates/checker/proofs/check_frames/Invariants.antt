@@ -5,8 +5,8 @@ use lib.ListN.{length}
 use Rattle.checker.proofs.Checking.{Walking}
 use Rattle.checker.proofs.check_frames.Given as goal
 
-abbrev pub invariant-frames : goal.invariant-frames
-invariant-frames l = Walking l.table l.initial.notes l.notes l.d l.walk l.tally
+abbrev pub invariant-loop-next : goal.invariant-loop-next
+invariant-loop-next l = Walking l.table l.initial.notes l.notes l.d l.walk l.tally
 
-abbrev pub decreases-frames : goal.decreases-frames
-decreases-frames l = length l.table - l.walk.at
+abbrev pub decreases-loop-next : goal.decreases-loop-next
+decreases-loop-next l = length l.table - l.walk.at

@@ -1,47 +1,61 @@
 -- What the notes say of wires, what a wire breaks that a word names, and the words of new wires.
-use Rattle.std.specs.Prelude.{◌≡◌, Bool, cond, List, [], ◌∷◌, ◌++◌, ℕ, zero, suc, ◌+◌, ◌*◌, ◌%◌, leb, ltb, eqb}
-use Rattle.circuit.specs.Limits.{registered_note, inner_note}
+use Rattle.std.specs.Prelude.{◌≡◌, Bool, cond, List, [], ◌∷◌, ◌++◌, ℕ, zero, suc, ◌+◌, ◌*◌, ◌%◌, ◌≤◌, leb, ltb, eqb, length, Result, Ok, Err}
+use Rattle.circuit.specs.Limits.{notes_room, wire_limit, registered_note, inner_note}
 use Rattle.circuit.specs.Lists.{nth}
 use Rattle.circuit.specs.Circuit.{Circuit, size, Lookup, found, hidden, look_up}
-use Rattle.checker.specs.declared.notes.Found.{Found}
-use Rattle.checker.specs.declared.notes.Found.TheVariants.{Missing, Inner, Named}
+use Rattle.circuit.specs.declared.rules.Rule.{Rule}
+use Rattle.circuit.specs.declared.rules.Rule.TheVariants.{MissingWire, InnerWire, Label, Stage, Registered}
+use Rattle.checker.specs.declared.notes.Named.{Named}
+use Rattle.checker.specs.declared.notes.Wanted.{Wanted}
 use Rattle.checker.specs.declared.notes.Made.{Made}
 
--- what two words of the notes say, and what the notes say of a wire, of so many that are in them
-abbrev pub found_in : (first stage : ℕ) → Found
-found_in first t = cond (eqb first inner_note) Inner (Named (first % registered_note) t (leb registered_note first))
+-- notes with room for all wires that a circuit may have, of which so many are in them
+pub record Room (wires : ℕ) (notes : List ℕ) : Type 0 where
+  pub few : wires ≤ wire_limit
+  pub long : notes_room ≤ length notes
 
-abbrev pub noted : List ℕ → (wires x : ℕ) → Found
-noted notes wires x = cond (ltb x wires) (found_in (nth notes (2 * x)) (nth notes (2 * x + 1))) Missing
+-- what two words of the notes say, and what the notes say of a wire, of so many that are in them
+abbrev pub named : (label stage : ℕ) (registered : Bool) → Named
+named l t registered = record { label = l; stage = t; registered = registered }
+
+abbrev pub found_in : (first stage : ℕ) → Result Named Rule
+found_in first t = cond (eqb first inner_note) (Err InnerWire) (Ok (named (first % registered_note) t (leb registered_note first)))
+
+abbrev pub noted : List ℕ → (wires x : ℕ) → Result Named Rule
+noted notes wires x = cond (ltb x wires) (found_in (nth notes (2 * x)) (nth notes (2 * x + 1))) (Err MissingWire)
 
 -- what a circuit says of a wire
-abbrev pub shown : Lookup → Found
-shown (found l t registered) = Named l t registered
-shown hidden = Inner
+abbrev pub shown : Lookup → Result Named Rule
+shown (found l t registered) = Ok (named l t registered)
+shown hidden = Err InnerWire
 
-abbrev pub found_of : Circuit → ℕ → Found
-found_of k x = cond (ltb x (size k)) (shown (look_up k x)) Missing
+abbrev pub found_of : Circuit → ℕ → Result Named Rule
+found_of k x = cond (ltb x (size k)) (shown (look_up k x)) (Err MissingWire)
 
 -- notes that say of every number what the circuit says
 abbrev pub Represents : Circuit → List ℕ → ℕ → Type 0
 Represents k notes wires = (x : ℕ) → noted notes wires x ≡ found_of k x
 
-abbrev pub label_found : Found → ℕ
-label_found Missing = 0
-label_found Inner = 0
-label_found (Named l t registered) = l
+abbrev pub label_found : Result Named Rule → ℕ
+label_found (Ok n) = n.label
+label_found (Err rule) = 0
 
-abbrev pub stage_found : Found → ℕ
-stage_found Missing = 0
-stage_found Inner = 0
-stage_found (Named l t registered) = t
+abbrev pub stage_found : Result Named Rule → ℕ
+stage_found (Ok n) = n.stage
+stage_found (Err rule) = 0
 
--- the number of the first rule that a wire breaks which has to have a label, and a stage that much before another, and, where
--- that is asked, to be registered; 0 for none
-abbrev pub wire_number : Found → (label stage ahead : ℕ) (register : Bool) → ℕ
-wire_number Missing l t ahead register = 8
-wire_number Inner l t ahead register = 9
-wire_number (Named a s registered) l t ahead register = cond (eqb a l) (cond (eqb (s + ahead) t) (cond register (cond registered 0 22) 0) 11) 10
+-- a rule, broken where a test fails
+abbrev pub ask : Bool → Rule → Result (Unit {0}) Rule
+ask b rule = cond b (Ok tt) (Err rule)
+
+-- the first rule that a wire breaks of which a label is asked, to stand so many stages before another, and, if so told, to be
+-- registered
+abbrev pub wanted : (stage ahead : ℕ) (registered : Bool) → Wanted
+wanted t ahead registered = record { stage = t; ahead = ahead; registered = registered }
+
+abbrev pub wire_asked : Result Named Rule → (label : ℕ) → Wanted → Result (Unit {0}) Rule
+wire_asked (Err rule) l w = Err rule
+wire_asked (Ok n) l w = cond (eqb n.label l) (cond (eqb (n.stage + w.ahead) w.stage) (cond w.registered (ask n.registered Registered) (Ok tt)) (Err Stage)) (Err Label)
 
 -- the first word of a named wire; the words of inner wires, and of named wires with first words in a row
 abbrev pub first_word : (label : ℕ) (registered : Bool) → ℕ

@@ -4,12 +4,10 @@ use Rattle.circuit.specs.Lists.{nth, overwrite}
 use Rattle.circuit.specs.Wires.{Wire}
 use Rattle.circuit.specs.Circuit.{size}
 use Rattle.semantics.specs.Values.{bytes}
-use Rattle.semantics.specs.Clock.{is_register, held_bytes, register_bytes, shown_on}
-use Rattle.semantics.specs.Calls.{bytes_rule}
+use Rattle.semantics.specs.Clock.{is_register, held_bytes, shown_on}
 use Rattle.semantics.proofs.Solving.{gate_at}
 use Rattle.gadgets.specs.Internal.Accepting.{circuit_in}
 use Rattle.simulation.specs.Internal.Evaluating.{Evaluable, Bits}
-use Rattle.evaluation.specs.Internal.Refusing.{refusal}
 
 -- the wires of an accepted table
 abbrev pub wires_of : List ℕ → List Wire
@@ -29,7 +27,3 @@ pub record AllBits (table shares tape shown : List ℕ) : Type 0 where
 pub record Clocked (table shares tape shown values bank new_values new_bank : List ℕ) : Type 0 where
   pub valued : AllBits table shares tape shown → new_values ≡ overwrite (bytes (shown_on (wires_of table) shown shares tape)) values
   pub banked : AllBits table shares tape shown → new_bank ≡ overwrite (held_bytes (wires_of table) (shown_on (wires_of table) shown shares tape) bank) bank
-
--- the first register whose byte of the bank is over 1
-pub record RegisterFirst (table bank : List ℕ) (r : ℕ) : Type 0 where
-  pub is : (i : ℕ) → bytes_rule i (register_bytes (wires_of table) bank) ≡ refusal 18 i (register_bytes (wires_of table) bank) r

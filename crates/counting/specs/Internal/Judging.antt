@@ -1,13 +1,13 @@
 -- A call judged, but for rule 25, which is asked once the wires that are read are known.
-use Rattle.std.specs.Prelude.{◌≡◌, List, ℕ, ◌*◌, leb, eqb, length}
+use Rattle.std.specs.Prelude.{◌≡◌, List, ℕ, ◌*◌, leb, eqb, length, Result}
 use Rattle.semantics.specs.Counts.{free_bits}
 use Rattle.circuit.specs.Circuit.{Circuit}
 use Rattle.circuit.specs.Rules.{Judgement, need, ◌then◌, checked}
-use Rattle.circuit.specs.Answer.{Answer, accepted as taken, refused as untaken, answer, notes_after}
+use Rattle.circuit.specs.Answer.{answer, notes_after}
 use Rattle.semantics.specs.Calls.{bytes_rule, probes_rule, circuit_of}
-use Rattle.checker.specs.declared.Verdict.{Verdict}
+use Rattle.circuit.specs.declared.rules.Refusal.{Refusal}
+use Rattle.checker.specs.declared.Accepted.{Accepted}
 use Rattle.checker.specs.Answers.{answer_of, InputsAre}
-use Rattle.counting.specs.Counting.{CountAnswer, refused}
 
 module _ (table notes secrets probes : List ℕ) (room : ℕ) where
   abbrev k : Circuit
@@ -23,12 +23,7 @@ module _ (table notes secrets probes : List ℕ) (room : ℕ) where
       then need (leb (free_bits k) 16) 24 0 0
 
   -- the answer by them, with the number of INs where it accepts, and the notes after the call
-  pub record Judged (new_notes : List ℕ) (r : Verdict) : Type 0 where
+  pub record Judged (new_notes : List ℕ) (r : Result Accepted Refusal) : Type 0 where
     pub answers : answer_of r ≡ answer k first_rules
     pub noted : new_notes ≡ notes_after k notes
     pub inputs : InputsAre r k.inputs
-
--- a refusal as this call's answer
-abbrev pub refusal_in : Answer → CountAnswer
-refusal_in (taken wires randoms latency) = refused 0 0 0
-refusal_in (untaken rule frame word) = refused rule frame word

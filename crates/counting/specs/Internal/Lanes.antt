@@ -1,7 +1,8 @@
 -- Numbers of eight pairs in the bytes of a word, from bits of 64 pairs in the bits of words; and numbers counted in a tally.
-use Rattle.std.specs.Prelude.{◌≡◌, Bool, cond, List, map, ℕ, zero, suc, ◌+◌, ◌-◌, ◌*◌, ◌/◌, ◌%◌, ◌<◌, eqb, length}
+use Rattle.std.specs.Prelude.{◌≡◌, Bool, cond, List, map, ℕ, zero, suc, ◌+◌, ◌*◌, ◌/◌, ◌%◌, ◌<◌, eqb, length}
 use Rattle.circuit.specs.Lists.{nth, range}
 use Rattle.circuit.specs.Circuit.{is_set}
+use Rattle.counting.specs.declared.tallies.Tallies.{Tallies}
 use Rattle.counting.specs.Internal.Pairs.{sum_to, number_of}
 
 -- the bit of a pair in a word
@@ -34,11 +35,15 @@ place_of second w = cond second (w + 2) w
 abbrev pub shown_in : (shown : List ℕ) (second : Bool) (found pair : ℕ) → ℕ
 shown_in shown second found u = shown_by (column_of shown (place_of second (u / 64))) found (u % 64)
 
--- a number, or the most that there may be
-abbrev pub at_most : (n most : ℕ) → ℕ
-at_most n most = n - (n - most)
-
 -- one more is counted for each of the first so many pairs, at its number
 pub record Adds (number : ℕ → ℕ) (lanes : ℕ) (old new : List ℕ) : Type 0 where
   pub added : (n : ℕ) → n < 256 → nth new n ≡ nth old n + sum_to lanes (λ l. cond (eqb (number l) n) 1 0)
   pub sized : length new ≡ length old
+
+-- the counts under the first set of secret bits, or under the second
+abbrev pub tally_of : (second : Bool) → Tallies → List ℕ
+tally_of second t = cond second t.second t.first
+
+-- so many more can be counted for any number
+abbrev pub HasRoom : Tallies → (lanes : ℕ) → Type 0
+HasRoom t lanes = (second : Bool) (n : ℕ) → nth (tally_of second t) n + lanes < 4294967296

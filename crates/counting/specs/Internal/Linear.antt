@@ -30,11 +30,11 @@ pub record SurveysMore (terms : List ℕ) (from to needed factors needed' factor
   pub above : (s : ℕ) → 18 + to ≤ s → lane_bit s needed' ≡ lane_bit s needed
 
 -- the variables that the read wires need, and those that are factors of products among them
-pub record Surveyed (sums terms read : List ℕ) (outputs found factors : ℕ) : Type 0 where
+pub record Surveyed (sums terms read : List ℕ) (outputs factors : ℕ) : Type 0 where
   pub needed : ℕ
-  pub reads : (i : ℕ) → i < found → Within (nth sums (nth read i)) needed
+  pub reads : (i : ℕ) → i < length read → Within (nth sums (nth read i)) needed
   pub outs : SurveysRange terms needed factors 0 outputs
-  pub inner : SurveysRange terms needed factors 32 (32 + found)
+  pub inner : SurveysRange terms needed factors 32 (32 + length read)
 
 -- the free bits that vary: those that are factors
 abbrev pub varied_in : (factors free : ℕ) → List Bool
@@ -42,13 +42,13 @@ varied_in factors n = map (λ i. lane_bit i factors) (range 0 n)
 
 -- by which number what is shown differs where a free bit that does not vary is set: the read wires to which it is added; the
 -- numbers of all free bits
-abbrev pub shift_in : (sums read : List ℕ) (found i : ℕ) → ℕ
-shift_in sums read found i = shown_by (λ j. nth sums (nth read j)) found i
+abbrev pub shift_in : (sums read : List ℕ) (i : ℕ) → ℕ
+shift_in sums read i = shown_by (λ j. nth sums (nth read j)) (length read) i
 
-pub record ShiftsIn (sums read : List ℕ) (found free : ℕ) (shifts : List ℕ) : Type 0 where
-  pub are : (i : ℕ) → i < free → nth shifts i ≡ shift_in sums read found i
-  pub low : (i : ℕ) → nth shifts i < 2 ^ found
-  pub sized : length shifts ≡ 16
+pub record ShiftsIn (sums read : List ℕ) (free : ℕ) (shifts : List ℕ) : Type 0 where
+  pub are : (i : ℕ) → i < free → nth shifts i ≡ shift_in sums read i
+  pub low : (i : ℕ) → nth shifts i < 2 ^ length read
+  pub sized : length shifts ≡ free
 
 -- the numbers of a tally below one are others
 pub record Remade (f : ℕ → ℕ) (count : ℕ) (old new : List ℕ) : Type 0 where
@@ -61,9 +61,3 @@ abbrev pub pair_added : (shift n : ℕ) → List ℕ → List ℕ
 pair_added shift n old =
     let sum = nth old n + nth old (bit_xor n shift) in
     cond (leb (bit_xor n shift) n) old (set (set old n sum) (bit_xor n shift) sum)
-
--- a free bit counted, set and not set; the answer is how often all counts are still to be doubled
-pub record FoldsBit (factors shift i count : ℕ) (old new : List ℕ) (r : ℕ) : Type 0 where
-  pub varied : lane_bit i factors ≡ true → (new ≡ old) × (r ≡ 0)
-  pub double : lane_bit i factors ≡ false → shift ≡ 0 → (new ≡ old) × (r ≡ 1)
-  pub moved : lane_bit i factors ≡ false → (shift ≡ 0 → ⊥) → Remade (λ n. nth old n + nth old (bit_xor n shift)) count old new × (r ≡ 0)

@@ -1,5 +1,5 @@
 -- Pairs of a sharing and a tape by their free bits, all pairs by their numbers, and the combination that the read wires show in each.
-use Rattle.std.specs.Prelude.{Bool, true, false, cond, List, [], ◌∷◌, ◌++◌, map, ℕ, zero, suc, ◌+◌, ◌-◌, ◌*◌, ◌/◌, ◌%◌, ◌^◌, eqb, length, take, drop}
+use Rattle.std.specs.Prelude.{◌≡◌, Bool, true, false, cond, List, [], ◌∷◌, ◌++◌, map, ℕ, zero, suc, ◌+◌, ◌-◌, ◌*◌, ◌/◌, ◌%◌, ◌^◌, ◌≤◌, ◌<◌, eqb, length, take, drop}
 use Rattle.circuit.specs.Lists.{◌⊕◌}
 use Rattle.circuit.specs.Circuit.{Circuit, is_set}
 use Rattle.semantics.specs.Values.{byte, at, values_of}
@@ -63,3 +63,10 @@ abbrev pub count_varied : List Bool → ℕ
 count_varied [] = 0
 count_varied (true ∷ vs) = suc (count_varied vs)
 count_varied (false ∷ vs) = count_varied vs
+
+-- so many batches of so many pairs each make up all pairs; where there is more than one, each has 128
+pub record Divides (free count lanes : ℕ) : Type 0 where
+  pub all : count * lanes ≡ 2 ^ free
+  pub some : 1 ≤ lanes
+  pub few : lanes ≤ 128
+  pub behind : (batch : ℕ) → batch < count → batch * lanes ≡ 128 * batch

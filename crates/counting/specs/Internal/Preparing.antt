@@ -3,7 +3,7 @@
 use Rattle.std.specs.Prelude.{◌≡◌, cond, List, map, ℕ, ◌+◌, ◌*◌, ◌-◌, ◌%◌, ◌^◌, ◌<◌, leb, length, take, drop}
 use Rattle.circuit.specs.Lists.{nth, range}
 use Rattle.circuit.specs.Circuit.{is_set}
-use Rattle.counting.specs.declared.tally.Plan.{Plan}
+use Rattle.counting.specs.declared.plan.Plan.{Plan}
 use Rattle.semantics.specs.Values.{at}
 use Rattle.simulation.specs.Internal.Evaluating.{packed}
 use Rattle.counting.specs.Internal.Pairs.{placed}

@@ -6,8 +6,7 @@ use Rattle.circuit.specs.Circuit.{size}
 use Rattle.semantics.specs.Values.{bits, at}
 use Rattle.gadgets.specs.Internal.Accepting.{AcceptedTable, circuit_in}
 use Rattle.simulation.specs.Internal.Evaluating.{packed}
-use Rattle.counting.specs.declared.tally.Plan.{Plan}
-use Rattle.counting.specs.declared.tally.Enumeration.{Enumeration}
+use Rattle.counting.specs.declared.plan.Plan.{Plan}
 use Rattle.counting.specs.Counting.{read_wires, count_list}
 use Rattle.symbolic.specs.Internal.Expanding.{Expanded}
 use Rattle.counting.specs.Internal.Pairs.{values_with, shown_among, shown_of, placed, count_varied}
@@ -29,63 +28,51 @@ pub record Countable (table secrets : List ℕ) : Type 0 where
   pub sized : length secrets ≡ (circuit_in table).inputs
   pub bit : (x : ℕ) → nth secrets x ≤ 1
 
--- so many batches of so many pairs each make up all pairs; where there is more than one, each has 128
-pub record Divides (free count lanes : ℕ) : Type 0 where
-  pub all : count * lanes ≡ 2 ^ free
-  pub some : 1 ≤ lanes
-  pub few : lanes ≤ 128
-  pub behind : (batch : ℕ) → batch < count → batch * lanes ≡ 128 * batch
-
 -- the plan of a table
 pub record Planned (table : List ℕ) (plan : Plan) : Type 0 where
   pub others_are : plan.others ≡ (circuit_in table).d - 1
   pub start_is : plan.start ≡ plan.others * (circuit_in table).inputs
   pub free_is : plan.free ≡ free_bits (circuit_in table)
 
--- the pairs that are gone through: those of the free bits that vary
-pub record Enumerates (free : ℕ) (e : Enumeration) : Type 0 where
-  pub divides : Divides (count_varied (varied_in e.factors free)) e.batches e.lanes
-
 -- a list of wires that are read
-pub record ReadIn (table read : List ℕ) (found : ℕ) : Type 0 where
-  pub few : found ≤ 8
-  pub sized : length read ≡ 8
-  pub made : (i : ℕ) → i < found → nth read i < size (circuit_in table)
+pub record ReadIn (table read : List ℕ) : Type 0 where
+  pub few : length read ≤ 8
+  pub made : (i : ℕ) → i < length read → nth read i < size (circuit_in table)
 
 -- the first set of secret bits, or the second
 abbrev pub set_of : (table : List ℕ) (second : Bool) (secrets : List ℕ) → List ℕ
 set_of table second secrets = cond second (drop (circuit_in table).inputs secrets) (take (circuit_in table).inputs secrets)
 
 -- a table with its plan, both sets of secret bits and the wires that are read, expanded with these
-pub record Prepared (table secrets read sums terms : List ℕ) (outputs found : ℕ) (plan : Plan) : Type 0 where
+pub record Prepared (table secrets read sums terms : List ℕ) (outputs : ℕ) (plan : Plan) : Type 0 where
   pub countable : (second : Bool) → Countable table (set_of table second secrets)
   pub planned : Planned table plan
-  pub read_in : ReadIn table read found
+  pub read_in : ReadIn table read
   pub room : size (circuit_in table) ≤ length sums
   pub sized : length secrets ≡ (circuit_in table).inputs + (circuit_in table).inputs
   pub bit : (x : ℕ) → nth secrets x ≤ 1
   pub terms_sized : length terms ≡ 80
-  pub expanded : Expanded table (prepared_shares plan (circuit_in table).inputs secrets) (prepared_tape plan) read found sums terms outputs
+  pub expanded : Expanded table (prepared_shares plan (circuit_in table).inputs secrets) (prepared_tape plan) read (length read) sums terms outputs
 
 -- sums and terms of some table
-pub record Ready (read sums terms : List ℕ) (outputs found : ℕ) (plan : Plan) : Type 0 where
+pub record Ready (read sums terms : List ℕ) (outputs : ℕ) (plan : Plan) : Type 0 where
   pub table : List ℕ
   pub secrets : List ℕ
-  pub prepared : Prepared table secrets read sums terms outputs found plan
+  pub prepared : Prepared table secrets read sums terms outputs plan
 
 -- words of the values of 128 pairs under each set, the first of which has the number 128 · batch: two for each wire that is read
-pub record HoldsShown (table secrets : List ℕ) (factors free batch : ℕ) (read : List ℕ) (found : ℕ) (shown : List ℕ) : Type 0 where
-  pub are : (second : Bool) (i w : ℕ) → i < found → w < 2
+pub record HoldsShown (table secrets : List ℕ) (factors free batch : ℕ) (read shown : List ℕ) : Type 0 where
+  pub are : (second : Bool) (i w : ℕ) → i < length read → w < 2
       → nth shown (4 * i + place_of second w) ≡ packed 64 (λ l. at (values_with (circuit_in table) (bits (set_of table second secrets)) (placed (varied_in factors free) (64 * (2 * batch + w) + l))) (nth read i))
   pub sized : length shown ≡ 32
 
 -- what the list of counts rests on: such a table, two sets of secret bits, wires that are read, and room for the counts
-pub record Listable (table secrets : List ℕ) (inputs randoms wires : ℕ) (read : List ℕ) (found : ℕ) (counts : List ℕ) : Type 0 where
+pub record Listable (table secrets : List ℕ) (inputs randoms wires : ℕ) (read counts : List ℕ) : Type 0 where
   pub numbered : Numbered table inputs randoms
   pub wires_are : wires ≡ size (circuit_in table)
   pub sized : length secrets ≡ inputs + inputs
   pub bit : (x : ℕ) → nth secrets x ≤ 1
-  pub read_in : ReadIn table read found
+  pub read_in : ReadIn table read
   pub room : 1024 ≤ length counts
 
 -- the number of pairs that are gone through for each combination on wires

@@ -7,14 +7,14 @@ use Rattle.semantics.specs.Values.{bits, bytes, values_of}
 use Rattle.secrecy.proofs.Accepted.{gadgets_compute}
 use Rattle.evaluation.proofs.Answering.{Passed, passed, left, evaluable, evaluated, holds, one-sheet}
 use Rattle.evaluation.proofs.evaluate.Goals as goal
-use Rattle.evaluation.proofs.evaluate.Goals.{In-Accepted}
+use Rattle.evaluation.proofs.evaluate.Goals.{In-Ok}
 
-passes : (v : In-Accepted) → let a = v.args in Passed a.table.now a.notes.now a.shares.now a.tape.now (a.values.now ∷ []) [] (length a.values.now) v.in-Accepted.wires
-passes v = passed v.judge-verdict.ensures _ (one-sheet v.args.values.now) v.in-Accepted.is
+passes : (v : In-Ok) → let a = v.args in Passed a.table.now a.notes.now a.shares.now a.tape.now (a.values.now ∷ []) [] (length a.values.now) v.in-Ok.field-0.wires
+passes v = passed v.judge-answer.ensures _ (one-sheet v.args.values.now) v.in-Ok.is
 
 pub returns-in_default : goal.returns-in_default
 returns-in_default c =
-    let j = c.judge-verdict.ensures in
+    let j = c.judge-answer.ensures in
     let s = one-sheet c.args.values.now in
     record {
       answered = j.answers _ s;
@@ -24,15 +24,15 @@ returns-in_default c =
     }
 
 pub fill-requires : goal.fill-requires
-fill-requires c = evaluable _ _ _ _ _ _ (passes (goal.at.fill-requires c).In-Accepted) (omega arith)
+fill-requires c = evaluable _ _ _ _ _ _ (passes (goal.at.fill-requires c).In-Ok) (omega arith)
 
 pub returns : goal.returns
 returns c =
-    let j = c.judge-verdict.ensures in
+    let j = c.judge-answer.ensures in
     let a = c.args in
     record {
       answered = j.answers _ (one-sheet a.values.now);
       noted = j.noted;
-      valued = holds _ _ _ _ _ _ (passes (goal.at.returns c).In-Accepted) (λ (k : Circuit). bytes (values_of k.wires (bits a.shares.now) (bits a.tape.now))) a.values.now (evaluated _ _ _ _ _ _ (passes (goal.at.returns c).In-Accepted) c.fill.ensures (omega arith));
+      valued = holds _ _ _ _ _ _ (passes (goal.at.returns c).In-Ok) (λ (k : Circuit). bytes (values_of k.wires (bits a.shares.now) (bits a.tape.now))) a.values.now (evaluated _ _ _ _ _ _ (passes (goal.at.returns c).In-Ok) c.fill.ensures (omega arith));
       computes = λ h. gadgets_compute _ _ h _ _;
     }

@@ -1,5 +1,5 @@
 -- What the code asks of the words of an accepted table, frame by frame, so that its frames make whole sharings.
-use Rattle.std.specs.Prelude.{◌≡◌, Bool, true, ◌&&◌, List, map, ℕ, zero, suc, ◌+◌, ◌*◌, ◌≤◌, ◌<◌, leb, eqb, length}
+use Rattle.std.specs.Prelude.{◌≡◌, Bool, true, ◌&&◌, List, map, ℕ, Result, Ok, Err, ◌+◌, ◌*◌, ◌≤◌, ◌<◌, leb, eqb, length}
 use Rattle.circuit.specs.Lists.{nth}
 use Rattle.circuit.specs.Wires.{named}
 use Rattle.circuit.specs.Gadgets.{labels}
@@ -11,6 +11,8 @@ use Rattle.frames.specs.declared.walk.Gate.TheVariants as gate
 use Rattle.frames.specs.declared.walk.Frame.{Frame as FrameCode}
 use Rattle.frames.specs.declared.walk.Frame.TheVariants as frame
 use Rattle.circuit.specs.Answer.{label_noted}
+use Rattle.circuit.specs.Refusals.{number_of}
+use Rattle.circuit.specs.declared.rules.Refusal.{Refusal}
 
 -- whether n words, from a place on and then every `by` places, are the first of them plus so many times `step`
 unfoldable pub rising : List ℕ → (at by n step : ℕ) → Bool
@@ -59,7 +61,7 @@ RowsIn table at n frame.Ref = at + 2 + n ≤ length table
 pub record Labels (notes : List ℕ) (k : Circuit) : Type 0 where
   pub told : (x l t : ℕ) → place k x ≡ named l t → label_noted notes x ≡ l
 
--- the judgement that a frame's number stands for: 0, HEAD's, for none
-abbrev pub misfit : ℕ → Judgement
-misfit zero = pass
-misfit (suc f) = refuse 26 (suc f) 0
+-- the judgement that an answer stands for
+abbrev pub judgement_of : Result (Unit {0}) Refusal → Judgement
+judgement_of (Ok u) = pass
+judgement_of (Err r) = refuse (number_of r.rule) r.frame r.word

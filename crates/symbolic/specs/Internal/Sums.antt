@@ -5,6 +5,7 @@ use Rattle.std.specs.Int.Bits.{bit_and, bit_xor}
 use Rattle.circuit.specs.Lists.{nth}
 use Rattle.circuit.specs.Circuit.{is_set}
 use Rattle.simulation.specs.Internal.Filling.{Values}
+use Rattle.symbolic.specs.declared.evaluate.Four.{Four as FourCode}
 
 -- the sum of the words of variables: of n digits, those that are set
 unfoldable pub added_in : (n sum : ℕ) → Values → ℕ
@@ -29,6 +30,10 @@ BoundedTerms terms from to = (n : ℕ) → from ≤ n → n < to → Before term
 -- a buffer with four words for each variable; the words of one kind
 abbrev pub words_at : (w : ℕ) → List ℕ → Values
 words_at w words s = nth words (4 * s + w)
+
+-- four words that are those of a function
+abbrev pub FourOf : FourCode → Values → Type 0
+FourOf s f = (s.a ≡ f 0) × (s.b ≡ f 1) × (s.c ≡ f 2) × (s.d ≡ f 3)
 
 -- four words written from a place on
 abbrev pub four_at : (old : List ℕ) (at x y z u : ℕ) → List ℕ

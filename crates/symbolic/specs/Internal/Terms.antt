@@ -1,14 +1,18 @@
 -- Products of two sums with a third added; the wires inside AND as such terms.
-use Rattle.std.specs.Prelude.{◌≡◌, cond, List, ℕ, ◌+◌, ◌*◌, ◌-◌, ◌/◌, ◌%◌, ◌^◌, ◌≤◌, ◌<◌, leb, ltb, length, set}
+use Rattle.std.specs.Prelude.{◌≡◌, cond, List, ℕ, ◌+◌, ◌*◌, ◌-◌, ◌^◌, ◌≤◌, ◌<◌, leb, ltb, length, set}
 use Rattle.std.specs.Int.Bits.{bit_xor}
 use Rattle.circuit.specs.Limits.{wire_limit}
 use Rattle.circuit.specs.Kinds.{pairs}
 use Rattle.circuit.specs.Lists.{nth, range}
 use Rattle.circuit.specs.Gadgets.{others}
+use Rattle.gadgets.specs.declared.places.Gadget.{Gadget}
 use Rattle.gadgets.specs.Internal.Places.{word_a, word_b, mask_at, cross_start, out_at, sum_at, held_at}
 use Rattle.gadgets.specs.Internal.Frames.{RowBefore}
 use Rattle.simulation.specs.Internal.Filling.{word_sum}
 use Rattle.symbolic.specs.declared.gadget.Term.{Term}
+use Rattle.symbolic.specs.declared.offsets.Inner.{Inner}
+use Rattle.symbolic.specs.declared.offsets.Inner.TheVariants.{R, B, M, U, V, W}
+use Rattle.symbolic.specs.Internal.Inside.{inner_at}
 
 -- the sum that is 1
 abbrev pub one : ℕ
@@ -23,18 +27,6 @@ alone s = term 0 0 s
 abbrev pub times : (one other : ℕ) → Term
 times x y = term x y 0
 
--- B, m and M; u, U, v, V, w and W
-abbrev pub product_term : (a b part : ℕ) → Term
-product_term a b part = cond (ltb part 1) (alone b) (times a b)
-
-abbrev pub cross_term : (a b r part : ℕ) → Term
-cross_term a b r part = cond (ltb part 2) (times (bit_xor one a) r) (cond (ltb part 4) (alone (bit_xor b r)) (times a (bit_xor b r)))
-
--- the share at a place among those other than i
-abbrev pub share_at : (i slot : ℕ) → ℕ
-share_at i s = cond (leb i s) (s + 1) s
-
--- the wire that stands so far behind AND's first
 module _ (d : ℕ) (ops sums tape : List ℕ) (used : ℕ) where
   abbrev a : ℕ → ℕ
   a i = nth sums (word_a ops i)
@@ -42,16 +34,20 @@ module _ (d : ℕ) (ops sums tape : List ℕ) (used : ℕ) where
   abbrev b : ℕ → ℕ
   b i = nth sums (word_b d ops i)
 
-  abbrev pub pair_term : (o : ℕ) → Term
-  pair_term o =
-      let i = o / (6 * (d - 1)) in
-      let rest = o % (6 * (d - 1)) in
-      let j = share_at i (rest / 6) in
-      cross_term (a i) (b j) (nth tape (mask_at d used i j)) (rest % 6)
+  abbrev r : (i j : ℕ) → ℕ
+  r i j = nth tape (mask_at d used i j)
 
-  unfoldable pub inner_term : (offset : ℕ) → Term
-  inner_term o = cond (ltb o (d * (d - 1))) (alone (nth tape (used + o / 2)))
-      (cond (ltb o (d * (d - 1) + 3 * d)) (product_term (a ((o - d * (d - 1)) / 3)) (b ((o - d * (d - 1)) / 3)) ((o - d * (d - 1)) % 3)) (pair_term (o - (d * (d - 1) + 3 * d))))
+  -- a wire inside AND, and the one that stands so far behind the first
+  abbrev pub wire_term : Inner → Term
+  wire_term (R q) = alone (nth tape (used + q))
+  wire_term (B i) = alone (b i)
+  wire_term (M i) = times (a i) (b i)
+  wire_term (U i j) = times (bit_xor one (a i)) (r i j)
+  wire_term (V i j) = alone (bit_xor (b j) (r i j))
+  wire_term (W i j) = times (a i) (bit_xor (b j) (r i j))
+
+  abbrev pub inner_term : (offset : ℕ) → Term
+  inner_term o = wire_term (inner_at d o)
 
   -- the output of a share
   abbrev pub output_term : (i : ℕ) → Term
@@ -72,6 +68,10 @@ with_term terms n t = set (set terms (2 * n) t.one) (2 * n + 1) t.other
 abbrev pub term_at : (terms : List ℕ) (n : ℕ) → Term
 term_at terms n = times (nth terms (2 * n)) (nth terms (2 * n + 1))
 
+-- a tape with a gadget's random bits
+abbrev pub Drawn : (d used drawn : ℕ) → Type 0
+Drawn d used drawn = (used ≤ 16) × (used + pairs d ≤ drawn)
+
 -- what AND and REF ask for: earlier wires, room for theirs, and their random bits
 pub record AndAsks (d first : ℕ) (ops : List ℕ) (room drawn used : ℕ) : Type 0 where
   pub two : 2 ≤ d
@@ -84,6 +84,9 @@ pub record AndAsks (d first : ℕ) (ops : List ℕ) (room drawn used : ℕ) : Ty
   pub bits : used + pairs d ≤ drawn
   pub near : used ≤ 16
 
+abbrev pub AndTakes : Gadget → (ops sums tape : List ℕ) → Type 0
+AndTakes g ops sums tape = AndAsks g.d g.first ops (length sums) (length tape) g.used
+
 pub record RefAsks (d first : ℕ) (ops : List ℕ) (room drawn used : ℕ) : Type 0 where
   pub two : 2 ≤ d
   pub most : d ≤ 8
@@ -93,6 +96,10 @@ pub record RefAsks (d first : ℕ) (ops : List ℕ) (room drawn used : ℕ) : Ty
   pub few : room ≤ wire_limit
   pub bits : used + pairs d ≤ drawn
   pub near : used ≤ 16
+
+-- a list of at most eight wires that have sums
+abbrev pub Listed : (read : List ℕ) (wires : ℕ) → Type 0
+Listed read wires = (length read ≤ 8) × ((i : ℕ) → i < length read → nth read i < wires)
 
 -- a wire that is read, where it is inside AND: what is written
 abbrev pub where_inside : {A : Type 0} (d first wire : ℕ) (old new : A) → A

@@ -1,37 +1,33 @@
--- The loop's invariant: what the whole row breaks first is what the wires from i on break first.
+-- What the whole row breaks first is what the wires from i on break first.
 use mathlib.Core.Path.{◌≡◌, sym, ap, ◌∙◌}
 use Prim.Native.Nat.{◌+◌}
-use native.Mathlib.Omega.{arith}
-use lib.ListN.{drop, drop_of_length-le}
-use borrow.Author.Rules.{rules}
+use lib.ListN.{drop}
+use Rattle.std.specs.Prelude.{Result}
+use Rattle.std.proofs.lemmas.Result.{err_from_is_err_and}
+use Rattle.checker.specs.declared.forms.Spot.{Spot}
 use Rattle.checker.specs.Internal.Notes.{noted}
-use Rattle.checker.specs.Internal.Adding.{spot, or_else, row_broken}
-use Rattle.checker.proofs.Spots.{broken-first, none_first}
-use Rattle.checker.proofs.Judged.{row_turn}
+use Rattle.checker.specs.Internal.Adding.{at_word, ◌and_then◌, row_broken}
+use Rattle.checker.proofs.Judged.{row_next, row_end}
+use Rattle.checker.proofs.Mapped.{told}
 use Rattle.checker.proofs.forms.row_rule.Goals as goal
-use Rattle.checker.proofs.forms.row_rule.Goals.{After-wire_rule-rule}
+use Rattle.checker.proofs.forms.row_rule.Goals.{After-map_err}
 
--- behind a wire's rule: the row's first spot is this wire's, or that of the wires behind it
-turn : (c : After-wire_rule-rule) → let a = c.args in let i = c.loop-i.i in
-    row_broken (noted a.notes.now a.wires) a.stage a.ahead a.register a.word 0 a.row.now
-    ≡ or_else c.wire_rule-rule.result (a.word + i) (row_broken (noted a.notes.now a.wires) a.stage a.ahead a.register (a.word + (i + 1)) (i + 1) (drop (i + 1) a.row.now))
-turn c =
+turn : (c : After-map_err) {s : Result (Unit {0}) Spot} → c.map_err.result ≡ s → let a = c.args in let i = c.loop-i.i in
+    row_broken (noted a.notes.now a.wires) a.wanted a.first 0 a.row.now ≡ (s and_then row_broken (noted a.notes.now a.wires) a.wanted (a.first + (i + 1)) (i + 1) (drop (i + 1) a.row.now))
+turn c e =
     let a = c.args in
     let l = c.loop-i in
-    l.invariant.1 ∙ row_turn _ a.stage a.ahead a.register a.word l.i a.row.now c.loop-i-test.true
-    ∙ ap (λ n. or_else n (a.word + l.i) (row_broken (noted a.notes.now a.wires) a.stage a.ahead a.register (a.word + (l.i + 1)) (l.i + 1) (drop (l.i + 1) a.row.now))) (sym c.wire_rule-rule.ensures)
+    let at = at_word (a.first + l.i) in
+    row_next (noted a.notes.now a.wires) a.wanted a.first l.i a.row.now l.invariant c.loop-i-test.true
+    (ap at (sym c.wire_rule-told.ensures) ∙ sym (told (a.first + l.i) c.wire_rule-told.result c.map_err.result c.map_err.ensures.cases (λ e y p. cc)) ∙ e)
 
-pub loop-i-init : goal.loop-i-init
-loop-i-init c = let a = c.args in let e : a.word ≡ a.word + 0 = omega arith in
-    (search rules, ap (λ w. row_broken (noted a.notes.now a.wires) a.stage a.ahead a.register w 0 a.row.now) e)
-
-pub returns-then-rule-ne0 : goal.returns-then-rule-ne0
-returns-then-rule-ne0 c = sym (turn (goal.at.returns-then-rule-ne0 c).After-wire_rule-rule ∙ broken-first (spot c.wire_rule-rule.result _) _ c.if-rule-ne0.true)
+pub returns-in_err-map_err : goal.returns-in_err-map_err
+returns-in_err-map_err c =
+    let e = err_from_is_err_and c.from_residual.result c.from_residual.ensures.1 in
+    rw (e.1, e.2) (sym (turn (goal.at.returns-in_err-map_err c).After-map_err c.in_err-map_err.was))
 
 pub loop-i-preserved : goal.loop-i-preserved
-loop-i-preserved c = (search rules, turn (goal.at.loop-i-preserved c).After-wire_rule-rule ∙ none_first (spot c.wire_rule-rule.result _) _ c.if-rule-ne0.false)
+loop-i-preserved c = turn (goal.at.loop-i-preserved c).After-map_err c.in_ok-map_err.was
 
 pub returns : goal.returns
-unfolding row_broken
-returns c = let l = c.loop-i in let row = c.args.row.now in
-    sym (l.invariant.1 ∙ ap (row_broken _ _ _ _ _ _) (drop_of_length-le row {i = l.i} c.loop-i-test.false))
+returns c = let a = c.args in sym (row_end (noted a.notes.now a.wires) a.wanted a.first c.loop-i.i a.row.now c.loop-i.invariant c.loop-i-test.false)

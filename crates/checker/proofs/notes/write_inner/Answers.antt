@@ -1,25 +1,16 @@
--- The loop's invariant: the words still to write, written from i on, give what all words written from the start give.
-use mathlib.Core.Path.{◌≡◌, sym, ap, ◌∙◌}
-use Prim.Native.Nat.{◌+◌, ◌*◌, ◌-◌}
+-- The words filled in are those of the inner wires.
+use mathlib.Core.Path.{◌≡◌, ap, ◌∙◌}
+use Prim.Native.Nat.{◌+◌, ◌*◌}
 use native.Mathlib.Omega.{arith}
-use lib.Seq.{sets}
-use borrow.Author.Rules.{rules}
-use Rattle.checker.proofs.Stores.{marks, inner_marks, marks_turn, marks_end}
+use lib.ListN.{length, replicate}
+use Rattle.std.specs.List.{between}
+use Rattle.std.proofs.lemmas.List.Edits.{length-between}
+use Rattle.circuit.specs.Limits.{inner_note}
+use Rattle.checker.proofs.Stores.{filled}
 use Rattle.checker.proofs.notes.write_inner.Goals as goal
 
-pub loop-i-init : goal.loop-i-init
-loop-i-init c =
-    let e : 2 * c.args.count ≡ 2 * c.args.from + 2 * c.args.count - 2 * c.args.from = omega arith in
-    (search rules, search rules, search rules, search rules, ap (sets c.args.notes.now (2 * c.args.from)) (inner_marks c.args.count ∙ ap marks e))
-
-pub loop-i-preserved : goal.loop-i-preserved
-loop-i-preserved c = (
-  search rules,
-  search rules,
-  search rules,
-  search rules,
-  c.loop-i.invariant.4 ∙ marks_turn c.loop-i.notes _ c.loop-i.i c.loop-i-test.true,
-)
-
 pub returns : goal.returns
-returns c = sym (c.loop-i.invariant.4 ∙ marks_end _ _ c.loop-i.i c.loop-i-test.false)
+returns c =
+    let a = c.args in
+    let many : length (between (2 * a.from) (2 * (a.from + a.count)) a.notes.now) ≡ 2 * a.count = omega (arith, length-between a.notes.now (2 * a.from) (2 * (a.from + a.count)) c.requires) in
+    filled a.notes.now a.from a.count c.fill.new.self c.requires (c.fill.ensures.after (λ y e. e) ∙ ap (λ k. replicate k inner_note) many)

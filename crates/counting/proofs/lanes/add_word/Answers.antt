@@ -1,55 +1,47 @@
--- The loop's invariant: the pairs so far are counted, under both sets.
-use mathlib.Core.Path.{◌∙◌}
-use Prim.Native.Nat.{ℕ, ◌+◌, ◌/◌, ◌^◌}
+-- Eight pairs more, or those that are left.
+use mathlib.Core.Path.{◌≡◌}
+use mathlib.Core.Bool.{Bool, true, false, cond}
+use mathlib.Core.List.{List}
+use Prim.Native.Nat.{ℕ, ◌+◌, ◌/◌, ◌^◌, min, ◌<◌}
 use native.Mathlib.Omega.{arith}
-use Rattle.counting.specs.Internal.Lanes.{shown_by, column_of}
+use Rattle.counting.specs.Internal.Lanes.{shown_by, column_of, place_of, Adds, tally_of}
 use Rattle.counting.proofs.Gathering.{shown-small}
 use Rattle.counting.proofs.Adding.{adds-room, adds-all}
-use Rattle.counting.proofs.Columns.{word_start, word_next}
+use Rattle.counting.proofs.Columns.{word_next}
 use Rattle.counting.proofs.lanes.add_word.Goals as goal
-use Rattle.counting.proofs.lanes.add_word.Goals.{At-loop-done}
-
--- what eight pairs show, by the word at a place, from those on that are done
-abbrev columns : At-loop-done → ℕ → ℕ → ℕ
-columns l word i = column_of l.args.shown.now word i / 2 ^ l.loop-done.done
-
-pub loop-done-init : goal.loop-done-init
-loop-done-init c = (word_start _ _ _ _, word_start _ _ _ _)
-
-pub gather-one-requires : goal.gather-one-requires
-gather-one-requires c = let p = c.requires in (omega (arith, p.0), omega (arith, c.loop-done-test.true, p.2), p.1, p.3)
-
-pub overflow_add-word : goal.overflow_add-word
-overflow_add-word c = omega (arith, c.requires.0)
-
-pub gather-other-requires : goal.gather-other-requires
-gather-other-requires c = let p = c.requires in (omega (arith, p.0), omega (arith, c.loop-done-test.true, p.2), p.1, p.3)
+use Rattle.counting.proofs.lanes.add_word.Goals.{After-add-in-loop-done}
 
 pub add-requires : goal.add-requires
-add-requires c = let p = c.requires in let i = c.loop-done.invariant.0 in
-    (omega (arith, c.at_most-count.ensures), i.counted.sized ∙ p.4, adds-room i.counted p.4 p.6 _ (omega (arith, c.at_most-count.ensures)))
+add-requires c = (omega arith, adds-room (c.loop-done.invariant false) (omega arith) (c.requires.3 false) _ (omega arith))
 
 pub add-requires-in-loop-done : goal.add-requires-in-loop-done
-add-requires-in-loop-done c = let p = c.requires in let i = c.loop-done.invariant.1 in
-    (omega (arith, c.at_most-count.ensures), i.counted.sized ∙ p.5, adds-room i.counted p.5 p.7 _ (omega (arith, c.at_most-count.ensures)))
+add-requires-in-loop-done c = (omega arith, adds-room (c.loop-done.invariant true) (omega arith) (c.requires.3 true) _ (omega arith))
 
-pub overflow_add-done : goal.overflow_add-done
-overflow_add-done c = omega (arith, c.at_most-count.ensures)
+-- a turn
+turned : (c : After-add-in-loop-done) (second : Bool) → let a = c.args in
+    Adds (shown_by (column_of a.shown.now (place_of second a.word)) a.found) (min (c.loop-done.done + 8) a.lanes) (tally_of second a.tallies.now) (cond second c.add-in-loop-done.new.tally c.add.new.tally)
+turned c second =
+    let a = c.args in
+    let l = c.loop-done in
+    let before : min l.done a.lanes ≡ l.done = omega arith in
+    let after : l.done + c.min-count.result ≡ min (l.done + 8) a.lanes = omega arith in
+    rw (← after) (word_next (column_of a.shown.now (place_of second a.word)) a.found (rw before at (l.invariant second)) (added second))
+  where
+    columns : Bool → ℕ → ℕ
+    columns b i = column_of c.args.shown.now (place_of b c.args.word) i / 2 ^ c.loop-done.done
 
-pub loop-done-smaller : goal.loop-done-smaller
-loop-done-smaller c = omega (arith, c.at_most-count.ensures)
+    small : (b : Bool) (n : ℕ) → shown_by (columns b) c.args.found n < 256
+    small b n = shown-small (columns b) c.args.found n c.requires.1
+
+    added : (b : Bool) → Adds (shown_by (columns b) c.args.found) c.min-count.result (tally_of b c.loop-done.tallies) (cond b c.add-in-loop-done.new.tally c.add.new.tally)
+    added true = c.add-in-loop-done.ensures.added (shown_by (columns true) c.args.found) (small true) c.gather-other.ensures
+    added false = c.add.ensures.added (shown_by (columns false) c.args.found) (small false) c.gather-one.ensures
 
 pub loop-done-preserved : goal.loop-done-preserved
-loop-done-preserved c =
-    let a = c.args in
-    let few = c.requires.1 in
-    let one = columns (goal.at.loop-done-preserved c).At-loop-done a.word in
-    let other = columns (goal.at.loop-done-preserved c).At-loop-done (a.word + 2) in (
-      word_next c.loop-done.invariant.0 c.loop-done-test.true c.at_most-count.ensures
-          (c.add.ensures (shown_by one a.found) (λ i. shown-small one a.found i few) c.gather-one.ensures),
-      word_next c.loop-done.invariant.1 c.loop-done-test.true c.at_most-count.ensures
-          (c.add-in-loop-done.ensures (shown_by other a.found) (λ i. shown-small other a.found i few) c.gather-other.ensures),
-    )
+loop-done-preserved c = turned (goal.at.loop-done-preserved c).After-add-in-loop-done
 
 pub returns : goal.returns
-returns c = let (i, j) = c.loop-done.invariant in (adds-all i.counted i.most c.loop-done-test.false, adds-all j.counted j.most c.loop-done-test.false)
+returns c = λ second. adds-all (c.loop-done.invariant second) (omega arith) (omega arith)
+
+pub returns-2 : goal.returns-2
+returns-2 c = let last : min (c.loop-done.done + 8) c.args.lanes ≡ c.args.lanes = omega arith in rw last at (turned (goal.at.returns-2 c).After-add-in-loop-done)

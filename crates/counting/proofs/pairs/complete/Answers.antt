@@ -1,35 +1,28 @@
--- The loop's invariant: writing the shares for all words comes to writing those from this word on.
-use mathlib.Core.Path.{◌∙◌}
-use Prim.Native.Nat.{◌+◌, ◌≤◌}
-use native.Mathlib.Nat.{mul-le-mul_right}
+-- A secret bit more.
+use mathlib.Core.Path.{◌≡◌, ap, ◌∙◌}
+use Prim.Native.Nat.{◌+◌, ◌-◌, ◌*◌, ◌≤◌}
+use native.Mathlib.Nat.{mul-le-mul_left, mul-le-mul_right}
 use native.Mathlib.Omega.{arith}
-use Rattle.counting.proofs.Sharing.{all_start, all-next, all_end, words_in}
+use lib.ListN.{length, take, drop}
+use lib.Seq.{sets}
+use Rattle.circuit.specs.Lists.{nth}
+use Rattle.counting.specs.Internal.Words.{shares_of}
+use Rattle.counting.proofs.Sharing.{part_written, all-next, all_end}
 use Rattle.counting.proofs.pairs.complete.Goals as goal
-use Rattle.counting.proofs.pairs.complete.Goals.{In-loop-j}
-
-words : (c : In-loop-j) → c.loop-j.from + c.args.others ≤ 16
-words c = omega (arith, words_in c.loop-j.invariant c.loop-j-test.true (omega (arith, c.requires.2, c.requires.1)), c.requires.2)
-
-shares : (c : In-loop-j) → c.loop-j.at + c.args.others + 1 ≤ 32
-shares c = let l = c.loop-j in omega (arith, words c, l.invariant.from_is, l.invariant.at_is, mul-le-mul_right (l.j + 1) c.requires.0)
-
-pub loop-j-init : goal.loop-j-init
-loop-j-init c = all_start _ _ _ _
-
-pub complete_one-requires : goal.complete_one-requires
-complete_one-requires c = (words (goal.at.complete_one-requires c).In-loop-j, shares (goal.at.complete_one-requires c).In-loop-j, c.requires.2, c.loop-j.invariant.sized ∙ c.requires.3)
-
-pub overflow_add-from : goal.overflow_add-from
-overflow_add-from c = omega (arith, words (goal.at.overflow_add-from c).In-loop-j)
-
-pub overflow_add-at : goal.overflow_add-at
-overflow_add-at c = omega (arith, words (goal.at.overflow_add-at c).In-loop-j)
-
-pub overflow_add-at-in-loop-j : goal.overflow_add-at-in-loop-j
-overflow_add-at-in-loop-j c = omega (arith, shares (goal.at.overflow_add-at-in-loop-j c).In-loop-j)
 
 pub loop-j-preserved : goal.loop-j-preserved
-loop-j-preserved c = all-next c.loop-j.invariant c.loop-j-test.true (omega (arith, c.requires.2, c.requires.1)) c.complete_one.ensures
+loop-j-preserved c =
+    let a = c.args in
+    let l = c.loop-j in
+    let from = a.others * l.j in
+    let at = from + l.j in
+    let many : l.j + 1 ≤ length a.lasts.now = omega arith in
+    let words : a.others * (l.j + 1) ≤ 16 = omega (arith, mul-le-mul_left a.others many) in
+    let shares : at + (a.others + 1) ≤ 32 = omega (arith, mul-le-mul_right (l.j + 1) c.requires.0) in
+    let count : from + a.others - from ≡ a.others = omega arith in
+    let sized : length c.complete_one.new.shares ≡ at + a.others + 1 - at = omega arith in
+    all-next l.invariant (omega arith) (omega arith) (part_written l.shares at _ c.complete_one.new.shares sized (omega arith)
+    ∙ ap (sets l.shares at) (c.complete_one.ensures ∙ ap (λ n. shares_of (nth a.lasts.now l.j) (take n (drop from a.words.now))) count))
 
 pub returns : goal.returns
-returns c = all_end c.loop-j.invariant c.loop-j-test.false
+returns c = all_end c.loop-j.invariant (omega arith)

@@ -4,8 +4,9 @@ use Prim.Native.Nat.{◌+◌, ◌*◌, ◌≤◌}
 use native.Mathlib.Nat.{mul-le-mul_right}
 use native.Mathlib.Omega.{arith}
 use lib.ListN.{length, take}
+use lib.Seq.{length-take-le}
 use Rattle.counting.proofs.Batches.{sizes}
-use Rattle.counting.proofs.Lent.{prepared-low, lasts_many, buffer, sharing_is, tape_is, lent_evaluable}
+use Rattle.counting.proofs.Lent.{prepared-low, lasts_many, sharing_is, tape_is, lent_evaluable}
 use Rattle.counting.proofs.prepare.prepare.Goals as goal
 use Rattle.counting.proofs.prepare.prepare.Goals.{Start}
 
@@ -37,52 +38,36 @@ numbers s =
 pub secret_sums-lasts-requires : goal.secret_sums-lasts-requires
 secret_sums-lasts-requires c = (c.requires.4, (numbers (goal.at.secret_sums-lasts-requires c).Start).inputs)
 
+pub slice_bounds-lasts-end : goal.slice_bounds-lasts-end
+slice_bounds-lasts-end c = omega (arith, (numbers (goal.at.slice_bounds-lasts-end c).Start).inputs)
+
 pub slice_bounds-complete-end : goal.slice_bounds-complete-end
-slice_bounds-complete-end c = omega (arith, (numbers (goal.at.slice_bounds-complete-end c).Start).inputs)
+slice_bounds-complete-end c = omega (arith, lasts_many c.secret_sums-lasts.ensures)
 
 pub complete-requires : goal.complete-requires
-complete-requires c = let n = numbers (goal.at.complete-requires c).Start in (n.some, omega (arith, ap (λ m. c.args.plan.others * m) (lasts_many c.secret_sums-lasts.ensures), n.starts, n.within, n.few), ap length c.free_sums-free.ensures, refl)
+complete-requires c = let n = numbers (goal.at.complete-requires c).Start in (n.some, omega (arith, ap (λ m. c.args.plan.others * m) (lasts_many c.secret_sums-lasts.ensures), n.starts, n.within, n.few))
 
-pub overflow_add-count : goal.overflow_add-count
-overflow_add-count c = omega (arith, (numbers (goal.at.overflow_add-count c).Start).most)
+pub overflow_add-shares : goal.overflow_add-shares
+overflow_add-shares c = omega (arith, (numbers (goal.at.overflow_add-shares c).Start).most)
 
-pub overflow_mul-count : goal.overflow_mul-count
-overflow_mul-count c = omega (arith, (numbers (goal.at.overflow_mul-count c).Start).shares)
+pub slice_bounds-shares-end : goal.slice_bounds-shares-end
+slice_bounds-shares-end c = omega (arith, (numbers (goal.at.slice_bounds-shares-end c).Start).shares)
 
 pub slice_bounds-sharing-end : goal.slice_bounds-sharing-end
-slice_bounds-sharing-end c =
-    omega (arith, buffer c.requires.0 c.requires.1 c.requires.3 c.free_sums-free.ensures c.secret_sums-lasts.ensures c.complete.ensures, (numbers (goal.at.slice_bounds-sharing-end c).Start).shares)
+slice_bounds-sharing-end c = sym (length-take-le _ c.complete.new.shares (omega (arith, (numbers (goal.at.slice_bounds-sharing-end c).Start).shares)))
 
-pub offset_bounds-free-start : goal.offset_bounds-free-start
-offset_bounds-free-start c = let n = numbers (goal.at.offset_bounds-free-start c).Start in omega (arith, n.within, n.few)
-
-pub slice_bounds-tape-count : goal.slice_bounds-tape-count
-slice_bounds-tape-count c = (numbers (goal.at.slice_bounds-tape-count c).Start).within
-
-pub slice_bounds-tape-start : goal.slice_bounds-tape-start
-slice_bounds-tape-start c = (numbers (goal.at.slice_bounds-tape-start c).Start).within
-
-pub slice_bounds-tape-end : goal.slice_bounds-tape-end
-slice_bounds-tape-end c = omega (arith, (numbers (goal.at.slice_bounds-tape-end c).Start).few, ap length c.free_sums-free.ensures)
-
-pub expand-requires : goal.expand-requires
-expand-requires c =
+pub expand-outputs-requires : goal.expand-outputs-requires
+expand-outputs-requires c =
+    let p = c.requires in
     let free = c.free_sums-free.ensures in
     let lasts = c.secret_sums-lasts.ensures in
-    let (evaluable, short) = lent_evaluable c.requires.0 c.requires.1 c.requires.3 free lasts c.complete.ensures c.requires.5 in
+    let (evaluable, short) = lent_evaluable p.0 p.1 p.3 free lasts c.complete.ensures p.5 in
     let (shares, tape) = prepared-low c.args.plan c.args.inputs c.args.secrets.now in
-    rw (
-      sharing_is c.requires.0 c.requires.1 c.requires.3 free lasts c.complete.ensures,
-      tape_is c.requires.0 c.requires.1 c.requires.3 free lasts c.complete.ensures,
-    )
-    (evaluable, short, shares, tape, c.requires.6, c.requires.2.few, omega (arith, c.requires.2.few, c.requires.2.sized), c.requires.2.made, c.requires.7)
+    rw (sharing_is p.0 p.1 p.3 free lasts c.complete.ensures, tape_is p.0 p.1 p.3 free lasts c.complete.ensures) (evaluable, short, shares, tape, p.6, p.2.few, p.2.made, refl)
 
 pub returns : goal.returns
 returns c =
+    let p = c.requires in
     let free = c.free_sums-free.ensures in
     let lasts = c.secret_sums-lasts.ensures in
-    rw (
-      ← sharing_is c.requires.0 c.requires.1 c.requires.3 free lasts c.complete.ensures,
-      ← tape_is c.requires.0 c.requires.1 c.requires.3 free lasts c.complete.ensures,
-    )
-    (c.expand.ensures, c.expand.auto.terms ∙ ap length c.requires.7)
+    rw (← sharing_is p.0 p.1 p.3 free lasts c.complete.ensures, ← tape_is p.0 p.1 p.3 free lasts c.complete.ensures) c.expand-outputs.ensures

@@ -1,5 +1,5 @@
 -- The loop's invariant: the sums up to a place are written.
-use Prim.Native.Nat.{◌+◌, ◌-◌}
+use Prim.Native.Nat.{◌+◌}
 use Rattle.circuit.specs.Lists.{nth}
 use Rattle.counting.specs.Internal.Preparing.{secret_sum}
 use Rattle.counting.proofs.Filling.{GivenTo}
@@ -7,6 +7,3 @@ use Rattle.counting.proofs.prepare.secret_sums.Given as goal
 
 abbrev pub invariant-loop-j : goal.invariant-loop-j
 invariant-loop-j l = GivenTo (λ i. secret_sum (nth l.secrets i) (nth l.secrets (l.inputs + i))) 16 l.sums l.j
-
-abbrev pub decreases-loop-j : goal.decreases-loop-j
-decreases-loop-j l = l.inputs - l.j

@@ -1,20 +1,25 @@
--- The loop's invariant: the marked wires so far are listed.
-use mathlib.Core.Path.{◌≡◌, subst}
-use Prim.Native.Nat.{ℕ}
+-- A wire more, marked or not; a ninth is one too many.
+use mathlib.Core.Path.{◌≡◌, sym, ap, ◌∙◌}
+use mathlib.Core.List.{[], ◌∷◌, ◌++◌}
 use native.Mathlib.Omega.{arith}
-use Rattle.counting.specs.Internal.Reading.{Listed}
-use Rattle.counting.proofs.Marked.{listed_next}
+use lib.ListN.{length}
+use lib.Seq.{length-take-le}
+use Rattle.counting.specs.Internal.Reading.{marked_below}
+use Rattle.counting.proofs.Marked.{one_marked, none_marked, too_many}
 use Rattle.counting.proofs.read.list_block.Goals as goal
+use Rattle.counting.proofs.read.list_block.Goals.{then-marks-x-ne0+in_ok-list, else-marks-x-ne0}
 
-pub loop-x-init : goal.loop-x-init
-loop-x-init c = let p = c.requires in (p.0, p.3)
-
-pub list_wire-count-requires : goal.list_wire-count-requires
-list_wire-count-requires c = let l = c.loop-x.invariant.1 in (omega arith, omega (arith, l.few), l.sized)
+pub returns-in_err-list : goal.returns-in_err-list
+returns-in_err-list c =
+    let l = c.loop-x in
+    let eight : length (marked_below c.args.marks.now l.x) ≡ 8 = sym (ap length l.invariant) ∙ length-take-le l.list.count l.list.wires (omega arith) ∙ c.in_err-list.ensures in
+    rw c.from_residual.ensures (too_many c.args.marks.now l.x c.args.to eight (omega (arith, c.if-marks-x-ne0.true)) (omega arith))
 
 pub loop-x-preserved : goal.loop-x-preserved
-loop-x-preserved c = (omega arith, listed_next c.loop-x.invariant.1 c.list_wire-count.ensures.0 c.list_wire-count.ensures.1)
-
-pub returns : goal.returns
-returns c = let a = c.args in let e : c.loop-x.x ≡ a.to = omega arith in
-    subst (λ (n : ℕ). Listed a.marks.now n c.loop-x.read c.loop-x.count) e c.loop-x.invariant.1
+loop-x-preserved c =
+    let marks = c.args.marks.now in
+    let l = c.loop-x in
+    elim c.if-marks-x-ne0.branch [
+      | then-marks-x-ne0+in_ok-list w ↦ rw w.list-is (w.in_ok-list.ensures ∙ ap (λ ws. ws ++ l.x ∷ []) l.invariant ∙ sym (one_marked marks l.x (omega (arith, w.if-marks-x-ne0.true))))
+      | else-marks-x-ne0 w ↦ rw w.list-is (l.invariant ∙ sym (none_marked marks l.x w.if-marks-x-ne0.false))
+    ]

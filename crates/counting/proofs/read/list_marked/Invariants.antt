@@ -1,10 +1,9 @@
 -- The loop's invariant: the marked wires so far are listed.
-use Prim.Native.Nat.{◌-◌, ◌≤◌}
-use Rattle.counting.specs.Internal.Reading.{Listed}
+use mathlib.Core.Path.{◌≡◌}
+use Prim.Native.Nat.{min}
+use lib.ListN.{take}
+use Rattle.counting.specs.Internal.Reading.{marked_below}
 use Rattle.counting.proofs.read.list_marked.Given as goal
 
-abbrev pub invariant-loop-x : goal.invariant-loop-x
-invariant-loop-x l = (l.x ≤ l.wires) × Listed l.marks l.x l.read l.count
-
-abbrev pub decreases-loop-x : goal.decreases-loop-x
-decreases-loop-x l = l.wires - l.x
+abbrev pub invariant-loop-from : goal.invariant-loop-from
+invariant-loop-from l = take l.list.count l.list.wires ≡ marked_below l.marks (min l.from l.wires)

@@ -1,8 +1,9 @@
 -- A whole block with no mark adds none.
+use mathlib.Core.Path.{◌∙◌, sym}
 use native.Mathlib.Omega.{arith}
 use Rattle.reach.proofs.Highest.{none_over}
-use Rattle.counting.proofs.Marked.{listed_unmarked}
+use Rattle.counting.proofs.Marked.{unmarked}
 use Rattle.counting.proofs.read.list_some.Goals as goal
 
-pub returns-then-largest-lt1 : goal.returns-then-largest-lt1
-returns-then-largest-lt1 c = listed_unmarked c.requires.3 c.requires.0 (none_over c.largest.ensures (omega (arith, c.if-largest-lt1.true)) (omega arith))
+pub returns-then-largest-eq0 : goal.returns-then-largest-eq0
+returns-then-largest-eq0 c = c.requires.3 ∙ sym (unmarked _ c.requires.0 (none_over _ _ _ (omega arith) c.largest.ensures (omega arith)))

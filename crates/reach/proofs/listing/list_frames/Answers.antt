@@ -1,41 +1,74 @@
--- The loop's invariant: the frames before the place are listed.
-use mathlib.Core.Path.{refl, ◌∙◌}
-use Prim.Native.Nat.{◌<◌}
+-- The loop's invariant: the frames before the place are listed, and the shape is that of the kind.
+use mathlib.Core.Path.{◌≡◌, refl, sym, ◌∙◌}
+use Prim.Native.Nat.{◌+◌, ◌<◌}
 use native.Mathlib.Omega.{arith}
-use lib.ListN.{length, length-set}
-use Rattle.reach.proofs.Listed.{listed_start, first-few, listed_end}
+use lib.ListN.{length}
+use Rattle.circuit.specs.Lists.{nth}
+use Rattle.circuit.specs.Kinds.{kind_of, pairs}
+use Rattle.frames.specs.Walk.{shape_taking}
+use Rattle.gadgets.proofs.Walking.{headed, given_bits}
+use Rattle.reach.proofs.Listed.{Passes, listed_start, first-few, goes_on, passes, listed_next, listed_end}
 use Rattle.reach.proofs.listing.list_frames.Goals as goal
-use Rattle.reach.proofs.listing.list_frames.Goals.{At-loop-listed}
+use Rattle.reach.proofs.listing.list_frames.Goals.{Joined-table-at, then-table-at, else-table-at}
 
--- room for one number more
-room : (c : At-loop-listed) → c.loop-listed.listed.count < length c.loop-listed.firsts
-room c = let l = c.loop-listed.invariant.0 in omega (arith, l.spaced, l.between.most, c.requires.2.1, c.loop-listed.invariant.2)
+-- a turn's frame
+given : (c : Joined-table-at) → c.random_bits-randoms.result ≡ pairs (nth c.args.table.now 1)
+given c = given_bits c.requires.0 c.random_bits-randoms.ensures.0 refl
 
-pub loop-listed-init : goal.loop-listed-init
-loop-listed-init c = (listed_start c.requires.0 _ _, refl, refl)
+here : (c : Joined-table-at) → nth c.args.table.now c.loop-first.at ≡ c.if-table-at.kind
+here c = elim c.if-table-at.branch [ then-table-at w ↦ sym w.kind-is | else-table-at w ↦ w.if-table-at.false ∙ sym w.kind-is ]
 
-pub list_row-listed-requires : goal.list_row-listed-requires
-list_row-listed-requires c = let p = c.requires in let i = c.loop-listed.invariant in
-    (i.0, c.loop-listed-test.true, p.1, (omega (arith, p.2.0, i.1), omega (arith, p.2.1, i.2)))
+shaped : (c : Joined-table-at) → c.if-table-at.shape ≡ shape_taking c.random_bits-randoms.result (nth c.args.table.now 1) (kind_of c.if-table-at.kind)
+shaped c = elim c.if-table-at.branch [
+  | then-table-at w ↦ rw (w.shape-is, w.kind-is) w.decide-shape-then-table-at.ensures.shaped
+  | else-table-at w ↦ rw (w.shape-is, w.kind-is) c.loop-first.invariant.1
+]
 
-pub loop-listed-smaller : goal.loop-listed-smaller
-loop-listed-smaller c = omega (arith, c.list_row-listed.ensures.0.between.most, c.list_row-listed.ensures.1)
+decided : (c : Joined-table-at) → c.if-table-at.shape ≡ shape_taking c.random_bits-randoms.result (nth c.args.table.now 1) (kind_of (nth c.args.table.now c.loop-first.at))
+decided c = rw (here c) (shaped c)
 
-pub loop-listed-preserved : goal.loop-listed-preserved
-loop-listed-preserved c = let i = c.loop-listed.invariant in
-    (c.list_row-listed.ensures.0, c.starts-1.given ∙ i.1, c.firsts-1.given ∙ i.2)
+there : (c : Joined-table-at) → c.loop-first.at < length c.args.table.now
+there c = goes_on c.loop-first.invariant.0 c.loop-first-test.true c.requires.1
 
-pub overflow_cast-firsts : goal.overflow_cast-firsts
-overflow_cast-firsts c = omega (arith, first-few c.loop-listed.invariant.0)
+bounds : (c : Joined-table-at) → let s = c.if-table-at.shape in Passes (length c.args.table.now) c.loop-first.at (c.loop-first.at + (1 + s.words)) c.loop-first.first s.wires c.loop-first.count
+bounds c = passes c.loop-first.invariant.0 (there c) (given c) (decided c)
 
-pub bounds-firsts-count : goal.bounds-firsts-count
-bounds-firsts-count c = room (goal.at.bounds-firsts-count c).At-loop-listed
+pub bounds-table-1 : goal.bounds-table-1
+bounds-table-1 c = omega (arith, headed c.requires.0)
 
-pub shape_of-starts : goal.shape_of-starts
-shape_of-starts c = c.loop-listed.invariant.1
+pub loop-first-init : goal.loop-first-init
+loop-first-init c = (listed_start c.requires.0 _, c.decide-shape.ensures.shaped)
 
-pub shape_of-firsts : goal.shape_of-firsts
-shape_of-firsts c = let l = c.loop-listed in length-set l.firsts l.listed.count l.listed.first ∙ l.invariant.2
+pub bounds-table-at : goal.bounds-table-at
+bounds-table-at c = goes_on c.loop-first.invariant.0 c.loop-first-test.true c.requires.1
+
+pub bounds-table-at-then-table-at : goal.bounds-table-at-then-table-at
+bounds-table-at-then-table-at c = goes_on c.loop-first.invariant.0 c.loop-first-test.true c.requires.1
+
+pub overflow_cast-list-in-loop-first : goal.overflow_cast-list-in-loop-first
+overflow_cast-list-in-loop-first c = omega (arith, first-few c.loop-first.invariant.0)
+
+pub overflow_add-at : goal.overflow_add-at
+overflow_add-at c = let p = bounds (goal.at.overflow_add-at c).Joined-table-at in omega (arith, p.most, p.short)
+
+pub overflow_add-at-in-loop-first : goal.overflow_add-at-in-loop-first
+overflow_add-at-in-loop-first c = let p = bounds (goal.at.overflow_add-at-in-loop-first c).Joined-table-at in omega (arith, p.most, p.short)
+
+pub overflow_add-first : goal.overflow_add-first
+overflow_add-first c = omega (arith, (bounds (goal.at.overflow_add-first c).Joined-table-at).few)
+
+pub loop-first-smaller : goal.loop-first-smaller
+loop-first-smaller c = let p = bounds (goal.at.loop-first-smaller c).Joined-table-at in omega (arith, p.past, p.most)
+
+pub loop-first-preserved : goal.loop-first-preserved
+loop-first-preserved c =
+    let j = (goal.at.loop-first-preserved c).Joined-table-at in
+    let l = c.loop-first in
+    let room : l.count < length l.list = omega (arith, (bounds j).room, c.requires.2, l.auto.list) in
+    (listed_next l.invariant.0 (there j) (given j) (decided j) room, shaped j)
+
+pub overflow_cast-list-3 : goal.overflow_cast-list-3
+overflow_cast-list-3 c = omega (arith, first-few c.loop-first.invariant.0)
 
 pub returns : goal.returns
-returns c = let e = listed_end c.loop-listed.invariant.0 (room (goal.at.returns c).At-loop-listed) in (e.0, omega (arith, e.1))
+returns c = let e = listed_end c.loop-first.invariant.0 (omega (arith, c.loop-first.invariant.0.spaced, c.loop-first.invariant.0.between.most, c.requires.2, c.loop-first.auto.list)) _ refl in (e.0, omega (arith, e.1))

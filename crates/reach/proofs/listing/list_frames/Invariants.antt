@@ -1,12 +1,14 @@
--- The loop's invariant: the frames before the place are listed.
+-- The loop's invariant: the frames before the place are listed, and the shape is that of the kind.
 use mathlib.Core.Path.{◌≡◌}
 use Prim.Native.Nat.{◌-◌}
 use lib.ListN.{length}
+use Rattle.circuit.specs.Kinds.{kind_of}
+use Rattle.frames.specs.Walk.{shape_taking}
 use Rattle.reach.specs.Internal.Listing.{ListedTo}
 use Rattle.reach.proofs.listing.list_frames.Given as goal
 
-abbrev pub invariant-loop-listed : goal.invariant-loop-listed
-invariant-loop-listed l = ListedTo l.table l.starts l.firsts l.listed.at l.listed.first l.listed.count × (length l.starts ≡ length l.initial.starts) × (length l.firsts ≡ length l.initial.firsts)
+abbrev pub invariant-loop-first : goal.invariant-loop-first
+invariant-loop-first l = ListedTo l.table l.list l.at l.first l.count × (l.shape ≡ shape_taking l.randoms l.d (kind_of l.kind))
 
-abbrev pub decreases-loop-listed : goal.decreases-loop-listed
-decreases-loop-listed l = length l.table - l.listed.at
+abbrev pub decreases-loop-first : goal.decreases-loop-first
+decreases-loop-first l = length l.table - l.at

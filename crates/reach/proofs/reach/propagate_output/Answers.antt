@@ -10,8 +10,8 @@ use Rattle.reach.proofs.reach.propagate_output.Goals as goal
 use Rattle.reach.proofs.reach.propagate_output.Goals.{After-mark_six_apart, After-mark_six_apart-2, Start}
 
 -- where the share's wires stand
-share : (s : Start) → ShareOf s.args.d s.args.first s.args.i
-share s = share-of _ _ _ s.requires.0.2 s.requires.1
+share : (s : Start) → ShareOf s.args.gadget.d s.args.gadget.first s.args.i
+share s = share-of _ _ _ s.args.gadget.small.2 s.requires.0
 
 -- the marks keep their number
 once : (c : After-mark_six_apart) → length c.mark_six_apart.new.marks ≡ length c.args.marks.now
@@ -20,17 +20,11 @@ once c = c.mark_six_apart.auto.marks ∙ simp length-set
 twice : (c : After-mark_six_apart-2) → length c.mark_six_apart-2.new.marks ≡ length c.args.marks.now
 twice c = c.mark_six_apart-2.auto.marks ∙ once c.before.before.before.before
 
-pub out_at-wire-requires : goal.out_at-wire-requires
-out_at-wire-requires c = (c.requires.0, c.requires.1)
-
 pub bounds-marks-wire : goal.bounds-marks-wire
 bounds-marks-wire c = omega (arith, c.out_at-wire.ensures.0)
 
 pub returns-then-marks-wire-lt1 : goal.returns-then-marks-wire-lt1
 returns-then-marks-wire-lt1 c = rw (← c.out_at-wire.ensures.0, lt-ltb _ 1 c.if-marks-wire-lt1.true)
-
-pub product_at-requires : goal.product_at-requires
-product_at-requires c = (c.requires.0, omega arith)
 
 pub bounds-marks-product_at : goal.bounds-marks-product_at
 bounds-marks-product_at c = omega (arith, share (goal.at.bounds-marks-product_at c).Start, c.product_at.ensures.0)
@@ -49,5 +43,5 @@ shape_of-marks c = simp length-set (twice (goal.at.shape_of-marks c).After-mark_
 
 pub returns : goal.returns
 returns c =
-    let a = c.args in
-    out_handed a.d a.first a.i a.marks.now _ _ _ c.out_at-wire.ensures.0 (ap (λ n. a.first + n) c.cross_start.ensures.0) (ap (λ n. n + 2) c.product_at.ensures.0) c.if-marks-wire-lt1.false c.mark_six_apart.ensures c.mark_six_apart-2.ensures
+    let g = c.args.gadget in
+    out_handed g.d g.first c.args.i c.args.marks.now _ _ _ c.out_at-wire.ensures.0 (ap (λ n. g.first + n) c.cross_start.ensures.0) (ap (λ n. n + 2) c.product_at.ensures.0) c.if-marks-wire-lt1.false c.mark_six_apart.ensures c.mark_six_apart-2.ensures

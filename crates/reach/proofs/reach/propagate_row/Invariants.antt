@@ -6,7 +6,4 @@ use Rattle.reach.specs.Internal.Marks.{Moves}
 use Rattle.reach.proofs.reach.propagate_row.Given as goal
 
 abbrev pub invariant-loop-j : goal.invariant-loop-j
-invariant-loop-j l = (l.from ≤ l.j) × (l.j ≤ l.to) × Moves (CrossRowGates l.d l.first (word_a l.ops) (word_b l.d l.ops) l.i) (cross_at l.d l.first l.i l.j) (cross_at l.d l.first l.i l.to) l.initial.marks l.marks
-
-abbrev pub decreases-loop-j : goal.decreases-loop-j
-decreases-loop-j l = l.j
+invariant-loop-j l = (l.from ≤ l.j) × Moves (CrossRowGates l.gadget.d l.gadget.first (word_a l.ops) (word_b l.gadget.d l.ops) l.i) (cross_at l.gadget.d l.gadget.first l.i l.j) (cross_at l.gadget.d l.gadget.first l.i l.to) l.initial.marks l.marks

@@ -11,9 +11,6 @@ use Rattle.reach.proofs.reach.propagate_sum.Goals.{After-mark_masks}
 kept : (c : After-mark_masks) → length c.mark_masks.new.marks ≡ length c.args.marks.now
 kept c = c.mark_masks.auto.marks ∙ simp length-set
 
-pub sum_at-wire-requires : goal.sum_at-wire-requires
-sum_at-wire-requires c = (c.requires.0, omega arith)
-
 pub bounds-marks-wire : goal.bounds-marks-wire
 bounds-marks-wire c = omega (arith, c.sum_at-wire.ensures.0)
 
@@ -31,5 +28,5 @@ shape_of-marks c = simp length-set (kept (goal.at.shape_of-marks c).After-mark_m
 
 pub returns : goal.returns
 returns c =
-    let a = c.args in
-    sum_handed a.d a.first a.i a.a a.marks.now _ c.requires.1 c.sum_at-wire.ensures.0 c.if-marks-wire-lt1.false refl c.mark_masks.ensures
+    let g = c.args.gadget in
+    sum_handed g.d g.first c.args.i c.args.a c.args.marks.now _ c.requires.0 c.sum_at-wire.ensures.0 c.if-marks-wire-lt1.false refl c.mark_masks.ensures

@@ -1,22 +1,15 @@
 -- Where none of AND's wires is marked there is nothing to move on.
+use mathlib.Core.Path.{◌≡◌, ap, subst}
+use Prim.Native.Nat.{◌+◌}
 use native.Mathlib.Omega.{arith}
+use Rattle.frames.specs.declared.walk.Frame.TheVariants as Frame
+use Rattle.gadgets.specs.Internal.Frames.{frame_wires}
+use Rattle.reach.specs.Internal.Marks.{Unmarked}
+use Rattle.reach.proofs.Highest.{none_over}
 use Rattle.reach.proofs.Moved.{moves_unmarked}
 use Rattle.reach.proofs.readings.propagate_and.Goals as goal
 
-pub and_wires-requires : goal.and_wires-requires
-and_wires-requires c = (omega arith, omega arith)
-
-pub largest-most-requires : goal.largest-most-requires
-largest-most-requires c = omega (arith, c.and_wires.ensures.0)
-
-pub returns-then-most-lt1 : goal.returns-then-most-lt1
-returns-then-most-lt1 c = moves_unmarked _ _ _ (λ x l u. omega (arith, c.largest-most.ensures.is x l (omega (arith, c.and_wires.ensures.0))))
-
-pub propagate_and-requires : goal.propagate_and-requires
-propagate_and-requires c = let p = c.requires in (p.0, omega arith, p.2.0, p.2.1, p.2.2)
-
-pub shape_of-marks : goal.shape_of-marks
-shape_of-marks c = c.propagate_and.ensures.size
-
-pub returns : goal.returns
-returns c = c.propagate_and.ensures
+pub returns-else-largest-gt0 : goal.returns-else-largest-gt0
+returns-else-largest-gt0 c =
+    let end : c.args.gadget.first + c.and_wires.result ≡ c.args.gadget.first + frame_wires Frame.And c.args.gadget.d = ap (λ n. c.args.gadget.first + n) c.and_wires.ensures.0 in
+    moves_unmarked _ _ _ (subst (Unmarked c.args.marks.now c.args.gadget.first) end (none_over c.args.marks.now _ _ (omega (arith, end, c.requires.0)) c.largest.ensures c.if-largest-gt0.false))

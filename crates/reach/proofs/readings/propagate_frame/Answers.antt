@@ -14,25 +14,25 @@ use Rattle.reach.proofs.readings.propagate_frame.Goals.{In-Gate, Start}
 
 -- what the contract asks of a frame
 abbrev Asked : Start → FrameCode → Type 0
-Asked s f = (s.args.first + frame_wires f s.args.d ≤ length s.args.marks.now) × FrameEarly f s.args.d s.args.first s.args.ops.now
+Asked s f = let p = s.args.place in (p.first + frame_wires f p.d ≤ length s.args.marks.now) × FrameEarly f p.d p.first s.args.ops.now
 
 asked : (s : Start) {f : FrameCode} → s.args.frame ≡ f → Asked s f
-asked s e = subst (Asked s) e (s.requires.1, s.requires.2)
+asked s e = subst (Asked s) e s.requires
 
 asked_gate : (c : In-Gate) {g : GateCode} → c.in-Gate.gate ≡ g → Asked c.before.before.before.before (frame.Gate g)
 asked_gate c e = asked c.before.before.before.before (c.in-Gate.is ∙ ap frame.Gate e)
 
-pub propagate_gate-requires : goal.propagate_gate-requires
-propagate_gate-requires c = let q = asked_gate (goal.at.propagate_gate-requires c).In-Gate c.in-Xor.is in (omega (arith, q.0), omega (arith, q.0, q.1.0), omega (arith, q.0, q.1.1))
+pub propagate-requires : goal.propagate-requires
+propagate-requires c = let q = asked_gate (goal.at.propagate-requires c).In-Gate c.in-Xor.is in (omega (arith, q.0), omega (arith, q.0, q.1.0), omega (arith, q.0, q.1.1))
 
-pub propagate_gate-requires-in-Not : goal.propagate_gate-requires-in-Not
-propagate_gate-requires-in-Not c = let q = asked_gate (goal.at.propagate_gate-requires-in-Not c).In-Gate c.in-Not.is in (omega (arith, q.0), omega (arith, q.0, q.1), omega (arith, q.0, q.1))
+pub propagate-requires-in-Not : goal.propagate-requires-in-Not
+propagate-requires-in-Not c = let q = asked_gate (goal.at.propagate-requires-in-Not c).In-Gate c.in-Not.is in (omega (arith, q.0), omega (arith, q.0, q.1), omega (arith, q.0, q.1))
 
 pub propagate_and-requires : goal.propagate_and-requires
-propagate_and-requires c = let q = asked (goal.at.propagate_and-requires c).Start c.in-And.is in (c.requires.0, q.0, q.1)
+propagate_and-requires c = asked (goal.at.propagate_and-requires c).Start c.in-And.is
 
 pub propagate_refresh-requires : goal.propagate_refresh-requires
-propagate_refresh-requires c = let q = asked (goal.at.propagate_refresh-requires c).Start c.in-Ref.is in (c.requires.0, omega (arith, q.0), q.1.0, q.1.1)
+propagate_refresh-requires c = let q = asked (goal.at.propagate_refresh-requires c).Start c.in-Ref.is in (omega (arith, q.0), q.1)
 
 pub returns-in-In : goal.returns-in-In
 returns-in-In c = rw (c.in-Gate.is, c.in-In.is) (λ from. moves_stops _ _ _ (λ g h q l. ap is_stop (h q l)))
@@ -40,19 +40,13 @@ returns-in-In c = rw (c.in-Gate.is, c.in-In.is) (λ from. moves_stops _ _ _ (λ 
 pub returns-in-Con : goal.returns-in-Con
 returns-in-Con c = rw (c.in-Gate.is, c.in-Con.is) (λ from. moves_stop _ _ (λ g h. ap is_stop h))
 
-pub shape_of-marks-in-Xor : goal.shape_of-marks-in-Xor
-shape_of-marks-in-Xor c = c.propagate_gate.auto.marks
-
 pub returns-in-Xor : goal.returns-in-Xor
 returns-in-Xor c =
-    rw (c.in-Gate.is, c.in-Xor.is, c.propagate_gate.ensures) (λ from. moves_gate _ (sum _) _ refl (λ g h. h))
-
-pub shape_of-marks-in-Not : goal.shape_of-marks-in-Not
-shape_of-marks-in-Not c = c.propagate_gate-in-Not.auto.marks
+    rw (c.in-Gate.is, c.in-Xor.is, c.propagate.ensures) (λ from. moves_gate _ (sum _) _ refl (λ g h. h))
 
 pub returns-in-Not : goal.returns-in-Not
 returns-in-Not c =
-    rw (c.in-Gate.is, c.in-Not.is, c.propagate_gate-in-Not.ensures) (λ from. twice_moved _ _ _ (λ g h. h))
+    rw (c.in-Gate.is, c.in-Not.is, c.propagate-in-Not.ensures) (λ from. twice_moved _ _ _ (λ g h. h))
 
 pub returns-in-Reg : goal.returns-in-Reg
 returns-in-Reg c = rw (c.in-Gate.is, c.in-Reg.is) (λ from. moves_stop _ _ (λ g h. ap is_stop h))
@@ -60,14 +54,8 @@ returns-in-Reg c = rw (c.in-Gate.is, c.in-Reg.is) (λ from. moves_stop _ _ (λ g
 pub returns-in-Out : goal.returns-in-Out
 returns-in-Out c = rw (c.in-Gate.is, c.in-Out.is) (λ from. moves_at refl (omega arith) (moves_none _ _))
 
-pub shape_of-marks-in-And : goal.shape_of-marks-in-And
-shape_of-marks-in-And c = c.propagate_and.ensures.size
-
 pub returns-in-And : goal.returns-in-And
 returns-in-And c = rw c.in-And.is (λ from. c.propagate_and.ensures)
-
-pub shape_of-marks-in-Ref : goal.shape_of-marks-in-Ref
-shape_of-marks-in-Ref c = c.propagate_refresh.ensures.size
 
 pub returns-in-Ref : goal.returns-in-Ref
 returns-in-Ref c = rw c.in-Ref.is (λ from. c.propagate_refresh.ensures)

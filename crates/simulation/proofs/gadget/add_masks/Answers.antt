@@ -1,74 +1,57 @@
--- The loops' invariants: the random bits of the share i and each below j are added, and the next one's place is known.
-use mathlib.Core.Path.{◌≡◌}
+-- The loops' invariants: the random bits of the share i and each below j are added, and the next one's place is known; then those of
+-- the row of i.
+use mathlib.Core.Path.{◌≡◌, ◌∙◌}
+use Prim.Native.Nat.{◌+◌, ◌-◌, ◌≤◌, ◌<◌}
+use native.Mathlib.Nat.{add-zero}
 use native.Mathlib.Omega.{arith}
+use lib.ListN.{length, take, drop, length-drop}
+use lib.Seq.{get_or-take, get_or-drop, length-take-le}
+use Rattle.circuit.specs.Lists.{nth}
 use Rattle.gadgets.proofs.Slots.{mask_lt}
-use Rattle.gadgets.proofs.Masks.{below_start, below_here, below_next, below-near, below_end, above_here, above-next, above-near}
-use Rattle.simulation.proofs.Gadgets.{masks_start, masks_turn, masks_end}
+use Rattle.gadgets.proofs.Masks.{AboveAt, below_here, below_next, below_end, above_here, above-by, above-end}
+use Rattle.simulation.proofs.Gadgets.{masks_start, masks_at, masks_turn, masks_end}
 use Rattle.simulation.proofs.gadget.add_masks.Goals as goal
+use Rattle.simulation.proofs.gadget.add_masks.Goals.{After-loop-j}
 
-pub overflow_add-at : goal.overflow_add-at
-overflow_add-at c = omega (arith, c.requires.0, c.requires.1)
+-- the row of i begins where the first loop ends
+row : (c : After-loop-j) → AboveAt c.args.g.d c.args.g.first c.args.i (c.args.i + 1) c.loop-j.at
+row c =
+    let at = c.loop-j.invariant.1 in
+    let e : c.loop-j.j ≡ c.args.i = omega (arith, at.most, c.loop-j-test.false) in
+    rw e at (below_end at c.loop-j-test.false)
 
-pub loop-j-init : goal.loop-j-init
-loop-j-init c = (masks_start (omega arith), below_start _ _ _)
-
-pub overflow_sub-sum : goal.overflow_sub-sum
-overflow_sub-sum c = omega (arith, c.loop-j.invariant.1.is)
+inside : (c : After-loop-j) → c.loop-j.at + (c.args.g.d - c.args.i - 1) ≤ length c.args.values.now
+inside c = omega (arith, above-end (row c) c.requires.0 (omega arith), c.requires.1, c.args.g.paired)
 
 pub bounds-values-at : goal.bounds-values-at
 bounds-values-at c =
+    let (i, room) = c.requires in
     let h = c.loop-j-test.true in
-    omega (arith, below_here c.loop-j.invariant.1 h, mask_lt c.args.d c.args.first c.args.i c.loop-j.j c.requires.1 (omega (arith, c.requires.1)) (λ e. omega arith), c.requires.2)
-
-pub overflow_sub-at : goal.overflow_sub-at
-overflow_sub-at c = omega (arith, c.loop-j-test.true, c.requires.1)
-
-pub overflow_sub-at-in-loop-j : goal.overflow_sub-at-in-loop-j
-overflow_sub-at-in-loop-j c = omega (arith, c.loop-j-test.true, c.requires.1)
-
-pub overflow_add-at-in-loop-j : goal.overflow_add-at-in-loop-j
-overflow_add-at-in-loop-j c = let p = c.requires in omega (arith, p.0, below-near c.loop-j.invariant.1 p.1 p.0.2)
-
-pub overflow_add-j : goal.overflow_add-j
-overflow_add-j c = omega (arith, c.loop-j-test.true, c.requires.1, c.requires.0)
-
-pub loop-j-smaller : goal.loop-j-smaller
-loop-j-smaller c = omega (arith, c.loop-j-test.true)
+    omega (arith, below_here c.loop-j.invariant.1 h, mask_lt c.args.g.d c.args.g.first c.args.i c.loop-j.j i (omega arith) (λ e. omega arith), room, c.args.g.paired)
 
 pub loop-j-preserved : goal.loop-j-preserved
 loop-j-preserved c =
-    let h = c.loop-j-test.true in
     let (on, at) = c.loop-j.invariant in
-    (masks_turn on c.requires.1 (omega (arith, c.requires.1)) (λ e. omega arith) h _ (below_here at h), below_next at h c.requires.1)
+    let h = c.loop-j-test.true in
+    let i = c.requires.0 in
+    (masks_turn on i (omega arith) (λ e. omega arith) h _ (below_here at h), below_next at h i)
 
-pub overflow_add-j-2 : goal.overflow_add-j-2
-overflow_add-j-2 c = omega (arith, c.loop-j.invariant.1.most, c.requires.1, c.requires.0)
+pub slice_bounds-bit-items-end : goal.slice_bounds-bit-items-end
+slice_bounds-bit-items-end c = inside (goal.at.slice_bounds-bit-items-end c).After-loop-j
 
-pub loop-j-2-init : goal.loop-j-2-init
-loop-j-2-init c =
-    let at = c.loop-j.invariant.1 in
-    let e : c.loop-j.j ≡ c.args.i = omega (arith, at.most, c.loop-j-test.false) in
-    (rw e (masks_start (omega (arith, c.requires.1))), below_end at c.loop-j-test.false)
+pub loop-bit-init : goal.loop-bit-init
+loop-bit-init c = simp add-zero (masks_start (omega (arith, c.requires.0)))
 
-pub bounds-values-at-in-loop-j-2 : goal.bounds-values-at-in-loop-j-2
-bounds-values-at-in-loop-j-2 c =
-    let at = c.loop-j-2.invariant.1 in
-    omega (arith, above_here at, mask_lt c.args.d c.args.first c.args.i c.loop-j-2.j c.requires.1 c.loop-j-2-test.true (λ e. omega (arith, at.least)), c.requires.2)
-
-pub overflow_add-at-in-loop-j-2 : goal.overflow_add-at-in-loop-j-2
-overflow_add-at-in-loop-j-2 c = let p = c.requires in omega (arith, p.0, above-near c.loop-j-2.invariant.1 p.1 (omega (arith, c.loop-j-2-test.true)) p.0.2)
-
-pub overflow_add-j-in-loop-j-2 : goal.overflow_add-j-in-loop-j-2
-overflow_add-j-in-loop-j-2 c = omega (arith, c.loop-j-2-test.true, c.requires.0)
-
-pub loop-j-2-smaller : goal.loop-j-2-smaller
-loop-j-2-smaller c = omega (arith, c.loop-j-2-test.true)
-
-pub loop-j-2-preserved : goal.loop-j-2-preserved
-loop-j-2-preserved c =
-    let h = c.loop-j-2-test.true in
-    let (on, at) = c.loop-j-2.invariant in
-    (masks_turn on c.requires.1 h (λ e. omega (arith, at.least)) h _ (above_here at), above-next at)
+pub loop-bit-preserved : goal.loop-bit-preserved
+loop-bit-preserved c =
+    let values = c.args.values.now in
+    let at = c.loop-j.at in
+    let k = c.loop-bit.bit-index in
+    let n = at + (c.args.g.d - c.args.i - 1) - at in
+    let l : k < n = omega (arith, c.loop-bit-test.true, length-take-le n (drop at values) (omega (arith, inside (goal.at.loop-bit-preserved c).After-loop-j, length-drop at values))) in
+    let here : nth (take n (drop at values)) k ≡ nth values (at + k) = get_or-take n (drop at values) k 0 l ∙ get_or-drop at values k 0 in
+    let there = above_here (above-by (row (goal.at.loop-bit-preserved c).After-loop-j) k) in
+    rw here (masks_at (omega arith) (masks_turn c.loop-bit.invariant c.requires.0 (omega arith) (λ e. omega arith) (omega arith) (at + k) there))
 
 pub returns : goal.returns
-returns c = (c.loop-j.sum, masks_end c.loop-j.invariant.0 c.loop-j-test.false, masks_end c.loop-j-2.invariant.0 c.loop-j-2-test.false)
+returns c = (c.loop-j.sum, masks_end c.loop-j.invariant.0 c.loop-j-test.false, masks_end c.loop-bit.invariant (omega arith))

@@ -6,9 +6,9 @@ use Rattle.circuit.specs.Lists.{nth}
 use Rattle.simulation.specs.Internal.Walked.{GatesFilled}
 use Rattle.simulation.proofs.values.fill_gates.Given as goal
 
-abbrev pub invariant-loop-frame : goal.invariant-loop-frame
-invariant-loop-frame l =
-    (l.walk.d ≡ nth l.table 1) × (l.initial.walk.at ≤ l.walk.at) × (length l.values ≡ length l.initial.values) × GatesFilled l.table l.initial.values l.initial.walk.at l.wires l.values l.walk.at l.first
+abbrev pub invariant-loop-next : goal.invariant-loop-next
+invariant-loop-next l =
+    (l.walk.d ≡ nth l.table 1) × (l.initial.walk.at ≤ l.walk.at) × GatesFilled l.table l.initial.values l.initial.walk.at l.wires l.values l.walk.at l.first
 
-abbrev pub decreases-loop-frame : goal.decreases-loop-frame
-decreases-loop-frame l = length l.table - l.walk.at
+abbrev pub decreases-loop-next : goal.decreases-loop-next
+decreases-loop-next l = length l.table - l.walk.at

@@ -10,7 +10,7 @@ returns c =
     let r = c.multiply.ensures in
     let q = c.sum-other.ensures in
     let p = c.sum-one.ensures in
-    rw c.write_four.ensures (product-written c.requires.3 (four _ _ _ _ _ _ _ (omega arith) (
+    rw c.write_four.ensures (product-written c.requires.1 (four _ _ _ _ _ _ _ (omega arith) (
       r.0 ∙ ap₂ bit_and p.0 q.0,
       r.1 ∙ ap₂ bit_and p.1 q.1,
       r.2 ∙ ap₂ bit_and p.2 q.2,

@@ -6,9 +6,11 @@ use Rattle.circuit.specs.Lists.{nth}
 use Rattle.symbolic.proofs.Expanding.{ExpandedTo}
 use Rattle.symbolic.proofs.expand.expand.Given as goal
 
-abbrev pub invariant-loop-frame : goal.invariant-loop-frame
-invariant-loop-frame l =
-    (l.walk.d ≡ nth l.table 1) × ExpandedTo (length l.initial.sums) l.table l.shares l.tape l.read l.found l.sums l.terms l.walk.at l.first l.from l.used l.outputs
+abbrev pub invariant-loop-next : goal.invariant-loop-next
+invariant-loop-next l = record {
+  same : l.walk.d ≡ nth l.table 1;
+  here : ExpandedTo (length l.initial.sums) l.table l.shares l.tape l.read (length l.read) l.sums l.terms l.walk.at l.before.first l.before.from l.before.used l.outputs;
+}
 
-abbrev pub decreases-loop-frame : goal.decreases-loop-frame
-decreases-loop-frame l = length l.table - l.walk.at
+abbrev pub decreases-loop-next : goal.decreases-loop-next
+decreases-loop-next l = length l.table - l.walk.at

@@ -1,7 +1,0 @@
--- One wire, of the same bit.
-use native.Mathlib.Omega.{arith}
-use Rattle.simulation.proofs.Filled.{fills_one}
-use Rattle.simulation.proofs.values.register.Goals as goal
-
-pub returns : goal.returns
-returns c = fills_one _ _ _ (omega arith) (λ v e k. rw e (k c.args.wire (omega arith) c.requires.1))
