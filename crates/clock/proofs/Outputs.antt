@@ -26,9 +26,6 @@ pub record RowsOn (d first : ℕ) (a b : ℕ → ℕ) (values₀ bank₀ values 
   pub sized : length values ≡ length values₀
   pub held_sized : length bank ≡ length bank₀
 
-pub rows_start : {d first : ℕ} {a b : ℕ → ℕ} {values bank : List ℕ} → RowsOn d first a b values bank values bank 0
-rows_start = record { most = omega arith; on = λ k g u. (u, λ j l. absurd (omega arith)); sized = refl; held_sized = refl }
-
 pub rows_end : {d first : ℕ} {a b : ℕ → ℕ} {values₀ bank₀ values bank : List ℕ} {i : ℕ} → d ≤ i → RowsOn d first a b values₀ bank₀ values bank i
     → Runs (Rows d first a b) (first + cross_start d 0) (out_at d first d) values₀ bank₀ values bank
 rows_end {d} {first} {values = values} {i = i} h rows = record {

@@ -5,7 +5,7 @@ use Prim.Native.Nat.{ℕ, ◌+◌, ◌-◌, ◌*◌, ◌≤◌, ◌<◌}
 use lib.Bits.{bit_xor}
 use native.Mathlib.Omega.{arith}
 use lib.ListN.{length, take, set}
-use lib.Seq.{get_or-take, length-take-le}
+use lib.Seq.{get_or-take}
 use Rattle.circuit.specs.Lists.{nth, range}
 use Rattle.circuit.specs.Gadgets.{others}
 use Rattle.circuit.specs.Kinds.{pairs}
@@ -83,9 +83,6 @@ mask_filled d first a tape used count e draws sums =
 -- the words that they take are the first d behind the kind's first
 pub row_word : (d : ℕ) (ops : List ℕ) (i : ℕ) → i < d → word_a (take (1 + d) ops) i ≡ word_a ops i
 row_word d ops i l = get_or-take (1 + d) ops (1 + i) 0 (omega arith)
-
-pub row_long : (d : ℕ) (ops : List ℕ) → 1 + d ≤ length ops → 1 + d ≤ length (take (1 + d) ops)
-row_long d ops h = omega (arith, length-take-le (1 + d) ops (omega arith))
 
 pub row_masks : (d first : ℕ) (ops tape : List ℕ) (used : ℕ) {old new : List ℕ} {from to : ℕ} → Fills (DrawnMasked d first (word_a (take (1 + d) ops)) tape used) from to old new → Fills (DrawnMasked d first (word_a ops) tape used) from to old new
 row_masks d first ops tape used = fills_for (λ v q. record { drawn = q.drawn; masked = λ i l. rw (row_word d ops i l) (q.masked i l) })

@@ -4,7 +4,7 @@ ghost use Rattle.gadgets.specs.Internal.Places.{word_a, word_b, product_at, cros
 ghost use Rattle.gadgets.specs.Internal.Frames.{FrameEarly, Roomy};
 ghost use Rattle.frames.specs.declared.walk.Frame.TheVariants as frame;
 ghost use Rattle.simulation.specs.Internal.Filling.{Fills, Drawn, ShareProducts, Multiplied, Masked, DrawnMasked, Held};
-ghost use Rattle.simulation.specs.Internal.Gadgets.{Crosses, CrossesRow, Sums, Takes, Writes, TakesMasks};
+ghost use Rattle.simulation.specs.Internal.Gadgets.{Crosses, CrossesOther, CrossesRow, Sums, Takes, Writes, TakesMasks};
 
 use gadgets::places::Gadget;
 use gadgets::{gate_values, places};
@@ -55,19 +55,28 @@ fn cross(values: &mut [u8], at: usize, a: u8, b: u8, r: u8) -> u8
     u ^ w
 }
 
-// The same of the share i and every other, added to a word.
+// The same of the share i and another, added to a word. Of the share i itself, the word as it is. (A function of its own: written into the
+// loop below it was tried and is slower, since the loop is then not unrolled.)
+fn cross_other(values: &mut [u8], g: Gadget, i: usize, j: usize, a: u8, word: u8) -> u8
+    requires { (i < g.d) × (j < g.d) × Roomy g.d g.first values.old }
+    ensures { CrossesOther g.d g.first i j a word values.old values.new result }
+{
+    if i == j {
+        return word;
+    }
+    let r = values[g.pair_at(i, j)];
+    let b = values[g.product_at(j)];
+    word ^ cross(values, g.cross_at(i, j), a, b, r)
+}
+
+// The same of the share i and every other.
 fn cross_row(values: &mut [u8], g: Gadget, i: usize, a: u8, word: u8) -> u8
     requires { (i < g.d) × Roomy g.d g.first values.old }
     ensures { CrossesRow g.d g.first i a word values.old values.new result }
 {
     let mut sum = word;
     for j in 0..g.d {
-        if j == i {
-            continue;
-        }
-        let r = values[g.pair_at(i, j)];
-        let b = values[g.product_at(j)];
-        sum ^= cross(values, g.cross_at(i, j), a, b, r);
+        sum = cross_other(values, g, i, j, a, sum);
     }
     sum
 }

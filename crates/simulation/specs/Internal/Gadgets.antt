@@ -1,13 +1,13 @@
 -- What the parts of AND and REF fill in.
 use Rattle.std.specs.Prelude.{◌≡◌, List, [], ℕ, ◌+◌, ◌-◌, ◌≤◌, length}
 use Rattle.std.specs.Int.Bits.{bit_xor}
-use Rattle.circuit.specs.Lists.{range}
+use Rattle.circuit.specs.Lists.{nth, range}
 use Rattle.circuit.specs.Gadgets.{others}
 use Rattle.circuit.specs.Kinds.{pairs}
 use Rattle.frames.specs.declared.walk.Frame.{Frame as FrameCode}
 use Rattle.frames.specs.declared.walk.Frame.TheVariants as frame
 use Rattle.gadgets.specs.declared.places.Gadget.{Gadget}
-use Rattle.gadgets.specs.Internal.Places.{cross_start, mask_at, sum_at}
+use Rattle.gadgets.specs.Internal.Places.{cross_start, pair_at, product_at, cross_at, mask_at, sum_at}
 use Rattle.gadgets.specs.Internal.Frames.{frame_wires, FrameEarly}
 use Rattle.simulation.specs.Internal.Filling.{Values, word_sum, Known, Fills, Crossed, crossing, RowCrossed, crossing_at, FrameValues}
 
@@ -26,6 +26,11 @@ TakesMasks g ops tape values = FrameEarly frame.Ref g.d g.first ops × (g.used +
 pub record Crosses (at a b r : ℕ) (old new : List ℕ) (s : ℕ) : Type 0 where
   pub fills : Fills (Crossed 1 at a b r) at (at + 6) old new
   pub adds : s ≡ crossing 1 a b r
+
+-- the wires of a share and another, added to a word; nothing of a share and itself
+pub record CrossesOther (d first i j a word : ℕ) (old new : List ℕ) (s : ℕ) : Type 0 where
+  pub itself : j ≡ i → (s ≡ word) × (new ≡ old)
+  pub other : (j ≡ i → ⊥) → ((t : ℕ) × Crosses (cross_at d first i j) a (nth old (product_at d first j)) (nth old (pair_at d first i j)) old new t × (s ≡ bit_xor word t))
 
 -- the wires of a share and every other, the sums of their U and W added to a word
 pub record CrossesRow (d first i a word : ℕ) (old new : List ℕ) (s : ℕ) : Type 0 where
