@@ -44,4 +44,6 @@ shape_of-marks c = simp length-set (twice (goal.at.shape_of-marks c).After-mark_
 pub returns : goal.returns
 returns c =
     let g = c.args.gadget in
-    out_handed g.d g.first c.args.i c.args.marks.now _ _ _ c.out_at-wire.ensures.0 (ap (λ n. g.first + n) c.cross_start.ensures.0) (ap (λ n. n + 2) c.product_at.ensures.0) c.if-marks-wire-lt1.false c.mark_six_apart.ensures c.mark_six_apart-2.ensures
+    let row = ap (λ n. g.first + n) c.cross_start.ensures.0 in
+    let product = ap (λ n. n + 2) c.product_at.ensures.0 in
+    out_handed g.d g.first c.args.i c.args.marks.now _ _ _ c.out_at-wire.ensures.0 row product c.if-marks-wire-lt1.false c.mark_six_apart.ensures c.mark_six_apart-2.ensures
