@@ -4,94 +4,89 @@
 // that is read: line and word).
 #![tactic(auto)]
 
-ghost use Rattle.std.specs.Prelude.{◌≡◌, [], ◌∷◌, length};
+ghost use Rattle.std.specs.Prelude.{◌≡◌, ℕ, [], ◌∷◌, length};
 ghost use Rattle.circuit.specs.Rules.{checked};
-ghost use Rattle.circuit.specs.Answer.{refused, verdict_of, notes_after};
+ghost use Rattle.circuit.specs.Answer.{verdict_of, notes_after};
 ghost use Rattle.semantics.specs.Calls.{written, call_rule, call_answer, call_notes, value_bytes, reading_bytes};
 ghost use Rattle.semantics.specs.Clock.{clock_answer, values_after, bank_after};
 ghost use Rattle.text.specs.Reader.{read_text};
-ghost use Rattle.text.specs.Answer.{text_answer, text_answer_of, table_after};
+ghost use Rattle.text.specs.Answer.{text_answer_of, table_after};
 ghost use Rattle.writer.specs.Writer.{write_answer, text_after};
-ghost use Rattle.checker.specs.Answers.{answer_of};
 ghost use Rattle.plain.specs.Sharings.{sharings_answer};
-ghost use Rattle.counting.specs.Counting.{count_answer_of, count_answer, counts_after};
+ghost use Rattle.counting.specs.Counting.{count_answer, counts_after};
 ghost use Rattle.exports.specs.Numbers.{AnswerIs, TextAnswerIs, CountAnswerIs};
+ghost use Rattle.exports.specs.Internal.{Gives};
 
-use checker::Verdict;
+use checker::Accepted;
+use circuit::Refusal;
 use counting::Counted;
-use text::TextVerdict;
 
-// Puts a refusal's numbers where the caller wants them, and answers its result.
-fn put_refusal(
-    rule: usize,
-    frame: usize,
-    word: usize,
-    first: &mut u64,
-    second: &mut u64,
-    third: &mut u64,
+// The three numbers that an accepted answer has under its C name.
+trait Numbers {
+    ghost first: { Self → ℕ };
+    ghost second: { Self → ℕ };
+    ghost third: { Self → ℕ };
+
+    fn numbers(self) -> (usize, usize, usize)
+        ensures { (result.0 ≡ first self) × (result.1 ≡ second self) × (result.2 ≡ third self) };
+}
+
+// Of a circuit: wires, random bits, latency.
+impl Numbers for Accepted {
+    ghost first = { λ x. x.wires };
+    ghost second = { λ x. x.randoms };
+    ghost third = { λ x. x.latency };
+
+    fn numbers(self) -> (usize, usize, usize) {
+        (self.wires, self.randoms, self.latency)
+    }
+}
+
+// Of a text: words read or bytes written, and 0.
+impl Numbers for usize {
+    ghost first = { λ n. n };
+    ghost second = { λ _. 0 };
+    ghost third = { λ _. 0 };
+
+    fn numbers(self) -> (usize, usize, usize) {
+        (self, 0, 0)
+    }
+}
+
+// Of counts: wires read, combinations, pairs of one set.
+impl Numbers for Counted {
+    ghost first = { λ x. x.read };
+    ghost second = { λ x. x.combinations };
+    ghost third = { λ x. x.pairs };
+
+    fn numbers(self) -> (usize, usize, usize) {
+        (self.read, self.combinations, self.pairs)
+    }
+}
+
+// Puts an answer's numbers where the caller wants them, and gives the call's result.
+fn put<T: Numbers>(
+    answer: Result<T, Refusal>,
+    a: &mut u64,
+    b: &mut u64,
+    c: &mut u64,
 ) -> u64
-    ensures answered { AnswerIs (refused rule frame word) result first.new second.new third.new }
+    ensures { Gives T.first T.second T.third answer result a.new b.new c.new }
 {
-    *first = frame as u64;
-    *second = word as u64;
-    *third = 0;
-    rule as u64
-}
-
-// The same for a verdict.
-fn put(verdict: Verdict, a: &mut u64, b: &mut u64, c: &mut u64) -> u64
-    ensures answered { AnswerIs (answer_of verdict) result a.new b.new c.new }
-{
-    match verdict {
-        Verdict::Accepted {
-            wires,
-            randoms,
-            latency,
-            inputs: _,
-        } => {
-            *a = wires as u64;
-            *b = randoms as u64;
-            *c = latency as u64;
+    match answer {
+        Ok(accepted) => {
+            let (first, second, third) = accepted.numbers();
+            *a = first as u64;
+            *b = second as u64;
+            *c = third as u64;
             0
         }
-        Verdict::Refused { rule, frame, word } => put_refusal(rule, frame, word, a, b, c),
-    }
-}
-
-// The same for a call on text.
-fn put_text(verdict: TextVerdict, a: &mut u64, b: &mut u64) -> u64
-    ensures answered { TextAnswerIs (text_answer verdict) result a.new b.new }
-{
-    match verdict {
-        TextVerdict::Accepted { count } => {
-            *a = count as u64;
-            *b = 0;
-            0
+        Err(r) => {
+            *a = r.frame as u64;
+            *b = r.word as u64;
+            *c = 0;
+            r.number() as u64
         }
-        TextVerdict::Refused { rule, line, word } => {
-            *a = line as u64;
-            *b = word as u64;
-            rule as u64
-        }
-    }
-}
-
-// The same for counts.
-fn put_count(counted: Counted, a: &mut u64, b: &mut u64, c: &mut u64) -> u64
-    ensures answered { CountAnswerIs (count_answer_of counted) result a.new b.new c.new }
-{
-    match counted {
-        Counted::Accepted {
-            read,
-            combinations,
-            pairs,
-        } => {
-            *a = read as u64;
-            *b = combinations as u64;
-            *c = pairs as u64;
-            0
-        }
-        Counted::Refused { rule, frame, word } => put_refusal(rule, frame, word, a, b, c),
     }
 }
 
@@ -107,8 +102,7 @@ pub extern "C" fn masked_check(
     ensures answered { AnswerIs (verdict_of table.now (length notes.old)) result a.new b.new c.new }
     ensures noted { notes.new ≡ notes_after (checked table.now (length notes.old)).circuit notes.old }
 {
-    let verdict = checker::check(table, notes);
-    put(verdict, a, b, c)
+    put(checker::check(table, notes), a, b, c)
 }
 
 // text::read
@@ -117,8 +111,7 @@ pub extern "C" fn masked_read_text(text: &[u8], table: &mut [u16], a: &mut u64, 
     ensures answered { TextAnswerIs (text_answer_of text.now (length table.old)) result a.new b.new }
     ensures stored { table.new ≡ table_after (read_text text.now (length table.old)) table.old }
 {
-    let verdict = text::read(text, table);
-    put_text(verdict, a, b)
+    put(text::read(text, table), a, b, &mut 0)
 }
 
 // writer::write
@@ -136,9 +129,7 @@ pub extern "C" fn masked_write_text(
     ensures noted { notes.new ≡ notes_after (checked table.now (length notes.old)).circuit notes.old }
     ensures written { text.new ≡ text_after table.now notes.old text.old }
 {
-    let verdict = writer::write(table, notes, text);
-    *c = 0;
-    put_text(verdict, a, b)
+    put(writer::write(table, notes, text), a, b, c)
 }
 
 // evaluation::evaluate
@@ -158,8 +149,7 @@ pub extern "C" fn masked_evaluate(
     ensures valued { values.new ≡ written (call_rule table.now notes.old shares.now tape.now (values.old ∷ []) [])
         (value_bytes table.now notes.old shares.now tape.now) values.old }
 {
-    let verdict = evaluation::evaluate(table, notes, shares, tape, values);
-    put(verdict, a, b, c)
+    put(evaluation::evaluate(table, notes, shares, tape, values), a, b, c)
 }
 
 // evaluation::read_probes
@@ -183,8 +173,7 @@ pub extern "C" fn masked_read_probes(
     ensures shown { reading.new ≡ written (call_rule table.now notes.old shares.now tape.now (values.old ∷ reading.old ∷ []) probes.now)
         (reading_bytes table.now notes.old shares.now tape.now probes.now) reading.old }
 {
-    let verdict = evaluation::read_probes(table, notes, shares, tape, values, probes, reading);
-    put(verdict, a, b, c)
+    put(evaluation::read_probes(table, notes, shares, tape, values, probes, reading), a, b, c)
 }
 
 // clock::step
@@ -205,8 +194,7 @@ pub extern "C" fn masked_clock(
     ensures valued { values.new ≡ values_after table.now notes.old shares.now tape.now values.old bank.old }
     ensures banked { bank.new ≡ bank_after table.now notes.old shares.now tape.now values.old bank.old }
 {
-    let verdict = clock::step(table, notes, shares, tape, values, bank);
-    put(verdict, a, b, c)
+    put(clock::step(table, notes, shares, tape, values, bank), a, b, c)
 }
 
 // plain::check_sharings
@@ -221,8 +209,7 @@ pub extern "C" fn masked_check_sharings(
     ensures answered { AnswerIs (sharings_answer table.now notes.old) result a.new b.new c.new }
     ensures noted { notes.new ≡ notes_after (checked table.now (length notes.old)).circuit notes.old }
 {
-    let verdict = plain::check_sharings(table, notes);
-    put(verdict, a, b, c)
+    put(plain::check_sharings(table, notes), a, b, c)
 }
 
 // counting::count
@@ -241,6 +228,5 @@ pub extern "C" fn masked_count(
     ensures noted { notes.new ≡ notes_after (checked table.now (length notes.old)).circuit notes.old }
     ensures listed { counts.new ≡ counts_after table.now notes.old secrets.now probes.now counts.old }
 {
-    let counted = counting::count(table, notes, secrets, probes, counts);
-    put_count(counted, a, b, c)
+    put(counting::count(table, notes, secrets, probes, counts), a, b, c)
 }

@@ -2,5 +2,4 @@
 pub mod Runs
 pub mod Numbers
 pub mod Lengths
-pub mod Judging
 pub mod WorkedLines

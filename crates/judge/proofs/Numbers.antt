@@ -5,11 +5,9 @@ use Prim.Native.Nat.{ℕ, zero, suc, ◌+◌, ◌/◌, ◌%◌, ◌^◌, ◌≤�
 use native.Mathlib.Nat.{div-lt_self, div-lt_iff_lt-mul, pow-succ'}
 use native.Mathlib.Omega.{arith}
 use lib.Dec.{ltb}
-use lib.ListN.{length, set, length-append}
-use lib.Seq.{sets, length-sets}
+use lib.ListN.{length, length-append}
 use borrow.Author.Tests.{lt-ltb, le-ltb, ltb-true, ltb-false}
 use Rattle.circuit.proofs.Base.{cases}
-use Rattle.judge.proofs.Runs.{one-run}
 use Rattle.judge.specs.Printed.{digit, digits, decimal}
 
 -- a number below ten is one digit
@@ -47,6 +45,12 @@ last_digit n h = large n n h
 pub length_last : (n : ℕ) → 10 ≤ n → length (decimal n) ≡ length (decimal (n / 10)) + 1
 length_last n h = ap length (last_digit n h) ∙ length-append (decimal (n / 10)) (digit (n % 10) ∷ [])
 
+-- a number has a digit
+pub some_digit : (n : ℕ) → 0 < length (decimal n)
+some_digit n = cases (ltb n 10)
+    (λ e. rw (one-digit n (ltb-true n 10 e)) (omega arith))
+    (λ e. omega (arith, length_last n (ltb-false n 10 e)))
+
 tenth_below : (k n : ℕ) → n < 10 ^ suc (suc k) → n / 10 < 10 ^ suc k
 tenth_below k n h = (div-lt_iff_lt-mul {k = 10} {x = n} {y = 10 ^ suc k} (omega arith)).1 (omega (arith, pow-succ' 10 (suc k)))
 
@@ -62,17 +66,3 @@ few-digits (suc k) n h =
 -- a number of 64 bits has at most twenty
 pub twenty_digits : (n : ℕ) → n < 2 ^ 64 → length (decimal n) ≤ 20
 twenty_digits n h = few-digits 19 n (omega arith)
-
--- a buffer in which the digits in front of the last stand, and the place behind them: the last one completes the number
-pub record Front (old : List ℕ) (at n next : ℕ) (new : List ℕ) : Type 0 where
-  pub place : next + 1 ≡ at + length (decimal n)
-  pub room : length new ≡ length old
-  pub complete : set new next (digit (n % 10)) ≡ sets old at (decimal n)
-
-pub front : (old : List ℕ) (at n next : ℕ) (new : List ℕ) → 10 ≤ n
-    → (next ≡ at + length (decimal (n / 10))) × (new ≡ sets old at (decimal (n / 10))) → Front old at n next new
-front old at n next new h put = record {
-  place = omega (arith, length_last n h, put.0);
-  room = ap length put.1 ∙ length-sets old at (decimal (n / 10));
-  complete = rw (put.1, put.0, last_digit n h) (one-run old at (decimal (n / 10)) (digit (n % 10) ∷ []));
-}

@@ -1,48 +1,38 @@
--- Runs of bytes stored in a buffer, one behind the other.
-use mathlib.Core.Path.{◌≡◌, refl, ap, ◌∙◌}
-use mathlib.Core.List.{List, [], ◌∷◌, ◌++◌}
-use Prim.Native.Nat.{ℕ, suc, ◌+◌, ◌≤◌, ◌<◌}
-use native.Mathlib.Numerals.{add-one}
-use native.Mathlib.Nat.{add-zero, add-suc, zero-add, suc-add}
+-- Bytes written at the start of a buffer, one after the other.
+use mathlib.Core.Path.{◌≡◌, refl, sym, ap, ◌∙◌}
+use mathlib.Core.List.{List, [], ◌∷◌, ◌++◌, append_assoc, append-nil}
+use Prim.Native.Nat.{ℕ, suc, ◌+◌, ◌-◌, ◌<◌}
 use native.Mathlib.Omega.{arith}
-use lib.ListN.{length, set, drop, get_or, length-append}
-use lib.Seq.{sets, sets-eq, length-sets, drop-cons, drop-length}
-use Rattle.circuit.specs.Lists.{overwrite}
+use lib.ListN.{length, get_or, set, take, drop, length-append, length-drop, drop_of_length-le}
+use lib.Seq.{take_at, drop_at, drop-drop, drop-cons}
+use borrow.Rule.Slice.PartMut.{put_mid}
+use Rattle.std.proofs.lemmas.List.{take_rest, set_at}
+use Rattle.judge.specs.Printed.{Written}
 
--- two runs are one
-pub one-run : (l : List ℕ) (i : ℕ) (xs ys : List ℕ) → sets (sets l i xs) (i + length xs) ys ≡ sets l i (xs ++ ys)
-one-run l i [] ys = rw add-zero
-one-run l i (x ∷ xs) ys = rw (add-suc, ← suc-add) (one-run (set l i x) (suc i) xs ys)
+-- more bytes, written into what lies behind the first
+pub written_more : {a old mid b part : List ℕ} {n m : ℕ} → Written a old n mid → Written b (take (length mid - n) (drop n mid)) m part
+    → Written (a ++ b) old (n + m) (put_mid n (length mid - n) mid part)
+written_more {a} {old} {mid} {b} {part} {n} {m} p q =
+    let front : take n mid ≡ a = rw p.buffer (take_at a (drop (length a) old) n (sym p.size)) in
+    let behind : drop n mid ≡ drop (length a) old = rw p.buffer (drop_at a (drop (length a) old) n (sym p.size)) in
+    let none : drop (length mid - n) (drop n mid) ≡ [] = drop_of_length-le (drop n mid) (omega (arith, length-drop n mid)) in
+    let rest : part ≡ b ++ drop (length a + length b) old
+    = q.buffer ∙ ap (λ (l : List ℕ). b ++ drop (length b) l) (take_rest mid n ∙ behind) ∙ ap (λ (l : List ℕ). b ++ l) (drop-drop (length b) (length a) old) in
+    record {
+      size = omega (arith, p.size, q.size, length-append a b);
+      buffer = rw (front, none, rest, append-nil, length-append a b) (sym (append_assoc a b (drop (length a + length b) old)));
+    }
 
--- a turn of the loop that stores a run: one element, then the rest
-pub run_turn : (l : List ℕ) (at i : ℕ) (xs : List ℕ) → i < length xs
-    → sets l (at + i) (drop i xs) ≡ sets (set l (at + i) (get_or xs i 0)) (at + (i + 1)) (drop (i + 1) xs)
-run_turn l at i xs h = rw (drop-cons xs i 0 h, add-one, add-suc)
+pub written_none : (old : List ℕ) → Written [] old 0 old
+written_none old = record { size = refl; buffer = refl }
 
--- its end: nothing is left
-pub run-done : (l : List ℕ) (at i : ℕ) (xs : List ℕ) → i ≡ length xs → sets l (at + i) (drop i xs) ≡ l
-run-done l at i xs e = rw (e, drop-length)
-
--- a run from the start leaves the rest of the buffer
-pub from_start : (l xs : List ℕ) → length xs ≤ length l → sets l 0 xs ≡ overwrite xs l
-from_start l xs h = sets-eq xs l 0 (omega arith) ∙ rw zero-add
-
--- a buffer that held `old`, once the bytes `run` stand at its start, and the place behind them
-pub record Run (old run : List ℕ) (at : ℕ) (new : List ℕ) : Type 0 where
-  pub place : at ≡ length run
-  pub bytes : new ≡ sets old 0 run
-
-pub no_run : (old : List ℕ) → Run old [] 0 old
-no_run old = record { place = refl; bytes = refl }
-
--- more bytes behind the run
-pub more : (old run : List ℕ) (at : ℕ) (new xs : List ℕ) (next : ℕ) (newer : List ℕ) → Run old run at new
-    → (next ≡ at + length xs) × (newer ≡ sets new at xs) → Run old (run ++ xs) next newer
-more old run at new xs next newer r h = record {
-  place = h.0 ∙ simp length-append (omega (arith, r.place));
-  bytes = h.1 ∙ rw (r.bytes, r.place) (rw zero-add at (one-run old 0 run xs));
-}
-
--- the length is kept
-pub run_length : (old run : List ℕ) (at : ℕ) (new : List ℕ) → Run old run at new → length new ≡ length old
-run_length old run at new r = ap length r.bytes ∙ length-sets old 0 run
+-- one more byte
+pub written_byte : {a old new : List ℕ} {n : ℕ} (v : ℕ) → Written a old n new → length a < length old → Written (a ++ v ∷ []) old (n + 1) (set new n v)
+written_byte {a} {old} {new} {n} v p h =
+    let rest = drop (suc (length a)) old in
+    let all : length (a ++ v ∷ []) ≡ suc (length a) = omega (arith, length-append a (v ∷ [])) in
+    record {
+      size = omega (arith, p.size, length-append a (v ∷ []));
+      buffer = ap (λ (l : List ℕ). set l n v) (p.buffer ∙ ap (λ (l : List ℕ). a ++ l) (drop-cons old (length a) 0 h))
+          ∙ set_at a (get_or old (length a) 0) rest v n (sym p.size) ∙ rw all (sym (append_assoc a (v ∷ []) rest));
+    }

@@ -1,83 +1,81 @@
-// The line that is printed, written into a lent buffer.
-ghost use Rattle.std.specs.Prelude.{◌≡◌, ◌+◌, ◌≤◌, length};
-ghost use Rattle.std.proofs.lemmas.List.Edits.{sets};
+// The line that is printed, written into a lent buffer. It is put together here, and not by `write!`: std promises what `write!`
+// writes only where it answers Ok, and no promise says when it does.
+ghost use Rattle.std.specs.Prelude.{◌≡◌, ◌≤◌, length};
 ghost use Rattle.checker.specs.Answers.{answer_of};
 ghost use Rattle.judge.specs.Printed.{decimal, field, line, line_of, Written};
 
-use checker::Verdict;
+use checker::Accepted;
+use circuit::Refusal;
 
 // The base in which numbers are written.
 const BASE: usize = 10;
 
-// Writes some bytes from a place of the buffer on, and gives the place behind them.
-fn put_bytes(bytes: &[u8], out: &mut [u8], at: usize) -> usize
-    requires { at + length bytes.now ≤ length out.old }
-    ensures { (result ≡ at + length bytes.now) × (out.new ≡ sets out.old at bytes.now) }
+// Each of these writes at the start of the buffer, and gives how many bytes it wrote.
+fn put_bytes(bytes: &[u8], out: &mut [u8]) -> usize
+    requires { length bytes.now ≤ length out.old }
+    ensures { Written bytes.now out.old result out.new }
 {
-    let mut i: usize = 0;
-    while i < bytes.len() {
-        out[at + i] = bytes[i];
-        i += 1;
-    }
-    at + i
+    out[..bytes.len()].copy_from_slice(bytes);
+    bytes.len()
 }
 
-// Writes a number's digits, the most significant first: those in front of the last, and then the last.
-fn put_number(n: usize, out: &mut [u8], at: usize) -> usize
-    requires { at + length (decimal n) ≤ length out.old }
-    ensures { (result ≡ at + length (decimal n)) × (out.new ≡ sets out.old at (decimal n)) }
+// A number's digits, the most significant first: those in front of the last, and then the last.
+fn put_number(n: usize, out: &mut [u8]) -> usize
+    requires { length (decimal n) ≤ length out.old }
+    ensures { Written (decimal n) out.old result out.new }
 {
     if n < BASE {
-        out[at] = 48 + n as u8;
-        return at + 1;
+        out[0] = 48 + n as u8;
+        return 1;
     }
-    let next = put_number(n / BASE, out, at);
+    let next = put_number(n / BASE, out);
     out[next] = 48 + (n % BASE) as u8;
     next + 1
 }
 
-// Writes a name with a number behind it.
-fn put_field(name: &[u8], n: usize, out: &mut [u8], at: usize) -> usize
-    requires { at + length (field name.now n) ≤ length out.old }
-    ensures { (result ≡ at + length (field name.now n)) × (out.new ≡ sets out.old at (field name.now n)) }
+// A name with a number behind it.
+fn put_field(name: &[u8], n: usize, out: &mut [u8]) -> usize
+    requires { length (field name.now n) ≤ length out.old }
+    ensures { Written (field name.now n) out.old result out.new }
 {
-    let next = put_bytes(name, out, at);
-    put_number(n, out, next)
+    let end = put_bytes(name, out);
+    end + put_number(n, &mut out[end..])
 }
 
-// Writes three names with their numbers at the start of the buffer, and a line feed behind them. Gives the length.
+// Three names with their numbers, and a line feed behind them.
 fn put_line(a: &[u8], x: usize, b: &[u8], y: usize, c: &[u8], z: usize, out: &mut [u8]) -> usize
     requires { length (line a.now x b.now y c.now z) ≤ length out.old }
     ensures { Written (line a.now x b.now y c.now z) out.old result out.new }
 {
-    let second = put_field(a, x, out, 0);
-    let third = put_field(b, y, out, second);
-    let end = put_field(c, z, out, third);
-    put_bytes(b"\n", out, end)
+    let second = put_field(a, x, out);
+    let third = second + put_field(b, y, &mut out[second..]);
+    let end = third + put_field(c, z, &mut out[third..]);
+    end + put_bytes(b"\n", &mut out[end..])
 }
 
-// Writes the line of a verdict at the start of the buffer, and gives its length. The longest line has 93 bytes.
-pub(crate) fn write(verdict: Verdict, out: &mut [u8]) -> usize
+// The line of an answer. The longest has 93 bytes.
+pub(crate) fn write(answer: Result<Accepted, Refusal>, out: &mut [u8]) -> usize
     requires { 93 ≤ length out.old }
-    ensures { Written (line_of (answer_of verdict)) out.old result out.new }
+    ensures { Written (line_of (answer_of answer)) out.old result out.new }
 {
-    match verdict {
-        Verdict::Accepted {
-            wires,
-            randoms,
-            latency,
-            inputs: _,
-        } => put_line(
+    match answer {
+        Ok(a) => put_line(
             b"accepted wires ",
-            wires,
+            a.wires,
             b" random ",
-            randoms,
+            a.randoms,
             b" latency ",
-            latency,
+            a.latency,
             out,
         ),
-        Verdict::Refused { rule, frame, word } => {
-            put_line(b"refused ", rule, b" frame ", frame, b" word ", word, out)
-        }
+        Err(r) => put_line(
+            b"refused ",
+            r.number(),
+            b" frame ",
+            r.frame,
+            b" word ",
+            r.word,
+            out,
+        ),
     }
 }

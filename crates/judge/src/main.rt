@@ -8,26 +8,20 @@ ghost use Rattle.judge.specs.Judged.{judged_text};
 
 mod line;
 
-use checker::Verdict;
+use checker::Accepted;
+use circuit::Refusal;
 use std::io::{Read, Write};
-use text::TextVerdict;
 
 // A text read into the table, and the words found checked. A refusal by the reader gives its line as the frame.
-fn judge(text: &[u8], table: &mut [u16], notes: &mut [u16]) -> Verdict
+fn judge(text: &[u8], table: &mut [u16], notes: &mut [u16]) -> Result<Accepted, Refusal>
     ensures { answer_of result ≡ judged_text text.now (length table.old) (length notes.old) }
 {
-    let read = text::read(text, table);
-    match read {
-        TextVerdict::Accepted { count: words } => checker::check(&table[..words], notes),
-        TextVerdict::Refused { rule, line, word } => Verdict::Refused {
-            rule,
-            frame: line,
-            word,
-        },
-    }
+    let words = text::read(text, table)?;
+    checker::check(&table[..words], notes)
 }
 
-// Reads until the buffer is full, the input ends or a read fails, and gives how many bytes now stand at its start.
+// Reads until the buffer is full, the input ends or a read fails, and gives how many bytes now stand at its start. (std's
+// `read_exact` does not say how many bytes it read before an end or an error; each turn reads as many as the input gives.)
 fn read_full<R: Read>(input: &mut R, buffer: &mut [u8]) -> usize
     ensures bound { result ≤ length buffer.new }
     ensures bytes { Consumes (R.remaining input.old) (R.remaining input.new) (take result buffer.new) }
@@ -42,7 +36,8 @@ fn read_full<R: Read>(input: &mut R, buffer: &mut [u8]) -> usize
     size
 }
 
-// Writes all the bytes, or stops at the first write that takes nothing or fails. Gives how many were written.
+// Writes all the bytes, or stops at the first write that takes nothing or fails. Gives how many were written. (std's `write_all`
+// does not say how many it wrote before an error; each turn writes as many as the output takes.)
 fn write_all<W: Write>(output: &mut W, bytes: &[u8]) -> usize
     ensures bound { result ≤ length bytes.now }
     ensures bytes { Appends (W.contents output.old) (W.contents output.new) (take result bytes.now) }
@@ -64,7 +59,7 @@ fn main(rt: HostRuntime) {
     let mut notes = [0u16; circuit::NOTES_WORDS];
     let mut out = [0u8; 96];
     let size = read_full(&mut rt.stdin(), &mut text);
-    let verdict = judge(&text[..size], &mut table, &mut notes);
-    let end = line::write(verdict, &mut out);
+    let answer = judge(&text[..size], &mut table, &mut notes);
+    let end = line::write(answer, &mut out);
     write_all(&mut rt.stdout(), &out[..end]);
 }

@@ -7,8 +7,8 @@ use Rattle.judge.proofs.line.write.Goals as goal
 
 pub put_line-requires : goal.put_line-requires
 put_line-requires c =
-    le_trans (short_line accepted_name c.in-Accepted.wires random_name c.in-Accepted.randoms latency_name c.in-Accepted.latency (search rules) (search rules) (search rules) (omega arith)) c.requires
+    le_trans (short_line accepted_name _ random_name _ latency_name _ (search rules) (search rules) (search rules) (omega arith)) c.requires
 
-pub put_line-requires-in-Refused : goal.put_line-requires-in-Refused
-put_line-requires-in-Refused c =
-    le_trans (short_line refused_name c.in-Refused.rule frame_name c.in-Refused.frame word_name c.in-Refused.word (search rules) (search rules) (search rules) (omega arith)) c.requires
+pub put_line-requires-in-Err : goal.put_line-requires-in-Err
+put_line-requires-in-Err c =
+    le_trans (short_line refused_name _ frame_name _ word_name _ (search rules) (search rules) (search rules) (omega arith)) c.requires
