@@ -48,7 +48,7 @@ pub struct Refusal {
 }
 
 impl Refusal {
-    // A rule broken by a call, and by no frame of its table, at a word.
+    // A rule broken by a call itself, or by the first frame or line: told at frame 0, and at a word.
     pub fn of_call(rule: Rule, word: usize) -> Self
         ensures { result ≡ refusal rule 0 word }
     {

@@ -1,7 +1,6 @@
 // The rules of a line, by its count of words and its first ones.
 ghost use Rattle.std.specs.Prelude.{◌≡◌, ℕ, suc, ◌≤◌, ◌<◌, length, get_or, drop, IfOk};
 ghost use Rattle.circuit.specs.Limits.{table_limit};
-ghost use Rattle.circuit.specs.Refusals.{refusal};
 ghost use Rattle.circuit.specs.Kinds.{kind_of, words as words_of};
 ghost use Rattle.text.specs.Internal.Scan.{judged, count_from, value_in, head_by_count, line_rule, frame_rule};
 
@@ -10,17 +9,6 @@ use super::line;
 use circuit::{Refusal, Rule};
 use frames::kinds;
 
-// A rule that the first line breaks, at a word.
-fn on_line_0(rule: Rule, word: usize) -> Refusal
-    ensures { result ≡ refusal rule 0 word }
-{
-    Refusal {
-        rule,
-        frame: 0,
-        word,
-    }
-}
-
 // The d of the first line, or the rule that it breaks: 3 where there is none; 20; 3, two words and kind 0; 4, its d; 21.
 pub(crate) fn head(codes: &Codes, text: &[u8], room: usize) -> Result<u16, Refusal>
     requires { room ≤ table_limit }
@@ -28,20 +16,20 @@ pub(crate) fn head(codes: &Codes, text: &[u8], room: usize) -> Result<u16, Refus
     ensures shares { IfOk result (λ d. d ≡ value_in (drop 5 text.now)) }
 {
     if text.is_empty() {
-        return Err(on_line_0(Rule::Head, 0));
+        return Err(Refusal::of_call(Rule::Head, 0));
     }
     let Some(count) = line::count(codes, text) else {
-        return Err(on_line_0(Rule::Line, 0));
+        return Err(Refusal::of_call(Rule::Line, 0));
     };
     if count != 2 || codes.value(text) != 0 {
-        return Err(on_line_0(Rule::Head, 0));
+        return Err(Refusal::of_call(Rule::Head, 0));
     }
     let d = codes.value(&text[5..]);
     if d < 2 || 8 < d {
-        return Err(on_line_0(Rule::ShareCount, 1));
+        return Err(Refusal::of_call(Rule::ShareCount, 1));
     }
     if room < 2 {
-        return Err(on_line_0(Rule::TableRoom, 0));
+        return Err(Refusal::of_call(Rule::TableRoom, 0));
     }
     Ok(d)
 }
