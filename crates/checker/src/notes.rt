@@ -85,7 +85,7 @@ pub fn label(notes: &[u16], wire: u16) -> u16
     notes[2 * w] % REGISTERED
 }
 
-// The stage that a wire shows; 0 where it shows none.
+// The stage that a wire shows; 0 where it shows none, and then the row that names the wire is refused for it.
 pub(crate) fn stage_shown(notes: &[u16], wires: usize, wire: u16) -> u16
     requires { Room wires notes.now }
     ensures { result ≡ stage_found (noted notes.now wires wire) }
