@@ -41,13 +41,16 @@ rows_end {d} {first} {values = values} {i = i} h rows = record {
 }
 
 -- what an output shows, from what M, U and W show
-out-shows : (d first i : ℕ) (a b : ℕ → ℕ) (k : Clock) → Rows d first a b k → i < d → bit_xor (k.shows (product_at d first i + 2)) (word_sum (others d i) (added d first i k)) ≡ k.shows (out_at d first i)
+out-shows : (d first i : ℕ) (a b : ℕ → ℕ) (k : Clock) → Rows d first a b k → i < d
+    → bit_xor (k.shows (product_at d first i + 2)) (word_sum (others d i) (added d first i k)) ≡ k.shows (out_at d first i)
 out-shows d first i a b k g l =
     let us = map (λ j. cross_at d first i j + 1) (others d i) in
     let vs = map (λ j. cross_at d first i j + 5) (others d i) in
-    sym (met k (out_at d first i) (omega (arith, g.0)) (g.2 i l) refl ∙ ap (bit_xor (k.shows (product_at d first i + 2))) (word_sum-append k.shows us vs ∙ rw (word_sum-map, word_sum-map, ← word_sum-xor) refl))
+    sym (met k (out_at d first i) (omega (arith, g.0)) (g.2 i l) refl
+    ∙ ap (bit_xor (k.shows (product_at d first i + 2))) (word_sum-append k.shows us vs ∙ rw (word_sum-map, word_sum-map, ← word_sum-xor) refl))
 
-module _ {d first : ℕ} {a b : ℕ → ℕ} {values₀ bank₀ values bank : List ℕ} {i : ℕ} (rows : RowsOn d first a b values₀ bank₀ values bank i) (l : i < d) (early : a i < first) (room : out_at d first d ≤ length values)
+module _ {d first : ℕ} {a b : ℕ → ℕ} {values₀ bank₀ values bank : List ℕ} {i : ℕ} (rows : RowsOn d first a b values₀ bank₀ values bank i) (l : i < d)
+    (early : a i < first) (room : out_at d first d ≤ length values)
     {one one_bank two two_bank : List ℕ} {s t : ℕ} (r : CrossesRow d first i b (nth values (a i)) (nth values (product_at d first i + 2)) 0 i values bank one one_bank s)
     (q : CrossesRow d first i b (nth values (a i)) s (i + 1) d one one_bank two two_bank t) (same : length two ≡ length values) (held_same : length two_bank ≡ length bank) where
   ends : RowEnds d first i

@@ -51,13 +51,16 @@ module _ {d first i : ℕ} {b : ℕ → ℕ} {a word from to : ℕ} {values₀ b
   row_turn most l few apart early h p q o q-is p-is o_is {new} {new_bank} {s} crossed same held_same =
       let ne = apart j row.low h in
       let site : Sites d first i j = sites d first i j most l (omega arith) ne in
-      let c : Crosses (cross_at d first i j) a (nth values (b j)) (nth values (pair_at d first i j)) (nth values (pair_at d first i j + 1)) values bank new new_bank s = rw (q-is, p-is, o_is) at crossed in
+      let c : Crosses (cross_at d first i j) a (nth values (b j)) (nth values (pair_at d first i j))
+      (nth values (pair_at d first i j + 1)) values bank new new_bank s = rw (q-is, p-is, o_is) at crossed in
       record {
         low = omega (arith, row.low);
         high = omega arith;
         on = λ k x room g e u.
             let (now, adds) = row.on k x room g e u in
-            let (next, s-is) = c.on k (x i) (b j) (pair_at d first i j) (omega (arith, site.room)) (g j (omega arith) ne) e (now.below (b j) (omega (arith, early j (omega arith)))) (now.below (pair_at d first i j) (omega (arith, site.pair))) (now.below (pair_at d first i j + 1) (omega (arith, site.pair))) now in
+            let (next, s-is) = c.on k (x i) (b j) (pair_at d first i j) (omega (arith, site.room)) (g j (omega arith) ne) e
+            (now.below (b j) (omega (arith, early j (omega arith)))) (now.below (pair_at d first i j) (omega (arith, site.pair)))
+            (now.below (pair_at d first i j + 1) (omega (arith, site.pair))) now in
             (upto_at (omega (arith, slot_next i j ne)) next, rw s-is (adds_turn sum (added d first i k) to j adds h));
         above = λ x z. c.above x (omega (arith, slot_next i j ne)) ∙ row.above x (omega (arith, slot_next i j ne));
         sized = same ∙ row.sized;

@@ -41,8 +41,8 @@ fn share_products(values: &mut [u8], bank: &mut [u8], g: Gadget, ops: &[u16])
     }
 }
 
-// AND's wires u, v and w, and what U, V and W show next, of two shares, from the words of a, b, r and what R shows. The answer is the sum of
-// what U and W show.
+// AND's wires u, v and w, and what U, V and W show next, of two shares, from the words of a, b, r and what R shows. The answer is the sum
+// of what U and W show.
 fn cross(values: &mut [u8], bank: &mut [u8], at: usize, a: u8, b: u8, r: u8, shown: u8) -> u8
     requires { (at + 6 ≤ length values.old) × (at + 6 ≤ length bank.old) }
     ensures { Crosses at a b r shown values.old bank.old values.new bank.new result }

@@ -84,7 +84,8 @@ mask_filled d first a tape used count e draws sums =
 pub row_word : (d : ℕ) (ops : List ℕ) (i : ℕ) → i < d → word_a (take (1 + d) ops) i ≡ word_a ops i
 row_word d ops i l = get_or-take (1 + d) ops (1 + i) 0 (omega arith)
 
-pub row_masks : (d first : ℕ) (ops tape : List ℕ) (used : ℕ) {old new : List ℕ} {from to : ℕ} → Fills (DrawnMasked d first (word_a (take (1 + d) ops)) tape used) from to old new → Fills (DrawnMasked d first (word_a ops) tape used) from to old new
+pub row_masks : (d first : ℕ) (ops tape : List ℕ) (used : ℕ) {old new : List ℕ} {from to : ℕ}
+    → Fills (DrawnMasked d first (word_a (take (1 + d) ops)) tape used) from to old new → Fills (DrawnMasked d first (word_a ops) tape used) from to old new
 row_masks d first ops tape used = fills_for (λ v q. record { drawn = q.drawn; masked = λ i l. rw (row_word d ops i l) (q.masked i l) })
 
 pub ref_filled : (d first : ℕ) (a : ℕ → ℕ) (tape : List ℕ) (used : ℕ) {old one two : List ℕ} → Fills (DrawnMasked d first a tape used) first (sum_at d first d) old one

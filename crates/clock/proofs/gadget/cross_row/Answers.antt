@@ -20,7 +20,8 @@ cross-sum-requires c = omega (arith, (site (goal.at.cross-sum-requires c).In-loo
 pub loop-j-preserved : goal.loop-j-preserved
 loop-j-preserved c =
     let (i, to, ops, _, _, apart, _) = c.requires in
-    row_turn c.loop-j.invariant c.args.g.small.2 i to apart ops.2 c.loop-j-test.true _ _ _ c.cross_at.ensures.0 c.pair_at-pair.ensures.0 c.word_b.ensures c.cross-sum.ensures c.cross-sum.auto.values c.cross-sum.auto.bank
+    row_turn c.loop-j.invariant c.args.g.small.2 i to apart ops.2 c.loop-j-test.true _ _ _ c.cross_at.ensures.0 c.pair_at-pair.ensures.0
+    c.word_b.ensures c.cross-sum.ensures c.cross-sum.auto.values c.cross-sum.auto.bank
 
 pub returns : goal.returns
 returns c = row_end c.loop-j.invariant c.loop-j-test.false
