@@ -78,6 +78,3 @@ module _ {table secrets : List ℕ} (k : Countable table secrets) {plan : Plan} 
 -- the number of pairs
 pub pairs-are : {table : List ℕ} {plan : Plan} → Planned table plan → 2 ^ plan.free ≡ pair_count (circuit_in table)
 pairs-are p = ap (λ n. 2 ^ n) p.free_is
-
-pub pairs-few : (table : List ℕ) → free_bits (circuit_in table) ≤ 16 → (1 ≤ pair_count (circuit_in table)) × (pair_count (circuit_in table) ≤ 65536)
-pairs-few table few = (pow_mono (free_bits (circuit_in table)) 0 (omega arith), pow_mono 16 (free_bits (circuit_in table)) few)

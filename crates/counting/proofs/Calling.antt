@@ -106,7 +106,8 @@ module _ (table notes secrets probes counts : List ℕ) where
         room = g.of.roomy;
       }
 
-      pub ends_counted : {count pairs : ℕ} {new : List ℕ} → count ≡ 2 ^ length read → pairs ≡ pair_count (circuit_in table) → ListsCounts table secrets a.inputs read counts new → Ends (accepted (length read) count pairs) new
+      pub ends_counted : {count pairs : ℕ} {new : List ℕ} → count ≡ 2 ^ length read → pairs ≡ pair_count (circuit_in table)
+          → ListsCounts table secrets a.inputs read counts new → Ends (accepted (length read) count pairs) new
       ends_counted {count} {pairs} c p l =
           let n : length (read_wires k probes) ≡ length read = ap length read_is in
           ends {j = pass} (last_rule table notes secrets probes counts ∙ rw (g.passes, n, le-leb (length read) 8 few)) (rw (n, same) (ap₂ (accepted (length read)) c p)) (sheet g.of.of g.inputs l read_is)

@@ -109,7 +109,8 @@ module _ (lanes : ℕ) where
       (columns_words n zs (drop n cs) (λ x. h (suc x)) ∙ ap (all_shares n (wholes zs)) (map-drop (packed lanes) n cs))
 
   -- the words of free bits, and what the sharing and the tape of each pair are in them
-  module _ (given : ℕ → List Bool) (free : ℕ) (each : (l : ℕ) → length (given l) ≡ free) (ws : List ℕ) (long : free ≤ length ws) (are : (i : ℕ) → i < free → nth ws i ≡ packed lanes (λ l. at (given l) i)) where
+  module _ (given : ℕ → List Bool) (free : ℕ) (each : (l : ℕ) → length (given l) ≡ free) (ws : List ℕ) (long : free ≤ length ws)
+      (are : (i : ℕ) → i < free → nth ws i ≡ packed lanes (λ l. at (given l) i)) where
     abbrev cols : List Column
     cols = free_columns given free
 

@@ -43,7 +43,8 @@ shown {table} {secrets} {wires} k t probes e n l =
     (count_shown c probes (bits secrets) (some-shares k.accepted) (length-map secrets is_set ∙ k.sized) n) l
     ∙ sym (t.counts n l)
 
-module _ {table one other first second wires : List ℕ} (k : Countable table one) (l : Countable table other) (t : Tallied table one wires first) (u : Tallied table other wires second) (few : length wires ≤ 8) where
+module _ {table one other first second wires : List ℕ} (k : Countable table one) (l : Countable table other) (t : Tallied table one wires first)
+    (u : Tallied table other wires second) (few : length wires ≤ 8) where
   abbrev c : Circuit
   c = circuit_in table
 

@@ -104,7 +104,8 @@ module _ (varied : ℕ → Bool) (shift : ℕ → ℕ) where
       ∙ ap (λ f. fold n (suc i) f m + fold n (suc i) f (bit_xor m (shift i))) (sym (some-other n i number e)) ∙ sym (fold_other n i (some (suc n) i number) m e))
 
   -- said of whole lists
-  pub shifted : (number : List Bool → ℕ) (free : ℕ) → ((pre bs : List Bool) → length pre + suc (length bs) ≡ free → varied (length pre) ≡ false → number (pre ++ true ∷ bs) ≡ bit_xor (number (pre ++ false ∷ bs)) (shift (length pre)))
+  pub shifted : (number : List Bool → ℕ) (free : ℕ)
+      → ((pre bs : List Bool) → length pre + suc (length bs) ≡ free → varied (length pre) ≡ false → number (pre ++ true ∷ bs) ≡ bit_xor (number (pre ++ false ∷ bs)) (shift (length pre)))
       → (n i : ℕ) (pre : List Bool) → length pre ≡ i → i + n ≡ free → Shifted n i (λ bs. number (pre ++ bs))
   shifted number free h zero i pre e f = tt
   shifted number free h (suc n) i pre e f = (

@@ -96,7 +96,8 @@ module _ {table secrets : List ℕ} {inputs : ℕ} {plan : Plan} (k : Countable 
   list_is = ap₂ (all_shares plan.others) ls.are fs
 
   many : length (prepared_shares plan inputs secrets) ≡ (plan.others + 1) * inputs
-  many = all-length plan.others (secret_sums inputs secrets) free_sums (omega (arith, ap (λ n. plan.others * n) (secrets_many inputs secrets), starts, sz.within, sz.few)) ∙ ap (λ n. (plan.others + 1) * n) (secrets_many inputs secrets)
+  many = all-length plan.others (secret_sums inputs secrets) free_sums (omega (arith, ap (λ n. plan.others * n) (secrets_many inputs secrets), starts, sz.within, sz.few))
+      ∙ ap (λ n. (plan.others + 1) * n) (secrets_many inputs secrets)
 
   all-few : (plan.others + 1) * inputs ≤ 32
   all-few = omega (arith, ap (λ n. (plan.others + 1) * n) as_many, sz.shares)

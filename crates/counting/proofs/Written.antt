@@ -17,9 +17,6 @@ pub record WrittenTo (one other : List ℕ) (pairs count : ℕ) (old counts : Li
   pub sized : length counts ≡ length old
   pub left : sets old 0 (list_of one other pairs 0 count) ≡ sets counts (4 * n) (list_of one other pairs n (count - n))
 
-pub written_start : (one other : List ℕ) (pairs count : ℕ) (old : List ℕ) → WrittenTo one other pairs count old old 0
-written_start one other pairs count old = record { most = omega arith; sized = refl; left = simp sub-zero }
-
 module _ {one other : List ℕ} {pairs count : ℕ} {old counts : List ℕ} {n : ℕ} (w : WrittenTo one other pairs count old counts n) where
   abbrev four : ℕ → List ℕ
   four m = four_of (nth one m) (nth other m) pairs
