@@ -6,7 +6,6 @@ use native.Mathlib.Nat.{mul-le-mul_right}
 use native.Mathlib.Omega.{arith}
 use lib.ListN.{length}
 use lib.Pow.{pow-add}
-use Rattle.semantics.specs.Counts.{free_bits}
 use Rattle.circuit.specs.Lists.{nth}
 use Rattle.circuit.specs.Circuit.{Circuit, empty}
 use Rattle.circuit.proofs.Building.{build-shares}
@@ -40,12 +39,6 @@ some-shares a = omega (arith, d_is a, a.least)
 
 pub second_is : {table : List ℕ} (a : AcceptedTable table) → nth table 1 ≡ (circuit_in table).d
 second_is a = second_word a ∙ sym (d_is a)
-
-pub second-least : {table : List ℕ} → AcceptedTable table → 2 ≤ nth table 1
-second-least a = omega (arith, second_word a, a.least)
-
-pub second-most : {table : List ℕ} → AcceptedTable table → nth table 1 ≤ 8
-second-most a = omega (arith, second_word a, a.most)
 
 pub record Sizes (secrets : List ℕ) (others start free : ℕ) : Type 0 where
   pub some : 1 ≤ others

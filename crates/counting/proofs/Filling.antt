@@ -5,12 +5,10 @@ use mathlib.Core.List.{List, [], ◌∷◌, map}
 use Prim.Native.Nat.{ℕ, suc, ◌+◌, ◌*◌, ◌%◌, ◌≤◌, ◌<◌}
 use native.Mathlib.Nat.{zero-add}
 use native.Mathlib.Omega.{arith}
-use lib.Dec.{ltb, leb}
-use lib.ListN.{length, take, set, length-set, length-map}
-use lib.Seq.{get_or-set_same, get_or-set_other, get_or-take, length-take-le, ext_get_or}
-use borrow.Author.Tests.{ltb-true, ltb-false}
+use lib.Dec.{leb}
+use lib.ListN.{length, take, length-map}
+use lib.Seq.{get_or-take, length-take-le, ext_get_or}
 use Rattle.circuit.specs.Lists.{nth, range}
-use Rattle.circuit.proofs.Base.{cases}
 use Rattle.circuit.proofs.Numbered.{map_at, range_at}
 use Rattle.circuit.proofs.Sizes.{range_length}
 use Rattle.semantics.specs.Values.{byte, at}
@@ -96,6 +94,22 @@ module _ {factors free batch : ℕ} {words : List ℕ} {rank i : ℕ} (t : Fille
   filled_next {new} few e n =
       let none : 2 * batch ≡ 2 * batch + 0 = omega arith in
       filled-with true e refl (rw n (four words (4 * i) _ _ _ _ (λ w. free_word rank (2 * batch + w % 2)) (omega (arith, t.sized)) (ap (free_word rank) none, refl, ap (free_word rank) none, refl)))
+
+-- and those of the two variables behind them
+pub set_words : {words new : List ℕ} → length words ≡ 256 → new ≡ four_at words 64 0 0 ones ones → Four words 64 (λ w. cond (leb 2 w) ones 0) new
+set_words {words} s e = rw e (four words 64 0 0 ones ones (λ w. cond (leb 2 w) ones 0) (omega arith) (refl, refl, refl, refl))
+
+pub one-words : {words new : List ℕ} → length words ≡ 256 → new ≡ four_at words 68 ones ones ones ones → Four words 68 (λ w. ones) new
+one-words {words} s e = rw e (four words 68 ones ones ones ones (λ w. ones) (omega arith) (refl, refl, refl, refl))
+
+pub filled_end : {factors free batch : ℕ} {words mid new : List ℕ} → free ≤ 16 → FreeFilled factors free batch words → Four words 64 (λ w. cond (leb 2 w) ones 0) mid → Four mid 68 (λ w. ones) new
+    → Variables factors free batch new
+filled_end few t f g = record {
+  free_are = λ i w k h. g.below (4 * i + w) (omega arith) ∙ f.below (4 * i + w) (omega arith) ∙ t.are i w k h;
+  set = λ w h. g.below (64 + w) (omega arith) ∙ f.are w h;
+  one = g.are;
+  sized = g.sized ∙ f.sized ∙ t.sized;
+}
 
 -- a list that a function gives, up to a place
 pub record GivenTo (f : ℕ → ℕ) (size : ℕ) (list : List ℕ) (i : ℕ) : Type 0 where

@@ -7,7 +7,6 @@ use native.Mathlib.Omega.{arith}
 use lib.Bits.{block_half, block_odd}
 use Rattle.std.specs.Prelude.{nat_eq}
 use Rattle.circuit.specs.Circuit.{is_set}
-use Rattle.circuit.proofs.Base.{cases}
 use Rattle.semantics.specs.Values.{byte}
 use Rattle.gadgets.proofs.Bits.{set-byte}
 use Rattle.simulation.specs.Internal.Evaluating.{packed}

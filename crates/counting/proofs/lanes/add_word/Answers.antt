@@ -1,7 +1,6 @@
 -- Eight pairs more, or those that are left.
 use mathlib.Core.Path.{◌≡◌}
 use mathlib.Core.Bool.{Bool, true, false, cond}
-use mathlib.Core.List.{List}
 use Prim.Native.Nat.{ℕ, ◌+◌, ◌/◌, ◌^◌, min, ◌<◌}
 use native.Mathlib.Omega.{arith}
 use Rattle.counting.specs.Internal.Lanes.{shown_by, column_of, place_of, Adds, tally_of}
