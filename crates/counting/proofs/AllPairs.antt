@@ -112,7 +112,8 @@ module _ {table secrets read sums terms : List ℕ} {outputs : ℕ} {plan : Plan
       inner : (i : ℕ) → s ≡ 50 + i → i < found → f hi s ≡ f lo s
       inner i e h =
           let n = 32 + i in
-          ap (f hi) e ∙ (solves hi).reads i h ∙ product-same n (p.expanded.reads_before n (omega arith) (omega arith)) (sv.inner n (omega arith) (omega arith)) (set_at n (omega arith)) (λ t l. lower t (omega arith))
+          ap (f hi) e ∙ (solves hi).reads i h ∙ product-same n (p.expanded.reads_before n (omega arith) (omega arith)) (sv.inner n (omega arith) (omega arith))
+          (set_at n (omega arith)) (λ t l. lower t (omega arith))
           ∙ sym (ap (f lo) e ∙ (solves lo).reads i h)
 
       rest : 18 ≤ s → (s < 18 + outputs → ⊥) → (50 ≤ s → s < 50 + found → ⊥) → f hi s ≡ f lo s
@@ -156,7 +157,8 @@ module _ {table secrets read sums terms : List ℕ} {outputs : ℕ} {plan : Plan
     number_shifted : number_with k set read hi ≡ bit_xor (number_with k set read lo) (shift_in sums read x)
     number_shifted =
         number_placed (at (values_with k set hi)) read
-        ∙ number_flipped (λ i. at (values_with k set lo) (nth read i)) (λ i. at (values_with k set hi) (nth read i)) (λ i. lane_bit x (nth sums (nth read i))) (range 0 found) (λ i h. wire_flipped i (omega (arith, range_in i 0 found h)))
+        ∙ number_flipped (λ i. at (values_with k set lo) (nth read i)) (λ i. at (values_with k set hi) (nth read i)) (λ i. lane_bit x (nth sums (nth read i))) (range 0 found)
+        (λ i h. wire_flipped i (omega (arith, range_in i 0 found h)))
         ∙ ap (λ n. bit_xor n (shift_in sums read x)) (sym (number_placed (at (values_with k set lo)) read))
 
   -- all pairs
@@ -182,7 +184,12 @@ module _ {table secrets read sums terms : List ℕ} {outputs : ℕ} {plan : Plan
 
     pub counted-few : {tally : List ℕ} → TalliedSome table (set_of table second secrets) wires factors plan.free tally → (n : ℕ) → n < 2 ^ found
         → folded varied (nth shifts) plan.free 0 (nth tally) n ≤ 65536
-    counted-few {tally} t n l = omega (arith, counted-all t n l, few_ones (2 ^ free_bits k) (λ u. eqb (number_with k set wires (free_of (free_bits k) u)) n), pow_mono 16 (free_bits k) (p.countable second).few)
+    counted-few {tally} t n l = omega (
+      arith,
+      counted-all t n l,
+      few_ones (2 ^ free_bits k) (λ u. eqb (number_with k set wires (free_of (free_bits k) u)) n),
+      pow_mono 16 (free_bits k) (p.countable second).few,
+    )
 
     pub tallied_all : {tally new : List ℕ} → TalliedSome table (set_of table second secrets) wires factors plan.free tally
         → Remade (folded varied (nth shifts) plan.free 0 (nth tally)) (2 ^ found) tally new

@@ -140,4 +140,5 @@ module _ (lanes : ℕ) where
       drawn-packed i =
           let s = others * length secrets in
           ap (λ r. nth r i) (ap (drop s) free_words ∙ sym (map-drop (packed lanes) s cols)) ∙ packs_columns (drop s cols) i
-          ∙ packed-same lanes (λ l. at (lane l (drop s cols)) i) (λ l. at (drop s (given l)) i) (λ l h. ap (λ r. at r i) (map-drop (λ (col : Column). col l) s cols ∙ ap (drop s) (free_lane given free l (each l))))
+          ∙ packed-same lanes (λ l. at (lane l (drop s cols)) i) (λ l. at (drop s (given l)) i)
+          (λ l h. ap (λ r. at r i) (map-drop (λ (col : Column). col l) s cols ∙ ap (drop s) (free_lane given free l (each l))))

@@ -90,7 +90,8 @@ module _ {factors free batch : ℕ} {words : List ℕ} {rank i : ℕ} (t : Fille
   filled_none {new} few e n = filled-with false e (omega arith) (rw n (four words (4 * i) 0 0 0 0 (λ w. 0) (omega (arith, t.sized)) (refl, refl, refl, refl)))
 
   pub filled_next : {new : List ℕ} → i < 16 → lane_bit i factors ≡ true
-      → new ≡ four_at words (4 * i) (free_word rank (2 * batch)) (free_word rank (2 * batch + 1)) (free_word rank (2 * batch)) (free_word rank (2 * batch + 1)) → FilledTo factors free batch new (rank + 1) (i + 1)
+      → new ≡ four_at words (4 * i) (free_word rank (2 * batch)) (free_word rank (2 * batch + 1)) (free_word rank (2 * batch)) (free_word rank (2 * batch + 1))
+      → FilledTo factors free batch new (rank + 1) (i + 1)
   filled_next {new} few e n =
       let none : 2 * batch ≡ 2 * batch + 0 = omega arith in
       filled-with true e refl (rw n (four words (4 * i) _ _ _ _ (λ w. free_word rank (2 * batch + w % 2)) (omega (arith, t.sized)) (ap (free_word rank) none, refl, ap (free_word rank) none, refl)))
@@ -102,7 +103,8 @@ set_words {words} s e = rw e (four words 64 0 0 ones ones (λ w. cond (leb 2 w) 
 pub one-words : {words new : List ℕ} → length words ≡ 256 → new ≡ four_at words 68 ones ones ones ones → Four words 68 (λ w. ones) new
 one-words {words} s e = rw e (four words 68 ones ones ones ones (λ w. ones) (omega arith) (refl, refl, refl, refl))
 
-pub filled_end : {factors free batch : ℕ} {words mid new : List ℕ} → free ≤ 16 → FreeFilled factors free batch words → Four words 64 (λ w. cond (leb 2 w) ones 0) mid → Four mid 68 (λ w. ones) new
+pub filled_end : {factors free batch : ℕ} {words mid new : List ℕ} → free ≤ 16 → FreeFilled factors free batch words → Four words 64 (λ w. cond (leb 2 w) ones 0) mid
+    → Four mid 68 (λ w. ones) new
     → Variables factors free batch new
 filled_end few t f g = record {
   free_are = λ i w k h. g.below (4 * i + w) (omega arith) ∙ f.below (4 * i + w) (omega arith) ∙ t.are i w k h;

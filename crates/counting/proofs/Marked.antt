@@ -31,7 +31,8 @@ module _ (marks : List ℕ) where
   unmarked {x} {to} h none =
       let e : to ≡ x + (to - x) = omega arith in
       ap (marked_below marks) e ∙ marked_more x (to - x)
-      ∙ ap (λ r. marked_below marks x ++ r) (filter_none (λ y. is_set (nth marks y)) (0 + x) (to - x) (λ y l u. set_low (nth marks y) (none y (omega arith) (omega arith)))) ∙ append-nil (marked_below marks x)
+      ∙ ap (λ r. marked_below marks x ++ r) (filter_none (λ y. is_set (nth marks y)) (0 + x) (to - x) (λ y l u. set_low (nth marks y) (none y (omega arith) (omega arith))))
+      ∙ append-nil (marked_below marks x)
 
   -- one wire, marked or not
   pub one_marked : (x : ℕ) → 1 ≤ nth marks x → marked_below marks (x + 1) ≡ marked_below marks x ++ x ∷ []

@@ -163,9 +163,17 @@ module _ {table secrets read sums terms : List ℕ} {outputs : ℕ} {plan : Plan
   unfolding sharings tapes
   words = record {
     full = g.one;
-    shared = rw (all_words f plan.others (secret_sums (circuit_in table).inputs secrets) free_sums, secret-words f (packed lanes (λ l. true)) second g.set g.one (circuit_in table).inputs secrets p.sized p.bit)
+    shared = rw (
+      all_words f plan.others (secret_sums (circuit_in table).inputs secrets) free_sums,
+      secret-words f (packed lanes (λ l. true)) second g.set g.one (circuit_in table).inputs secrets p.sized p.bit,
+    )
         (sharing_packed lanes given plan.free g.each (map (λ m. added m f) free_sums) long free_words plan.others set taken countable.bit);
-    drawn = rw (part_is plan.start plan.free free_sums z.within (omega (arith, z.few)), map-drop (λ m. added m f) plan.start (take plan.free free_sums), map-take (λ m. added m f) plan.free free_sums, ← z.starts)
+    drawn = rw (
+      part_is plan.start plan.free free_sums z.within (omega (arith, z.few)),
+      map-drop (λ m. added m f) plan.start (take plan.free free_sums),
+      map-take (λ m. added m f) plan.free free_sums,
+      ← z.starts,
+    )
         (drawn-packed lanes given plan.free g.each (map (λ m. added m f) free_sums) long free_words plan.others set taken);
   }
 

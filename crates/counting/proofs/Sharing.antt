@@ -78,7 +78,8 @@ module _ {words : List ℕ} {others : ℕ} {lasts old shares : List ℕ} {j : �
       record {
         sized = ap length e ∙ length-sets shares (from + j) one ∙ a.sized;
         left = a.left ∙ ap (λ zs. sets shares (from + j) (all_shares others zs (drop from words))) (drop-cons lasts j 0 l) ∙ stores_append shares (from + j) one rest
-            ∙ ap₂ (λ m t. sets t (from + j + m) rest) n (sym e) ∙ ap₂ (λ m ws. sets new m (all_shares others (drop (suc j) lasts) ws)) place (drop-drop others from words ∙ ap (λ m. drop m words) behind)
+            ∙ ap₂ (λ m t. sets t (from + j + m) rest) n (sym e)
+            ∙ ap₂ (λ m ws. sets new m (all_shares others (drop (suc j) lasts) ws)) place (drop-drop others from words ∙ ap (λ m. drop m words) behind)
             ∙ ap (λ m. sets new (others * (j + 1) + (j + 1)) (all_shares others (drop m lasts) (drop (others * (j + 1)) words))) next;
       }
 

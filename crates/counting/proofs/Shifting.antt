@@ -60,7 +60,8 @@ module _ (shift count : ℕ) (old : List ℕ) where
       done = λ m k u. cases (eqb m n) (λ b. rw (eqb-true m n b) first) (λ b. other m (eqb-false m n b) (λ z. omega arith) ∙ p.done m k (omega (arith, eqb-false m n b)));
       others = λ m k u. cases (eqb (bit_xor m shift) n)
           (λ b. rw (back m (eqb-true (bit_xor m shift) n b)) second)
-          (λ b. let ne = eqb-false (bit_xor m shift) n b in other m (λ z. omega (arith, ap (λ y. bit_xor y shift) z)) (λ z. ne (ap (λ y. bit_xor y shift) z ∙ twice n shift)) ∙ p.others m k (omega arith));
+          (λ b. let ne = eqb-false (bit_xor m shift) n b in other m (λ z. omega (arith, ap (λ y. bit_xor y shift) z)) (λ z. ne (ap (λ y. bit_xor y shift) z ∙ twice n shift))
+          ∙ p.others m k (omega arith));
       left = λ m k u. other m (λ z. omega arith) (λ z. omega (arith, ap (λ y. bit_xor y shift) z, twice n shift)) ∙ p.left m (omega arith) (omega arith);
       rest = λ m k. other m (λ z. omega arith) (λ z. omega arith) ∙ p.rest m k;
       sized = simp length-set p.sized;
@@ -147,7 +148,15 @@ module _ (varied : ℕ → Bool) (shift : ℕ → ℕ) (free found : ℕ) (old :
       sums-few most h m l =
           let F : ℕ → ℕ = fold (free - (i + 1)) (i + 1) (nth new) in
           let some : 1 ≤ 2 ^ doubles = pow_mono doubles 0 (omega arith) in
-          omega (arith, fold_least varied shift (free - (i + 1)) (i + 1) (nth new) m, fold_least varied shift (free - (i + 1)) (i + 1) (nth new) (bit_xor m (shift i)), two m, t.left m l, h m l, mul-le-mul_right (fold (free - i) i (nth new) m) some)
+          omega (
+            arith,
+            fold_least varied shift (free - (i + 1)) (i + 1) (nth new) m,
+            fold_least varied shift (free - (i + 1)) (i + 1) (nth new) (bit_xor m (shift i)),
+            two m,
+            t.left m l,
+            h m l,
+            mul-le-mul_right (fold (free - i) i (nth new) m) some,
+          )
 
   module _ {new : List ℕ} {doubles i : ℕ} (t : FoldedTo new doubles i) (end : free ≤ i) where
     pub all_left : (m : ℕ) → m < 2 ^ found → fold free 0 (nth old) m ≡ 2 ^ doubles * nth new m

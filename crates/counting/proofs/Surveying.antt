@@ -47,7 +47,8 @@ pub within_all : (m : ℕ) → Within m m
 within_all m s d = d
 
 -- a product that is needed: its variables are added
-pub survey_both : {terms : List ℕ} {n needed factors : ℕ} → Before terms n → let both = bit_or (nth terms (2 * n)) (nth terms (2 * n + 1)) in SurveysMore terms n (n + 1) needed factors (bit_or needed both) (bit_or factors both)
+pub survey_both : {terms : List ℕ} {n needed factors : ℕ} → Before terms n
+    → let both = bit_or (nth terms (2 * n)) (nth terms (2 * n + 1)) in SurveysMore terms n (n + 1) needed factors (bit_or needed both) (bit_or factors both)
 survey_both {terms} {n} {needed} {factors} b =
     let x = nth terms (2 * n) in
     let y = nth terms (2 * n + 1) in

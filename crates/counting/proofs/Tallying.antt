@@ -47,7 +47,8 @@ tallied_start {table} {secrets} {wires} {factors} {free} {old} {lanes} s h =
     record { counted = subst (λ n. Adds number n old old) z (adds_none number old); none = h; wide = s }
 
 -- one batch more
-module _ {table secrets read : List ℕ} (second : Bool) {factors free : ℕ} {old tally : List ℕ} {batch lanes : ℕ} (t : TalliedTo table (set_of table second secrets) read factors free old tally batch lanes) (behind : batch * lanes ≡ 128 * batch) (most : lanes ≤ 128)
+module _ {table secrets read : List ℕ} (second : Bool) {factors free : ℕ} {old tally : List ℕ} {batch lanes : ℕ}
+    (t : TalliedTo table (set_of table second secrets) read factors free old tally batch lanes) (behind : batch * lanes ≡ 128 * batch) (most : lanes ≤ 128)
     {shown : List ℕ} (h : HoldsShown table secrets factors free batch read shown) where
   pair_shows : (u : ℕ) → u < lanes → shown_in shown second (length read) u ≡ number_in table (set_of table second secrets) read factors free (batch * lanes + u)
   pair_shows u l =

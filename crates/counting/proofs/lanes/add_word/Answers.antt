@@ -18,7 +18,8 @@ add-requires-in-loop-done c = (omega arith, adds-room (c.loop-done.invariant tru
 
 -- a turn
 turned : (c : After-add-in-loop-done) (second : Bool) → let a = c.args in
-    Adds (shown_by (column_of a.shown.now (place_of second a.word)) a.found) (min (c.loop-done.done + 8) a.lanes) (tally_of second a.tallies.now) (cond second c.add-in-loop-done.new.tally c.add.new.tally)
+    Adds (shown_by (column_of a.shown.now (place_of second a.word)) a.found) (min (c.loop-done.done + 8) a.lanes) (tally_of second a.tallies.now)
+    (cond second c.add-in-loop-done.new.tally c.add.new.tally)
 turned c second =
     let a = c.args in
     let l = c.loop-done in
