@@ -4,7 +4,8 @@ ghost use Rattle.std.specs.Prelude.{◌≡◌, ◌+◌, ◌*◌, ◌≤◌, ◌<
 ghost use Rattle.std.proofs.lemmas.List.Edits.{sets};
 ghost use Rattle.circuit.specs.Limits.{most_shares};
 ghost use Rattle.circuit.specs.Answer.{label_noted};
-ghost use Rattle.checker.specs.Internal.Notes.{Room, noted, stage_found, wanted, wire_asked, first_word, inner_words, named_words, made_words};
+ghost use Rattle.checker.specs.Internal.Notes.{Room, noted, stage_found, wanted, wire_asked};
+ghost use Rattle.checker.specs.Internal.Notes.{first_word, inner_words, named_words, made_words};
 
 use circuit::Rule;
 
