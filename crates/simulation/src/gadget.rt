@@ -145,7 +145,7 @@ pub(crate) fn and(values: &mut [u8], g: Gadget, ops: &[u16], tape: &[u8])
 // just before `at`; those of the higher shares are the row of i.
 fn add_masks(values: &[u8], g: Gadget, i: usize, word: u8) -> u8
     requires { (i < g.d) × (g.first + g.pairs ≤ length values.now) }
-    ensures { (s : ℕ) × Sums g.d g.first i word 0 i values.now s × Sums g.d g.first i s (i + 1) g.d values.now result }
+    ensures { Sums g.d g.first i word values.now result }
 {
     let mut sum = word;
     let mut at = g.first + i;
