@@ -11,6 +11,9 @@ use reach::readings::reach_stops;
 // Wires that are passed over together where none is marked.
 const BLOCK: usize = 64;
 
+// The least that a mark is: a wire with less is not marked.
+const MARK: u8 = 1;
+
 // Wires of a circuit for which small marks do: they are set to 0 at each call, and those of any circuit take longer than such a circuit.
 const FEW: usize = 512;
 
@@ -34,7 +37,7 @@ fn list_some(marks: &[u8], from: usize, to: usize, before: ReadWires) -> Option<
     requires { (from ≤ to) × (to ≤ wire_limit) × (to ≤ length marks.now) × (listed before ≡ marked_below marks.now from) }
     ensures { Lists (marked_below marks.now to) result }
 {
-    if to - from == BLOCK && largest(&marks[from..to]) == 0 {
+    if to - from == BLOCK && largest(&marks[from..to]) < MARK {
         return Some(before);
     }
     list_block(marks, from, to, before)
