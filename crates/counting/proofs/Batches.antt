@@ -17,14 +17,6 @@ use Rattle.counting.specs.Internal.Tallying.{Countable, Planned}
 use Rattle.counting.specs.declared.plan.Plan.{Plan}
 use Rattle.counting.proofs.Numbered.{pow_mono}
 
-pub one_batch : (free lanes : ℕ) → free < 7 → lanes ≡ 2 ^ free → Divides free 1 lanes
-one_batch free lanes h e = record {
-  all = omega arith;
-  some = omega (arith, pow_mono free 0 (omega arith));
-  few = omega (arith, pow_mono 7 free (omega arith));
-  behind = λ batch l. let z : batch ≡ 0 = omega arith in rw z (omega arith);
-}
-
 pub whole_batches : (free count : ℕ) → 7 ≤ free → count ≡ 2 ^ (free - 7) → Divides free count 128
 whole_batches free count h e =
     let f : free ≡ free - 7 + 7 = omega arith in

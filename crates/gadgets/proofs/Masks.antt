@@ -51,9 +51,6 @@ module _ {d first i j at : ℕ} (a : AboveAt d first i j at) where
   pub above_here : at ≡ mask_at d first i j
   above_here = rw (lt-ltb i j (omega (arith, a.least))) (omega (arith, a.is, a.least))
 
-  pub above-next : AboveAt d first i (j + 1) (at + 1)
-  above-next = record { least = omega (arith, a.least); is = omega (arith, a.is, a.least) }
-
   -- those behind it in the row, and the row's end
   pub above-by : (k : ℕ) → AboveAt d first i (j + k) (at + k)
   above-by k = record { least = omega (arith, a.least); is = omega (arith, a.is, a.least) }
@@ -62,6 +59,3 @@ module _ {d first i j at : ℕ} (a : AboveAt d first i j at) where
   above-end l h =
       let e : suc i ≡ i + 1 = omega arith in
       omega (arith, a.is, a.least, row_next d i l, row-few d (suc i) (omega arith))
-
-  pub above-near : i < d → j ≤ d → d ≤ 8 → at ≤ first + 36
-  above-near l h few = near (row_start d i) (j - (i + 1)) first at (few-before d i (omega arith) few) (omega arith) a.is

@@ -58,9 +58,6 @@ module _ (marks values : List ℕ) where
     pub sized : length reading ≡ length old
     pub left : sets old 0 (shown_from 0) ≡ sets reading x (shown_from x)
 
-  pub shown_start : (old : List ℕ) → ShownTo old old 0
-  shown_start old = record { sized = refl; left = refl }
-
   pub shown-next : {old reading : List ℕ} {x v : ℕ} → ShownTo old reading x → x < wire_limit → v ≡ shown x → ShownTo old (set reading x v) (x + 1)
   unfolding shown_from
   shown-next {reading = reading} {x} {v} t h e = let s : suc x ≡ x + 1 = omega arith in record {

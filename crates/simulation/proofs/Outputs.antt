@@ -26,19 +26,6 @@ pub record OutputsOn (d first : ℕ) (a : ℕ → ℕ) (old values : List ℕ) (
   pub above : (x : ℕ) → out_at d first d ≤ x → nth values x ≡ nth old x
   pub size : length values ≡ length old
 
-pub outputs_end : {d first : ℕ} {a : ℕ → ℕ} {old values : List ℕ} {i : ℕ} → d ≤ i → OutputsOn d first a old values i
-    → Fills (Multiplied 1 d first a) (first + cross_start d 0) (out_at d first d) old values
-outputs_end {d = d} {first} {i = i} h on =
-    let e : i ≡ d = omega (arith, on.most) in
-    record {
-      filled = λ v q k x l u. cases (ltb x (first + cross_start d d))
-          (λ t. on.known v q k x (omega arith) (rw e (ltb-true x (first + cross_start d d) t)))
-          (λ t. on.outs v q k x (omega (arith, ltb-false x (first + cross_start d d) t)) (rw e u));
-      below = on.below;
-      above = on.above;
-      size = on.size;
-    }
-
 module _ {d first : ℕ} {a : ℕ → ℕ} {old values : List ℕ} {i : ℕ} (on : OutputsOn d first a old values i) (l : i < d) (early : a i < first) (room : out_at d first d ≤ length old)
     {row : List ℕ} {s : ℕ} (r : CrossesRow d first i (nth values (a i)) (nth values (product_at d first i + 2)) values row s) where
   module _ (v : Values) (e : Multiplied 1 d first a v) (k : Known v 0 (first + cross_start d 0) old) where
