@@ -1,6 +1,0 @@
--- The step's answer, by its numbers.
-use Rattle.exports.proofs.Telling.{moved}
-use Rattle.exports.proofs.masked_clock.Goals as goal
-
-pub returns-clause-answered : goal.returns-clause-answered
-returns-clause-answered c = moved c.step-verdict.ensures.answered c.put.ensures.answered

@@ -1,6 +1,0 @@
--- The evaluation's answer, by its numbers.
-use Rattle.exports.proofs.Telling.{moved}
-use Rattle.exports.proofs.masked_evaluate.Goals as goal
-
-pub returns-clause-answered : goal.returns-clause-answered
-returns-clause-answered c = moved c.evaluate-verdict.ensures.answered c.put.ensures.answered

@@ -1,6 +1,0 @@
--- The reading's answer, by its numbers.
-use Rattle.exports.proofs.Telling.{moved}
-use Rattle.exports.proofs.masked_read_probes.Goals as goal
-
-pub returns-clause-answered : goal.returns-clause-answered
-returns-clause-answered c = moved c.read_probes-verdict.ensures.answered c.put.ensures.answered
