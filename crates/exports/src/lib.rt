@@ -24,7 +24,9 @@ use counting::Counted;
 // The three numbers that an accepted answer has under its C name.
 trait Numbers {
     ghost first: { Self → ℕ };
+
     ghost second: { Self → ℕ };
+
     ghost third: { Self → ℕ };
 
     fn numbers(self) -> (usize, usize, usize)
@@ -34,7 +36,9 @@ trait Numbers {
 // Of a circuit: wires, random bits, latency.
 impl Numbers for Accepted {
     ghost first = { λ x. x.wires };
+
     ghost second = { λ x. x.randoms };
+
     ghost third = { λ x. x.latency };
 
     fn numbers(self) -> (usize, usize, usize) {
@@ -45,7 +49,9 @@ impl Numbers for Accepted {
 // Of a text: words read or bytes written, and 0.
 impl Numbers for usize {
     ghost first = { λ n. n };
+
     ghost second = { λ _. 0 };
+
     ghost third = { λ _. 0 };
 
     fn numbers(self) -> (usize, usize, usize) {
@@ -56,7 +62,9 @@ impl Numbers for usize {
 // Of counts: wires read, combinations, pairs of one set.
 impl Numbers for Counted {
     ghost first = { λ x. x.read };
+
     ghost second = { λ x. x.combinations };
+
     ghost third = { λ x. x.pairs };
 
     fn numbers(self) -> (usize, usize, usize) {
@@ -65,12 +73,7 @@ impl Numbers for Counted {
 }
 
 // Puts an answer's numbers where the caller wants them, and gives the call's result.
-fn put<T: Numbers>(
-    answer: Result<T, Refusal>,
-    a: &mut u64,
-    b: &mut u64,
-    c: &mut u64,
-) -> u64
+fn put<T: Numbers>(answer: Result<T, Refusal>, a: &mut u64, b: &mut u64, c: &mut u64) -> u64
     ensures { Gives T.first T.second T.third answer result a.new b.new c.new }
 {
     match answer {
@@ -102,7 +105,8 @@ pub extern "C" fn masked_check(
     ensures answered { AnswerIs (verdict_of table.now (length notes.old)) result a.new b.new c.new }
     ensures noted { notes.new ≡ notes_after (checked table.now (length notes.old)).circuit notes.old }
 {
-    put(checker::check(table, notes), a, b, c)
+    let answer = checker::check(table, notes);
+    put(answer, a, b, c)
 }
 
 // text::read
@@ -111,7 +115,8 @@ pub extern "C" fn masked_read_text(text: &[u8], table: &mut [u16], a: &mut u64, 
     ensures answered { TextAnswerIs (text_answer_of text.now (length table.old)) result a.new b.new }
     ensures stored { table.new ≡ table_after (read_text text.now (length table.old)) table.old }
 {
-    put(text::read(text, table), a, b, &mut 0)
+    let answer = text::read(text, table);
+    put(answer, a, b, &mut 0)
 }
 
 // writer::write
@@ -129,7 +134,8 @@ pub extern "C" fn masked_write_text(
     ensures noted { notes.new ≡ notes_after (checked table.now (length notes.old)).circuit notes.old }
     ensures written { text.new ≡ text_after table.now notes.old text.old }
 {
-    put(writer::write(table, notes, text), a, b, c)
+    let answer = writer::write(table, notes, text);
+    put(answer, a, b, c)
 }
 
 // evaluation::evaluate
@@ -149,7 +155,8 @@ pub extern "C" fn masked_evaluate(
     ensures valued { values.new ≡ written (call_rule table.now notes.old shares.now tape.now (values.old ∷ []) [])
         (value_bytes table.now notes.old shares.now tape.now) values.old }
 {
-    put(evaluation::evaluate(table, notes, shares, tape, values), a, b, c)
+    let answer = evaluation::evaluate(table, notes, shares, tape, values);
+    put(answer, a, b, c)
 }
 
 // evaluation::read_probes
@@ -173,7 +180,8 @@ pub extern "C" fn masked_read_probes(
     ensures shown { reading.new ≡ written (call_rule table.now notes.old shares.now tape.now (values.old ∷ reading.old ∷ []) probes.now)
         (reading_bytes table.now notes.old shares.now tape.now probes.now) reading.old }
 {
-    put(evaluation::read_probes(table, notes, shares, tape, values, probes, reading), a, b, c)
+    let answer = evaluation::read_probes(table, notes, shares, tape, values, probes, reading);
+    put(answer, a, b, c)
 }
 
 // clock::step
@@ -194,7 +202,8 @@ pub extern "C" fn masked_clock(
     ensures valued { values.new ≡ values_after table.now notes.old shares.now tape.now values.old bank.old }
     ensures banked { bank.new ≡ bank_after table.now notes.old shares.now tape.now values.old bank.old }
 {
-    put(clock::step(table, notes, shares, tape, values, bank), a, b, c)
+    let answer = clock::step(table, notes, shares, tape, values, bank);
+    put(answer, a, b, c)
 }
 
 // plain::check_sharings
@@ -209,7 +218,8 @@ pub extern "C" fn masked_check_sharings(
     ensures answered { AnswerIs (sharings_answer table.now notes.old) result a.new b.new c.new }
     ensures noted { notes.new ≡ notes_after (checked table.now (length notes.old)).circuit notes.old }
 {
-    put(plain::check_sharings(table, notes), a, b, c)
+    let answer = plain::check_sharings(table, notes);
+    put(answer, a, b, c)
 }
 
 // counting::count
@@ -228,5 +238,6 @@ pub extern "C" fn masked_count(
     ensures noted { notes.new ≡ notes_after (checked table.now (length notes.old)).circuit notes.old }
     ensures listed { counts.new ≡ counts_after table.now notes.old secrets.now probes.now counts.old }
 {
-    put(counting::count(table, notes, secrets, probes, counts), a, b, c)
+    let answer = counting::count(table, notes, secrets, probes, counts);
+    put(answer, a, b, c)
 }

@@ -51,6 +51,16 @@ names_are (gate.Not x) w P Q h e p = h x e p
 names_are (gate.Reg x) w P Q h e p = h x e p
 names_are gate.Out w P Q h e p = tt
 
+-- a gate takes no random bits, and its shares are the first of those from a place on
+shares_left : (g : GateCode) (d from used : ℕ) (shares : List ℕ) (tape : ℕ) → FrameSupplied (frame.Gate g) d from used (length shares) tape
+    → FrameSupplied (frame.Gate g) d 0 0 (length (drop from shares)) 0
+shares_left (gate.In t) d from used shares tape h = omega (arith, length-drop from shares)
+shares_left (gate.Con l b t) d from used shares tape h = tt
+shares_left (gate.Xor x y) d from used shares tape h = tt
+shares_left (gate.Not x) d from used shares tape h = tt
+shares_left (gate.Reg x) d from used shares tape h = tt
+shares_left gate.Out d from used shares tape h = tt
+
 shares_taken : (g : GateCode) (d w from : ℕ) (shares sums sums' : List ℕ) → GateWrites g d w 0 (drop from shares) sums sums' → GateWrites g d w from shares sums sums'
 shares_taken (gate.In t) d w from shares sums sums' h = record { are = λ q l. h.are q l ∙ simp (zero-add, get_or-drop); below = h.below; sized = h.sized }
 shares_taken (gate.Con l b t) d w from shares sums sums' h = h

@@ -63,6 +63,9 @@ bad_word a b c e bs h = cases (eqb a line_feed) (λ p. rw p)
     (λ s. rw (p, q, r, s) (cases (first_line bs).ended
     (λ t. rw (t, no_digits a b c e (first_line bs).content h)) (λ t. rw t))))))
 
+digit_no_feed : (b : ℕ) → is_digit b ≡ true → eqb b line_feed ≡ false
+digit_no_feed b h = ne_eqb b line_feed (λ e. let k : false ≡ true = rw e at h in false≢true k)
+
 -- four digits, and what they are in front of
 module _ (a b c e : ℕ) (bs : List ℕ) (h : are_digits a b c e ≡ true) where
   plain : (eqb a line_feed ≡ false) × (eqb b line_feed ≡ false) × (eqb c line_feed ≡ false) × (eqb e line_feed ≡ false)

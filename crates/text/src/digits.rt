@@ -8,8 +8,8 @@ const NO_CODE: u16 = 4096;
 // What stands at a place of the text, by codes: two digits, two more, and the byte behind them.
 #[derive(Clone, Copy)]
 pub(crate) struct Word {
-    pub high: usize,
-    pub low: usize,
+    high: usize,
+    low: usize,
     // 0 for a space, 1 for a line feed
     pub mark: usize,
     ghost small: { high + low + mark ≤ most_codes },

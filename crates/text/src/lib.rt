@@ -47,6 +47,7 @@ fn read_frames(
     let mut block = Block::new();
     let mut line: usize = 1;
     let mut stored: usize = 2;
+    // a turn takes as many lines as a block holds
     while !text.is_empty() {
         block.split(codes, text);
         let taken = block.taken(&lengths, room - stored);

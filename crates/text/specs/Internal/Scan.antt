@@ -1,5 +1,6 @@
 -- For the contracts of the private functions: a line by its count of words. The promise of `read` names none of this.
-use Rattle.std.specs.Prelude.{◌≡◌, Bool, false, cond, ◌&&◌, ◌||◌, List, [], ◌∷◌, ℕ, zero, suc, ◌+◌, ◌*◌, ◌≤◌, min, leb, ltb, eqb, length, get_or, drop, Option, Some, None, Result, Ok, Err, ⊤}
+use Rattle.std.specs.Prelude.{◌≡◌, Bool, false, cond, ◌&&◌, ◌||◌, List, [], ◌∷◌, ℕ, zero, suc, ◌+◌, ◌*◌, ◌≤◌, min, leb, ltb, eqb, length, get_or, drop}
+use Rattle.std.specs.Prelude.{Option, Some, None, Result, Ok, Err, ⊤}
 use Rattle.circuit.specs.Limits.{table_limit}
 use Rattle.circuit.specs.Circuit.{empty}
 use Rattle.circuit.specs.Rules.{Judgement, pass, refuse, need, ◌then◌, word_rule}
