@@ -17,7 +17,9 @@ use Rattle.reach.specs.Internal.Marks.{Unmarked}
 pub none_over : (marks : List ℕ) (from to : ℕ) {most : ℕ} → to ≤ length marks → Most (take (to - from) (drop from marks)) most → most ≤ 0 → Unmarked marks from to
 none_over marks from to room h z x low high =
     let e : from + (x - from) ≡ x = omega arith in
-    omega (arith, h.is (x - from) (omega (arith, length-take (to - from) (drop from marks), length-drop from marks)), get_or-take (to - from) (drop from marks) (x - from) 0 (omega arith), get_or-drop from marks (x - from) 0, ap (nth marks) e)
+    let part = drop from marks in
+    let within : x - from < length (take (to - from) part) = omega (arith, length-take (to - from) part, length-drop from marks) in
+    omega (arith, h.is (x - from) within, get_or-take (to - from) part (x - from) 0 (omega arith), get_or-drop from marks (x - from) 0, ap (nth marks) e)
 
 -- numbers on a list are at most what those at its places are
 pub in_most : (xs : List ℕ) (m : ℕ) → ((j : ℕ) → j < length xs → nth xs j ≤ m) → (x : ℕ) → In x xs → x ≤ m

@@ -8,64 +8,28 @@ ghost use Rattle.circuit.specs.Rules.{checked};
 ghost use Rattle.circuit.specs.Answer.{notes_after};
 ghost use Rattle.semantics.specs.Calls.{Accepts};
 ghost use Rattle.text.specs.Answer.{text_answer};
-ghost use Rattle.checker.specs.Answers.{answer_of};
 ghost use Rattle.gadgets.specs.Internal.Accepting.{AcceptedTable};
 ghost use Rattle.writer.specs.Writer.{lines_from, text_of, write_answer, text_after, ReadsBack, OnlyText};
-ghost use Rattle.writer.specs.Internal.Line.{PairsTo, refusal_in};
 
 mod line;
 
-use checker::Verdict;
+use circuit::{Refusal, Rule};
 use frames::randoms::random_bits;
-use frames::walk::{Step, Walk};
-use text::TextVerdict;
-
-// The checker's refusal as this call's: a line of the text is a frame of the table. (No verdict that accepts comes here.)
-fn refused(verdict: Verdict) -> TextVerdict
-    ensures { text_answer result ≡ refusal_in (answer_of verdict) }
-{
-    match verdict {
-        Verdict::Refused { rule, frame, word } => TextVerdict::Refused {
-            rule,
-            line: frame,
-            word,
-        },
-        Verdict::Accepted {
-            wires: _,
-            randoms: _,
-            latency: _,
-            inputs: _,
-        } => TextVerdict::Accepted { count: 0 },
-    }
-}
+use frames::walk::Walk;
+use line::Pairs;
 
 // The lines of an accepted table's frames behind HEAD, by the walk over them.
-fn write_frames(pairs: &[u16; 256], table: &[u16], text: &mut [u8])
-    requires { PairsTo 256 pairs.now × AcceptedTable table.now × (5 * length table.now ≤ length text.old) }
+fn write_frames(pairs: &Pairs, table: &[u16], text: &mut [u8])
+    requires { AcceptedTable table.now × (5 * length table.now ≤ length text.old) }
     ensures { text.new ≡ sets text.old 10 (lines_from (nth table.now 1) 0 (drop 2 table.now)) }
 {
     let d = table[1];
     let randoms = random_bits(d);
     let mut walk = Walk { d, at: 2 };
-    loop {
-        let step = walk.step(table, randoms);
-        match step {
-            Step::Next {
-                frame: _,
-                shape: _,
-                walk: next,
-            } => {
-                line::write_words(pairs, table, walk.at, next.at, text);
-                line::end_line(next.at, text);
-                walk = next;
-            }
-            Step::End => {
-                return;
-            }
-            Step::Refused { rule: _ } => {
-                return;
-            }
-        }
+    while let Ok(Some(next)) = walk.step(table, randoms) {
+        pairs.write_words(table, walk.at, next.walk.at, text);
+        line::end_line(next.walk.at, text);
+        walk = next.walk;
     }
 }
 
@@ -74,39 +38,26 @@ fn write_text(table: &[u16], text: &mut [u8])
     requires { AcceptedTable table.now × (5 * length table.now ≤ length text.old) }
     ensures { text.new ≡ overwrite (text_of table.now) text.old }
 {
-    let pairs = line::pairs();
-    line::write_words(&pairs, table, 0, 2, text);
+    let pairs = Pairs::new();
+    pairs.write_words(table, 0, 2, text);
     line::end_line(2, text);
     write_frames(&pairs, table, text);
 }
 
 // Checks a table, then writes its text. A refusal leaves the text as found. The last two promises say what the text is good for:
 // the reader accepts it as this very table, and no other text as it.
-pub fn write(table: &[u16], notes: &mut [u16], text: &mut [u8]) -> TextVerdict
+pub fn write(table: &[u16], notes: &mut [u16], text: &mut [u8]) -> Result<usize, Refusal>
     ensures answered { text_answer result ≡ write_answer table.now notes.old text.old }
     ensures noted { notes.new ≡ notes_after (checked table.now (length notes.old)).circuit notes.old }
     ensures written { text.new ≡ text_after table.now notes.old text.old }
     ensures reads_back { Accepts table.now notes.old → ReadsBack table.now }
     ensures only_text { OnlyText table.now }
 {
-    let verdict = checker::check(table, notes);
-    let Verdict::Accepted {
-        wires: _,
-        randoms: _,
-        latency: _,
-        inputs: _,
-    } = verdict
-    else {
-        return refused(verdict);
-    };
+    checker::check(table, notes)?;
     let bytes = 5 * table.len();
     if text.len() < bytes {
-        return TextVerdict::Refused {
-            rule: 23,
-            line: 0,
-            word: 0,
-        };
+        return Err(Refusal::of_call(Rule::TextRoom, 0));
     }
     write_text(table, text);
-    TextVerdict::Accepted { count: bytes }
+    Ok(bytes)
 }

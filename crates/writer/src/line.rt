@@ -20,69 +20,62 @@ fn pair_row(pairs: &mut [u16; 256], i: usize)
     ensures { PairsTo (16 * i + 16) pairs.new }
 {
     let first = digit_byte(i as u16);
-    let mut j = 0;
-    while j < 16 {
+    for j in 0..16 {
         pairs[16 * i + j] = first + 256 * digit_byte(j as u16);
-        j += 1;
     }
 }
 
-// By a byte, its pair of digits: the first is the lower half. A caller holds the pairs in an array of its own, so that they are
-// made once; row by row, since the compiler then makes a constant of them.
-pub(crate) fn pairs() -> [u16; 256]
-    ensures { PairsTo 256 result }
-{
-    let mut pairs = [0u16; 256];
-    let mut i = 0;
-    while i < 16 {
-        pair_row(&mut pairs, i);
-        i += 1;
+// By a byte, its pair of digits: the first is the lower half.
+#[derive(Drop)]
+pub(crate) struct Pairs {
+    by_byte: [u16; 256],
+    ghost all: { PairsTo 256 by_byte },
+}
+
+impl Pairs {
+    // A caller holds the pairs in a variable of its own, so that they are made once; row by row, since the compiler then makes a
+    // constant of them.
+    pub fn new() -> Self {
+        let mut by_byte = [0u16; 256];
+        for i in 0..16 {
+            pair_row(&mut by_byte, i);
+        }
+        Pairs { by_byte }
     }
-    pairs
-}
 
-// A word's digits and a space behind them, from a place of the text on.
-fn write_word(pairs: &[u16; 256], word: u16, text: &mut [u8], at: usize)
-    requires { PairsTo 256 pairs.now × (at + 5 ≤ length text.old) }
-    ensures { text.new ≡ sets text.old at (digits_of word ++ space ∷ []) }
-{
-    let i = (word / 256) as usize;
-    let j = (word % 256) as usize;
-    let high = pairs[i];
-    let low = pairs[j];
-    text[at] = (high % 256) as u8;
-    text[at + 1] = (high / 256) as u8;
-    text[at + 2] = (low % 256) as u8;
-    text[at + 3] = (low / 256) as u8;
-    text[at + 4] = 32;
-}
-
-// The words from one place of the table to another, each with a space behind it, at their place in the text: five bytes a word.
-fn write_rest(pairs: &[u16; 256], table: &[u16], from: usize, to: usize, text: &mut [u8])
-    requires { PairsTo 256 pairs.now × (from ≤ to) × (to ≤ length table.now) × (5 * to ≤ length text.old) }
-    ensures { text.new ≡ sets text.old (5 * from) (spaced_of (slice from to table.now)) }
-{
-    let mut i = from;
-    while i < to {
-        write_word(pairs, table[i], text, 5 * i);
-        i += 1;
+    // A word's digits and a space behind them, from a place of the text on.
+    fn write_word(&self, word: u16, text: &mut [u8], at: usize)
+        requires { at + 5 ≤ length text.old }
+        ensures { text.new ≡ sets text.old at (digits_of word ++ space ∷ []) }
+    {
+        let high = self.by_byte[(word / 256) as usize];
+        let low = self.by_byte[(word % 256) as usize];
+        text[at] = (high % 256) as u8;
+        text[at + 1] = (high / 256) as u8;
+        text[at + 2] = (low % 256) as u8;
+        text[at + 3] = (low / 256) as u8;
+        text[at + 4] = 32;
     }
-}
 
-// The same of a frame, which has two words at least: many have no more.
-pub(crate) fn write_words(
-    pairs: &[u16; 256],
-    table: &[u16],
-    from: usize,
-    to: usize,
-    text: &mut [u8],
-)
-    requires { PairsTo 256 pairs.now × (from + 2 ≤ to) × (to ≤ length table.now) × (5 * to ≤ length text.old) }
-    ensures { text.new ≡ sets text.old (5 * from) (spaced_of (slice from to table.now)) }
-{
-    write_word(pairs, table[from], text, 5 * from);
-    write_word(pairs, table[from + 1], text, 5 * from + 5);
-    write_rest(pairs, table, from + 2, to, text);
+    // The words from one place of the table to another, each with a space behind it, at their place in the text: five bytes a word.
+    fn write_rest(&self, table: &[u16], from: usize, to: usize, text: &mut [u8])
+        requires { (from ≤ to) × (to ≤ length table.now) × (5 * to ≤ length text.old) }
+        ensures { text.new ≡ sets text.old (5 * from) (spaced_of (slice from to table.now)) }
+    {
+        for i in from..to {
+            self.write_word(table[i], text, 5 * i);
+        }
+    }
+
+    // The same of a frame, which has two words at least: many have no more.
+    pub fn write_words(&self, table: &[u16], from: usize, to: usize, text: &mut [u8])
+        requires { (from + 2 ≤ to) × (to ≤ length table.now) × (5 * to ≤ length text.old) }
+        ensures { text.new ≡ sets text.old (5 * from) (spaced_of (slice from to table.now)) }
+    {
+        self.write_word(table[from], text, 5 * from);
+        self.write_word(table[from + 1], text, 5 * from + 5);
+        self.write_rest(table, from + 2, to, text);
+    }
 }
 
 // The end of the line whose last word comes before a place of the table: a line feed in the place of the last space.

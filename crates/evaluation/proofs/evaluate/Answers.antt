@@ -30,9 +30,11 @@ pub returns : goal.returns
 returns c =
     let j = c.judge-answer.ensures in
     let a = c.args in
+    let p = passes (goal.at.returns c).In-Ok in
+    let new = evaluated _ _ _ _ _ _ p c.fill.ensures (omega arith) in
     record {
       answered = j.answers _ (one-sheet a.values.now);
       noted = j.noted;
-      valued = holds _ _ _ _ _ _ (passes (goal.at.returns c).In-Ok) (λ (k : Circuit). bytes (values_of k.wires (bits a.shares.now) (bits a.tape.now))) a.values.now (evaluated _ _ _ _ _ _ (passes (goal.at.returns c).In-Ok) c.fill.ensures (omega arith));
+      valued = holds _ _ _ _ _ _ p (λ (k : Circuit). bytes (values_of k.wires (bits a.shares.now) (bits a.tape.now))) a.values.now new;
       computes = λ h. gadgets_compute _ _ h _ _;
     }

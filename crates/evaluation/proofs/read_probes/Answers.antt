@@ -32,7 +32,9 @@ pub fill-requires : goal.fill-requires
 fill-requires c = evaluable _ _ _ _ _ _ (passes (goal.at.fill-requires c).In-Ok) (omega arith)
 
 pub reach_stops-requires : goal.reach_stops-requires
-reach_stops-requires c = let p = passes (goal.at.reach_stops-requires c).In-Ok in record { accepted = p.of.accepted; made = λ x i. omega (arith, p.probed x i, p.wires_are); clear = refl; room = omega (arith, p.few, p.wires_are) }
+reach_stops-requires c =
+    let p = passes (goal.at.reach_stops-requires c).In-Ok in
+    record { accepted = p.of.accepted; made = λ x i. omega (arith, p.probed x i, p.wires_are); clear = refl; room = omega (arith, p.few, p.wires_are) }
 
 pub show-requires : goal.show-requires
 show-requires c =
@@ -44,12 +46,13 @@ pub returns : goal.returns
 returns c =
     let j = c.judge-answer.ensures in
     let a = c.args in
-    let new = evaluated _ _ _ _ _ _ (passes (goal.at.returns c).In-Ok) c.fill.ensures (omega arith) in
+    let p = passes (goal.at.returns c).In-Ok in
+    let new = evaluated _ _ _ _ _ _ p c.fill.ensures (omega arith) in
     let read = c.show.ensures.is _ _ (bits a.shares.now) (bits a.tape.now) _ c.reach_stops.ensures new in
     record {
       answered = j.answers _ (two_sheets a.values.now a.reading.now _ c.min-room.ensures);
       noted = j.noted;
-      valued = holds _ _ _ _ _ _ (passes (goal.at.returns c).In-Ok) (λ (k : Circuit). bytes (values_of k.wires (bits a.shares.now) (bits a.tape.now))) a.values.now new;
-      shown = holds _ _ _ _ _ _ (passes (goal.at.returns c).In-Ok) (λ (k : Circuit). reading_of k.wires a.probes.now (bits a.shares.now) (bits a.tape.now)) a.reading.now read;
+      valued = holds _ _ _ _ _ _ p (λ (k : Circuit). bytes (values_of k.wires (bits a.shares.now) (bits a.tape.now))) a.values.now new;
+      shown = holds _ _ _ _ _ _ p (λ (k : Circuit). reading_of k.wires a.probes.now (bits a.shares.now) (bits a.tape.now)) a.reading.now read;
       secret = λ h. equal_counts _ _ h _;
     }

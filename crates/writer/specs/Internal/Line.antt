@@ -1,8 +1,6 @@
 -- For the contracts of the private functions: the line of a frame's words, and the two digits of a byte as one number.
 use Rattle.std.specs.Prelude.{◌≡◌, List, [], ◌∷◌, ◌++◌, ℕ, ◌+◌, ◌*◌, ◌/◌, ◌%◌, ◌<◌, length, get_or}
-use Rattle.circuit.specs.Answer.{Answer, accepted, refused}
 use Rattle.text.specs.Lines.{space}
-use Rattle.text.specs.Answer.{TextAnswer, accepted as taken, refused as refused_text}
 use Rattle.writer.specs.Writer.{digit_byte, digits_of, mark_behind}
 
 -- the words of one frame as a line
@@ -23,8 +21,3 @@ pair_of n = digit_byte (n / 16) + 256 * digit_byte (n % 16)
 pub record PairsTo (bound : ℕ) (pairs : List ℕ) : Type 0 where
   pub size : length pairs ≡ 256
   pub entry : (n : ℕ) → n < bound → get_or pairs n 0 ≡ pair_of n
-
--- the checker's refusal as an answer of text (an answer that accepts is none)
-abbrev pub refusal_in : Answer → TextAnswer
-refusal_in (accepted wires randoms latency) = taken 0
-refusal_in (refused rule frame word) = refused_text rule frame word

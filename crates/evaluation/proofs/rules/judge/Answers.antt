@@ -17,9 +17,12 @@ use Rattle.checker.specs.declared.Accepted.{Accepted}
 use Rattle.checker.specs.Answers.{answer_of, InputsAre}
 use Rattle.gadgets.proofs.Walking.{headed}
 use Rattle.evaluation.proofs.Answering.{Taken, taken, refused-first}
-use Rattle.evaluation.proofs.Judging.{judged, from15, breaks15, from16, breaks16, from17, breaks17, from18, breaks_share, from_tape, breaks_tape, from19, breaks19, passes}
+use Rattle.evaluation.proofs.Judging.{Call, judged, from15, breaks15, from16, breaks16, from17, breaks17, from18, breaks_share, from_tape, breaks_tape, from19, breaks19, passes}
 use Rattle.evaluation.proofs.rules.judge.Goals as goal
-use Rattle.evaluation.proofs.rules.judge.Goals.{In-Ok}
+use Rattle.evaluation.proofs.rules.judge.Goals.{Start, In-Ok}
+
+abbrev call : Start → Call
+call s = let a = s.args in record { table = a.table.now; notes = a.notes.now; shares = a.shares.now; tape = a.tape.now; probes = a.probes.now; room = a.room }
 
 -- what the checker tells of a table that it accepts
 record Numbers (table notes : List ℕ) (a : Accepted) : Type 0 where
@@ -57,84 +60,85 @@ overflow_mul-inputs c =
 -- a refusal, or the answer, by the judgement that the call comes to
 pub returns-then-shares-inputs : goal.returns-then-shares-inputs
 returns-then-shares-inputs c =
-    let a = c.args in
+    let q = call (goal.at.returns-then-shares-inputs c).Start in
     let n = numbers (goal.at.returns-then-shares-inputs c).In-Ok in
-    let shares = ap (λ (x : Accepted). x.inputs * nth a.table.now 1) c.in-Ok.field-0-is ∙ n.shares_are in
-    let at15 = from15 a.table.now a.notes.now a.shares.now a.tape.now a.probes.now a.room n.passed in
-    judged a.table.now a.notes.now a.shares.now a.tape.now a.probes.now a.room c.check-answer.ensures.noted (ap refusal_answer c.of_call.ensures) (breaks15 a.table.now a.notes.now a.shares.now a.tape.now a.probes.now a.room at15 (λ e. omega (arith, shares)))
+    let shares = ap (λ (x : Accepted). x.inputs * nth q.table 1) c.in-Ok.field-0-is ∙ n.shares_are in
+    let at15 = from15 q n.passed in
+    judged q c.check-answer.ensures.noted (ap refusal_answer c.of_call.ensures) (breaks15 q at15 (λ e. omega (arith, shares)))
 
 pub returns-then-tape-randoms : goal.returns-then-tape-randoms
 returns-then-tape-randoms c =
-    let a = c.args in
+    let q = call (goal.at.returns-then-tape-randoms c).Start in
     let n = numbers (goal.at.returns-then-tape-randoms c).In-Ok in
-    let shares = ap (λ (x : Accepted). x.inputs * nth a.table.now 1) c.in-Ok.field-0-is ∙ n.shares_are in
+    let shares = ap (λ (x : Accepted). x.inputs * nth q.table 1) c.in-Ok.field-0-is ∙ n.shares_are in
     let randoms = ap (λ (x : Accepted). x.randoms) c.in-Ok.field-0-is ∙ n.randoms_are in
-    let at15 = from15 a.table.now a.notes.now a.shares.now a.tape.now a.probes.now a.room n.passed in
-    let at16 = from16 a.table.now a.notes.now a.shares.now a.tape.now a.probes.now a.room at15 (omega (arith, shares)) in
-    judged a.table.now a.notes.now a.shares.now a.tape.now a.probes.now a.room c.check-answer.ensures.noted (ap refusal_answer c.of_call-then-tape-randoms.ensures) (breaks16 a.table.now a.notes.now a.shares.now a.tape.now a.probes.now a.room at16 (λ e. omega (arith, randoms)))
+    let at15 = from15 q n.passed in
+    let at16 = from16 q at15 (omega (arith, shares)) in
+    judged q c.check-answer.ensures.noted (ap refusal_answer c.of_call-then-tape-randoms.ensures) (breaks16 q at16 (λ e. omega (arith, randoms)))
 
 pub returns-then-room-lt-WIRES : goal.returns-then-room-lt-WIRES
 returns-then-room-lt-WIRES c =
-    let a = c.args in
+    let q = call (goal.at.returns-then-room-lt-WIRES c).Start in
     let n = numbers (goal.at.returns-then-room-lt-WIRES c).In-Ok in
-    let shares = ap (λ (x : Accepted). x.inputs * nth a.table.now 1) c.in-Ok.field-0-is ∙ n.shares_are in
+    let shares = ap (λ (x : Accepted). x.inputs * nth q.table 1) c.in-Ok.field-0-is ∙ n.shares_are in
     let randoms = ap (λ (x : Accepted). x.randoms) c.in-Ok.field-0-is ∙ n.randoms_are in
-    let at15 = from15 a.table.now a.notes.now a.shares.now a.tape.now a.probes.now a.room n.passed in
-    let at16 = from16 a.table.now a.notes.now a.shares.now a.tape.now a.probes.now a.room at15 (omega (arith, shares)) in
-    let at17 = from17 a.table.now a.notes.now a.shares.now a.tape.now a.probes.now a.room at16 (omega (arith, randoms)) in
-    judged a.table.now a.notes.now a.shares.now a.tape.now a.probes.now a.room c.check-answer.ensures.noted (ap refusal_answer c.of_call-then-room-lt-WIRES.ensures) (breaks17 a.table.now a.notes.now a.shares.now a.tape.now a.probes.now a.room at17 (omega arith))
+    let at15 = from15 q n.passed in
+    let at16 = from16 q at15 (omega (arith, shares)) in
+    let at17 = from17 q at16 (omega (arith, randoms)) in
+    judged q c.check-answer.ensures.noted (ap refusal_answer c.of_call-then-room-lt-WIRES.ensures) (breaks17 q at17 (omega arith))
 
 pub returns-in-Some : goal.returns-in-Some
 returns-in-Some c =
-    let a = c.args in
+    let q = call (goal.at.returns-in-Some c).Start in
     let n = numbers (goal.at.returns-in-Some c).In-Ok in
-    let shares = ap (λ (x : Accepted). x.inputs * nth a.table.now 1) c.in-Ok.field-0-is ∙ n.shares_are in
+    let shares = ap (λ (x : Accepted). x.inputs * nth q.table 1) c.in-Ok.field-0-is ∙ n.shares_are in
     let randoms = ap (λ (x : Accepted). x.randoms) c.in-Ok.field-0-is ∙ n.randoms_are in
-    let at15 = from15 a.table.now a.notes.now a.shares.now a.tape.now a.probes.now a.room n.passed in
-    let at16 = from16 a.table.now a.notes.now a.shares.now a.tape.now a.probes.now a.room at15 (omega (arith, shares)) in
-    let at17 = from17 a.table.now a.notes.now a.shares.now a.tape.now a.probes.now a.room at16 (omega (arith, randoms)) in
-    let at18 = from18 a.table.now a.notes.now a.shares.now a.tape.now a.probes.now a.room at17 (omega arith) in
-    judged a.table.now a.notes.now a.shares.now a.tape.now a.probes.now a.room c.check-answer.ensures.noted (ap refusal_answer c.of_call-in-Some.ensures) (breaks_share a.table.now a.notes.now a.shares.now a.tape.now a.probes.now a.room c.first_over.ensures at18 c.in-Some.is)
+    let at15 = from15 q n.passed in
+    let at16 = from16 q at15 (omega (arith, shares)) in
+    let at17 = from17 q at16 (omega (arith, randoms)) in
+    let at18 = from18 q at17 (omega arith) in
+    judged q c.check-answer.ensures.noted (ap refusal_answer c.of_call-in-Some.ensures) (breaks_share q c.first_over.ensures at18 c.in-Some.is)
 
 pub returns-in-Some-first_over : goal.returns-in-Some-first_over
 returns-in-Some-first_over c =
-    let a = c.args in
+    let q = call (goal.at.returns-in-Some-first_over c).Start in
     let n = numbers (goal.at.returns-in-Some-first_over c).In-Ok in
-    let shares = ap (λ (x : Accepted). x.inputs * nth a.table.now 1) c.in-Ok.field-0-is ∙ n.shares_are in
+    let shares = ap (λ (x : Accepted). x.inputs * nth q.table 1) c.in-Ok.field-0-is ∙ n.shares_are in
     let randoms = ap (λ (x : Accepted). x.randoms) c.in-Ok.field-0-is ∙ n.randoms_are in
-    let at15 = from15 a.table.now a.notes.now a.shares.now a.tape.now a.probes.now a.room n.passed in
-    let at16 = from16 a.table.now a.notes.now a.shares.now a.tape.now a.probes.now a.room at15 (omega (arith, shares)) in
-    let at17 = from17 a.table.now a.notes.now a.shares.now a.tape.now a.probes.now a.room at16 (omega (arith, randoms)) in
-    let at18 = from18 a.table.now a.notes.now a.shares.now a.tape.now a.probes.now a.room at17 (omega arith) in
-    let at_tape = from_tape a.table.now a.notes.now a.shares.now a.tape.now a.probes.now a.room c.first_over.ensures at18 c.in_default-first_over.is in
-    judged a.table.now a.notes.now a.shares.now a.tape.now a.probes.now a.room c.check-answer.ensures.noted (ap refusal_answer c.of_call-in-Some-first_over.ensures) (breaks_tape a.table.now a.notes.now a.shares.now a.tape.now a.probes.now a.room c.first_over-2.ensures at_tape c.in-Some-first_over.is)
+    let at15 = from15 q n.passed in
+    let at16 = from16 q at15 (omega (arith, shares)) in
+    let at17 = from17 q at16 (omega (arith, randoms)) in
+    let at18 = from18 q at17 (omega arith) in
+    let at_tape = from_tape q c.first_over.ensures at18 c.in_default-first_over.is in
+    judged q c.check-answer.ensures.noted (ap refusal_answer c.of_call-in-Some-first_over.ensures) (breaks_tape q c.first_over-2.ensures at_tape c.in-Some-first_over.is)
 
 pub returns-in-Some-first_missing : goal.returns-in-Some-first_missing
 returns-in-Some-first_missing c =
-    let a = c.args in
+    let q = call (goal.at.returns-in-Some-first_missing c).Start in
     let n = numbers (goal.at.returns-in-Some-first_missing c).In-Ok in
-    let shares = ap (λ (x : Accepted). x.inputs * nth a.table.now 1) c.in-Ok.field-0-is ∙ n.shares_are in
+    let shares = ap (λ (x : Accepted). x.inputs * nth q.table 1) c.in-Ok.field-0-is ∙ n.shares_are in
     let randoms = ap (λ (x : Accepted). x.randoms) c.in-Ok.field-0-is ∙ n.randoms_are in
     let wires = n.wires_are ∙ sym (ap (λ (x : Accepted). x.wires) c.in-Ok.field-0-is) in
-    let at15 = from15 a.table.now a.notes.now a.shares.now a.tape.now a.probes.now a.room n.passed in
-    let at16 = from16 a.table.now a.notes.now a.shares.now a.tape.now a.probes.now a.room at15 (omega (arith, shares)) in
-    let at17 = from17 a.table.now a.notes.now a.shares.now a.tape.now a.probes.now a.room at16 (omega (arith, randoms)) in
-    let at18 = from18 a.table.now a.notes.now a.shares.now a.tape.now a.probes.now a.room at17 (omega arith) in
-    let at_tape = from_tape a.table.now a.notes.now a.shares.now a.tape.now a.probes.now a.room c.first_over.ensures at18 c.in_default-first_over.is in
-    let at19 = from19 a.table.now a.notes.now a.shares.now a.tape.now a.probes.now a.room c.first_over-2.ensures at_tape c.in_default-first_over-2.is in
-    judged a.table.now a.notes.now a.shares.now a.tape.now a.probes.now a.room c.check-answer.ensures.noted (ap refusal_answer c.of_call-in-Some-first_missing.ensures) (breaks19 a.table.now a.notes.now a.shares.now a.tape.now a.probes.now a.room c.first_missing.ensures wires at19 c.in-Some-first_missing.is)
+    let at15 = from15 q n.passed in
+    let at16 = from16 q at15 (omega (arith, shares)) in
+    let at17 = from17 q at16 (omega (arith, randoms)) in
+    let at18 = from18 q at17 (omega arith) in
+    let at_tape = from_tape q c.first_over.ensures at18 c.in_default-first_over.is in
+    let at19 = from19 q c.first_over-2.ensures at_tape c.in_default-first_over-2.is in
+    judged q c.check-answer.ensures.noted (ap refusal_answer c.of_call-in-Some-first_missing.ensures) (breaks19 q c.first_missing.ensures wires at19 c.in-Some-first_missing.is)
 
 pub returns : goal.returns
 returns c =
-    let a = c.args in
+    let q = call (goal.at.returns c).Start in
     let n = numbers (goal.at.returns c).In-Ok in
-    let shares = ap (λ (x : Accepted). x.inputs * nth a.table.now 1) c.in-Ok.field-0-is ∙ n.shares_are in
+    let shares = ap (λ (x : Accepted). x.inputs * nth q.table 1) c.in-Ok.field-0-is ∙ n.shares_are in
     let randoms = ap (λ (x : Accepted). x.randoms) c.in-Ok.field-0-is ∙ n.randoms_are in
     let wires = n.wires_are ∙ sym (ap (λ (x : Accepted). x.wires) c.in-Ok.field-0-is) in
-    let at15 = from15 a.table.now a.notes.now a.shares.now a.tape.now a.probes.now a.room n.passed in
-    let at16 = from16 a.table.now a.notes.now a.shares.now a.tape.now a.probes.now a.room at15 (omega (arith, shares)) in
-    let at17 = from17 a.table.now a.notes.now a.shares.now a.tape.now a.probes.now a.room at16 (omega (arith, randoms)) in
-    let at18 = from18 a.table.now a.notes.now a.shares.now a.tape.now a.probes.now a.room at17 (omega arith) in
-    let at_tape = from_tape a.table.now a.notes.now a.shares.now a.tape.now a.probes.now a.room c.first_over.ensures at18 c.in_default-first_over.is in
-    let at19 = from19 a.table.now a.notes.now a.shares.now a.tape.now a.probes.now a.room c.first_over-2.ensures at_tape c.in_default-first_over-2.is in
-    judged a.table.now a.notes.now a.shares.now a.tape.now a.probes.now a.room c.check-answer.ensures.noted (c.check-answer.ensures.answered ∙ ap (answer (circuit_of a.table.now a.notes.now)) n.passed) (passes a.table.now a.notes.now a.shares.now a.tape.now a.probes.now a.room c.first_missing.ensures wires at19 c.in_default-first_missing.is)
+    let at15 = from15 q n.passed in
+    let at16 = from16 q at15 (omega (arith, shares)) in
+    let at17 = from17 q at16 (omega (arith, randoms)) in
+    let at18 = from18 q at17 (omega arith) in
+    let at_tape = from_tape q c.first_over.ensures at18 c.in_default-first_over.is in
+    let at19 = from19 q c.first_over-2.ensures at_tape c.in_default-first_over-2.is in
+    let told = c.check-answer.ensures.answered ∙ ap (answer (circuit_of q.table q.notes)) n.passed in
+    judged q c.check-answer.ensures.noted told (passes q c.first_missing.ensures wires at19 c.in_default-first_missing.is)

@@ -71,4 +71,7 @@ pub overflow_cast-list-3 : goal.overflow_cast-list-3
 overflow_cast-list-3 c = omega (arith, first-few c.loop-first.invariant.0)
 
 pub returns : goal.returns
-returns c = let e = listed_end c.loop-first.invariant.0 (omega (arith, c.loop-first.invariant.0.spaced, c.loop-first.invariant.0.between.most, c.requires.2, c.loop-first.auto.list)) _ refl in (e.0, omega (arith, e.1))
+returns c =
+    let h = c.loop-first.invariant.0 in
+    let e = listed_end h (omega (arith, h.spaced, h.between.most, c.requires.2, c.loop-first.auto.list)) _ refl in
+    (e.0, omega (arith, e.1))

@@ -5,4 +5,5 @@ use Rattle.reach.specs.Internal.Marks.{Moves}
 use Rattle.reach.proofs.reach.propagate_outputs.Given as goal
 
 abbrev pub invariant-loop-i : goal.invariant-loop-i
-invariant-loop-i l = Moves (OutGates l.gadget.d l.gadget.first) (out_at l.gadget.d l.gadget.first l.i) (out_at l.gadget.d l.gadget.first l.gadget.d) l.initial.marks l.marks
+invariant-loop-i l = let g = l.gadget in
+    Moves (OutGates g.d g.first) (out_at g.d g.first l.i) (out_at g.d g.first g.d) l.initial.marks l.marks

@@ -5,4 +5,5 @@ use Rattle.reach.specs.Internal.Marks.{Moves}
 use Rattle.reach.proofs.reach.propagate_products.Given as goal
 
 abbrev pub invariant-loop-i : goal.invariant-loop-i
-invariant-loop-i l = Moves (ProductsGates l.gadget.d l.gadget.first (word_a l.ops) (word_b l.gadget.d l.ops)) (product_at l.gadget.d l.gadget.first l.i) (product_at l.gadget.d l.gadget.first l.gadget.d) l.initial.marks l.marks
+invariant-loop-i l = let g = l.gadget in
+    Moves (ProductsGates g.d g.first (word_a l.ops) (word_b g.d l.ops)) (product_at g.d g.first l.i) (product_at g.d g.first g.d) l.initial.marks l.marks

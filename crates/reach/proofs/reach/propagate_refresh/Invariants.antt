@@ -7,4 +7,5 @@ use Rattle.reach.specs.Internal.Marks.{Moves}
 use Rattle.reach.proofs.reach.propagate_refresh.Given as goal
 
 abbrev pub invariant-loop-i : goal.invariant-loop-i
-invariant-loop-i l = Moves (λ g. RefGates g l.gadget.d l.gadget.first (word_a l.ops)) (sum_at l.gadget.d l.gadget.first l.i) (l.gadget.first + (pairs l.gadget.d + 2 * l.gadget.d)) l.initial.marks l.marks
+invariant-loop-i l = let g = l.gadget in
+    Moves (λ z. RefGates z g.d g.first (word_a l.ops)) (sum_at g.d g.first l.i) (g.first + (pairs g.d + 2 * g.d)) l.initial.marks l.marks

@@ -6,4 +6,5 @@ use Rattle.reach.specs.Internal.Marks.{Moves}
 use Rattle.reach.proofs.reach.propagate_row.Given as goal
 
 abbrev pub invariant-loop-j : goal.invariant-loop-j
-invariant-loop-j l = (l.from ≤ l.j) × Moves (CrossRowGates l.gadget.d l.gadget.first (word_a l.ops) (word_b l.gadget.d l.ops) l.i) (cross_at l.gadget.d l.gadget.first l.i l.j) (cross_at l.gadget.d l.gadget.first l.i l.to) l.initial.marks l.marks
+invariant-loop-j l = let g = l.gadget in
+    (l.from ≤ l.j) × Moves (CrossRowGates g.d g.first (word_a l.ops) (word_b g.d l.ops) l.i) (cross_at g.d g.first l.i l.j) (cross_at g.d g.first l.i l.to) l.initial.marks l.marks

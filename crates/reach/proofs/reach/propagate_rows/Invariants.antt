@@ -6,4 +6,5 @@ use Rattle.reach.specs.Internal.Marks.{Moves}
 use Rattle.reach.proofs.reach.propagate_rows.Given as goal
 
 abbrev pub invariant-loop-i : goal.invariant-loop-i
-invariant-loop-i l = Moves (CrossAllGates l.gadget.d l.gadget.first (word_a l.ops) (word_b l.gadget.d l.ops)) (l.gadget.first + cross_start l.gadget.d l.i) (l.gadget.first + cross_start l.gadget.d l.gadget.d) l.initial.marks l.marks
+invariant-loop-i l = let g = l.gadget in
+    Moves (CrossAllGates g.d g.first (word_a l.ops) (word_b g.d l.ops)) (g.first + cross_start g.d l.i) (g.first + cross_start g.d g.d) l.initial.marks l.marks

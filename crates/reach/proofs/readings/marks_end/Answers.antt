@@ -13,7 +13,9 @@ loop-wire-preserved c =
     let (below, least, word) = c.loop-wire.invariant in
     let i = c.loop-wire.wire-index in
     let max = c.max-most.ensures in
-    (below_more i (λ j h. omega (arith, below j h, max)) (omega (arith, max)), (λ n h. omega (arith, max, least n h, h _ (nth_in c.args.probes.now i c.loop-wire-test.true))), omega (arith, max, word, c.type_inv.probes i))
+    let highest = below_more i (λ j h. omega (arith, below j h, max)) (omega (arith, max)) in
+    let here = nth_in c.args.probes.now i c.loop-wire-test.true in
+    (highest, (λ n h. omega (arith, max, least n h, h _ here)), omega (arith, max, word, c.type_inv.probes i))
 
 pub returns : goal.returns
 returns c =

@@ -40,7 +40,8 @@ pub loop-to-preserved : goal.loop-to-preserved
 loop-to-preserved c =
     let (most, moves) = c.loop-to.invariant in
     let s = (goal.at.loop-to-preserved c).After-saturating_sub-from in
-    (omega (arith, c.saturating_sub-from.ensures), moves_then (rising c.requires.0 most (omega arith)) moves (moves_unmarked _ _ _ (none_over c.loop-to.marks _ _ (high s) c.largest-marked.ensures c.if-marked.false)))
+    let unmarked = none_over c.loop-to.marks _ _ (high s) c.largest-marked.ensures c.if-marked.false in
+    (omega (arith, c.saturating_sub-from.ensures), moves_then (rising c.requires.0 most (omega arith)) moves (moves_unmarked _ _ _ unmarked))
 
 pub returns : goal.returns
 returns c = let e : c.loop-to.to ≡ 0 = omega arith in moves_at (ap (first_of c.args.list.now) e ∙ none_before c.requires.0) refl c.loop-to.invariant.1

@@ -20,4 +20,5 @@ returns g c =
     let on = c.mark.ensures ∙ ap (λ m. mark_all m c.args.probes.now) r.clear in
     let before : _ = marked_probes n c.args.probes.now on (λ x i. omega (arith, r.made x i, r.room)) in
     let behind : _ = unmarked_from n c.args.probes.now on c.marks_end-end.ensures.0 in
-    reached c.list_frames-count.ensures.0 before r.made (omega (arith, r.room, c.mark.auto.marks)) (λ x above below. behind x (omega (arith, c.list_frames-count.ensures.1)) below) c.propagate_frames.ensures
+    reached c.list_frames-count.ensures.0 before r.made (omega (arith, r.room, c.mark.auto.marks))
+    (λ x above below. behind x (omega (arith, c.list_frames-count.ensures.1)) below) c.propagate_frames.ensures

@@ -1,10 +1,7 @@
 -- The loop's invariant: the pairs before this one are in their places.
-use Prim.Native.Nat.{◌+◌, ◌*◌, ◌-◌, ◌≤◌}
+use Prim.Native.Nat.{◌+◌, ◌*◌}
 use Rattle.writer.specs.Internal.Line.{PairsTo}
 use Rattle.writer.proofs.line.pair_row.Given as goal
 
 abbrev pub invariant-loop-j : goal.invariant-loop-j
-invariant-loop-j l = (l.j ≤ 16) × PairsTo (16 * l.i + l.j) l.pairs
-
-abbrev pub decreases-loop-j : goal.decreases-loop-j
-decreases-loop-j l = 16 - l.j
+invariant-loop-j l = PairsTo (16 * l.i + l.j) l.pairs
