@@ -1,24 +1,15 @@
--- Wires stored into the notes, two words a turn.
+-- Wires stored into the notes.
 use mathlib.Core.Path.{◌≡◌, refl, sym, ap, ◌∙◌}
-use mathlib.Core.List.{List, [], ◌∷◌, ◌++◌, append_assoc}
+use mathlib.Core.List.{List, [], ◌∷◌, ◌++◌}
 use Prim.Native.Nat.{ℕ, zero, suc, ◌+◌, ◌*◌, ◌-◌, ◌≤◌, ◌<◌}
 use native.Mathlib.Omega.{arith}
 use lib.ListN.{length, set, replicate}
-use lib.Seq.{sets, sets-eq, drop-drop}
-use borrow.Rule.Slice.PartMut.{put_mid}
+use lib.Seq.{sets}
 use Rattle.circuit.specs.Limits.{inner_note}
 use Rattle.circuit.proofs.Base.{stores_append}
 use Rattle.checker.specs.Internal.Notes.{inner_words, named_words}
 
--- before the first turn
-pub store_start : (n : List ℕ) (from label count : ℕ) (words : ℕ → ℕ → List ℕ) → sets n (2 * from) (words label count) ≡ sets n (2 * from + 0) (words (label + 0) (count - 0))
-store_start n from label count words =
-    let p : 2 * from + 0 ≡ 2 * from = omega arith in
-    let l : label + 0 ≡ label = omega arith in
-    let k : count - 0 ≡ count = omega arith in
-    rw (p, l, k)
-
--- one turn
+-- two words stored
 pub store_turn : (n : List ℕ) (from i a b : ℕ) (ws rest : List ℕ) → ws ≡ a ∷ b ∷ rest
     → sets n (2 * from + 2 * i) ws ≡ sets (set (set n (2 * from + 2 * i) a) (2 * from + 2 * i + 1) b) (2 * from + 2 * (i + 1)) rest
 store_turn n from i a b ws rest e =
@@ -26,23 +17,27 @@ store_turn n from i a b ws rest e =
     let after : 2 * from + 2 * (i + 1) ≡ suc (suc (2 * from + 2 * i)) = omega arith in
     rw (e, next, after)
 
--- the words of inner wires are one word over and over, and a fill writes them
+-- the words of inner wires are one word over and over; what is left of them before the first turn, and after a turn
 inner-replicate : (count : ℕ) → inner_words count ≡ replicate (2 * count) inner_note
 unfolding inner_words
 inner-replicate zero = refl
 inner-replicate (suc n) = let e : suc (suc (2 * n)) ≡ 2 * suc n = omega arith in ap (λ l. inner_note ∷ inner_note ∷ l) (inner-replicate n) ∙ ap (λ k. replicate k inner_note) e
 
-pub inner-length : (count : ℕ) → length (inner_words count) ≡ 2 * count
+pub inner_start : (n : List ℕ) (from count : ℕ) → sets n (2 * from) (inner_words count) ≡ sets n (2 * from) (replicate (2 * (from + count) - 2 * from) inner_note)
+inner_start n from count =
+    let e : 2 * count ≡ 2 * (from + count) - 2 * from = omega arith in
+    ap (sets n (2 * from)) (inner-replicate count ∙ ap (λ k. replicate k inner_note) e)
+
+pub inner_turn : (n : List ℕ) (end i : ℕ) → i < end → sets n i (replicate (end - i) inner_note) ≡ sets (set n i inner_note) (i + 1) (replicate (end - (i + 1)) inner_note)
+inner_turn n end i h =
+    let e : end - i ≡ suc (end - (i + 1)) = omega arith in
+    let next : suc i ≡ i + 1 = omega arith in
+    ap (λ k. sets n i (replicate k inner_note)) e ∙ ap (λ q. sets (set n i inner_note) q (replicate (end - (i + 1)) inner_note)) next
+
+inner-length : (count : ℕ) → length (inner_words count) ≡ 2 * count
 unfolding inner_words
 inner-length zero = refl
 inner-length (suc n) = omega (arith, inner-length n)
-
-pub filled : (n : List ℕ) (from count : ℕ) (ws : List ℕ) → 2 * (from + count) ≤ length n → ws ≡ replicate (2 * count) inner_note
-    → put_mid (2 * from) (2 * (from + count) - 2 * from) n ws ≡ sets n (2 * from) (inner_words count)
-filled n from count ws h e =
-    let many : 2 * (from + count) - 2 * from ≡ length (inner_words count) = omega (arith, inner-length count) in
-    rw (e ∙ sym (inner-replicate count), many, drop-drop (length (inner_words count)) (2 * from) n, ← append_assoc)
-    (sym (sets-eq (inner_words count) n (2 * from) (omega (arith, inner-length count))))
 
 -- what is left of named wires after a turn, and at the end
 pub named_turn : (label stage count i : ℕ) → i < count

@@ -4,7 +4,8 @@ ghost use Rattle.std.specs.Prelude.{◌≡◌, ◌+◌, ◌-◌, ◌≤◌, ◌<
 ghost use Rattle.circuit.specs.Limits.{most_shares};
 ghost use Rattle.circuit.specs.Lists.{nth};
 ghost use Rattle.checker.specs.Internal.Notes.{Room, noted, wanted, label_found, stage_found};
-ghost use Rattle.checker.specs.Internal.Adding.{spot, at_word, ◌and_then◌, stage_asked, label_asked, value_asked, like_asked, row_broken, product_broken, refresh_broken, gadget_after, wires_at, Judges};
+ghost use Rattle.checker.specs.Internal.Adding.{spot, at_word, ◌and_then◌, stage_asked, label_asked, value_asked, like_asked};
+ghost use Rattle.checker.specs.Internal.Adding.{row_broken, product_broken, refresh_broken, gadget_after, wires_at, Judges};
 
 use super::notes;
 use super::notes::{Made, Wanted};
@@ -77,9 +78,9 @@ fn row_rule(
     requires { Room wires notes.now × (length row.now ≤ 8) × (first ≤ 10) }
     ensures { result ≡ row_broken (noted notes.now wires) wanted first 0 row.now }
 {
-    for (i, wire) in row.iter().enumerate() {
+    for i in 0..row.len() {
         let word = first + i;
-        let told = notes::wire_rule(notes, wires, *wire, i as u16, wanted);
+        let told = notes::wire_rule(notes, wires, row[i], i as u16, wanted);
         told.map_err(|rule| Spot::new(rule, word))?;
     }
     Ok(())
@@ -141,11 +142,7 @@ pub(crate) fn sum(first: u16, second: u16, wires: usize, notes: &mut [u16]) -> R
         (wires_at 1 (label_found (noted notes.old wires first)) (stage_found (noted notes.old wires first)) false) wires notes.old notes.new result }
 {
     let named = notes::look_up(notes, wires, first).map_err(|rule| Spot::new(rule, 1))?;
-    let like = Wanted {
-        stage: named.stage,
-        ahead: 0,
-        registered: false,
-    };
+    let like = Wanted::at(named.stage);
     let told = notes::wire_rule(notes, wires, second, named.label, like);
     told.map_err(|rule| Spot::new(rule, 2))?;
     put_one(named.label, named.stage as usize, false, wires, notes)
@@ -173,9 +170,8 @@ pub(crate) fn row(ops: &[u16], stage: u16, wires: usize, notes: &mut [u16]) -> R
     ensures { Judges (row_broken (noted notes.old wires) (wanted stage 0 true) 1 0 ops.now) (wires_at 0 0 stage false) wires notes.old notes.new result }
 {
     let wanted = Wanted {
-        stage,
-        ahead: 0,
         registered: true,
+        ..Wanted::at(stage)
     };
     row_rule(ops, 1, wanted, wires, notes)?;
     put(
@@ -229,18 +225,15 @@ pub(crate) fn product(
     ensures { Judges (product_broken d used (noted notes.old wires) ops.now)
         (gadget_after (count - d) d (stage_found (noted notes.old wires (nth ops.now 1))) false) wires notes.old notes.new result }
 {
+    let stage = notes::stage_shown(notes, wires, ops[1]);
     if ops[0] as usize != used {
         return Err(Spot::new(Rule::FirstRandom, 1));
     }
-    let stage = notes::stage_shown(notes, wires, ops[1]);
-    let (a, b) = ops[1..].split_at(d);
-    let at = Wanted {
-        stage,
-        ahead: 0,
-        registered: false,
-    };
-    row_rule(a, 2, at, wires, notes)?;
-    row_rule(b, 2 + d, Wanted { ahead: 1, ..at }, wires, notes)?;
+    let middle = 1 + d;
+    let a = Wanted::at(stage);
+    row_rule(&ops[1..middle], 2, a, wires, notes)?;
+    let b = Wanted { ahead: 1, ..a };
+    row_rule(&ops[middle..], 2 + d, b, wires, notes)?;
     put_gadget(count, d, stage, false, wires, notes)
 }
 
@@ -257,15 +250,10 @@ pub(crate) fn refresh(
     ensures { Judges (refresh_broken d used (noted notes.old wires) ops.now)
         (gadget_after (count - d) d (stage_found (noted notes.old wires (nth ops.now 1))) true) wires notes.old notes.new result }
 {
+    let stage = notes::stage_shown(notes, wires, ops[1]);
     if ops[0] as usize != used {
         return Err(Spot::new(Rule::FirstRandom, 1));
     }
-    let stage = notes::stage_shown(notes, wires, ops[1]);
-    let at = Wanted {
-        stage,
-        ahead: 0,
-        registered: false,
-    };
-    row_rule(&ops[1..], 2, at, wires, notes)?;
+    row_rule(&ops[1..], 2, Wanted::at(stage), wires, notes)?;
     put_gadget(count, d, stage, true, wires, notes)
 }

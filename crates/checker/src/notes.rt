@@ -1,10 +1,11 @@
 // The notes: two words for each wire, its label, plus 8 where it is registered, and its stage; or FFFF twice for an inner
 // wire. Only this module knows it.
-ghost use Rattle.std.specs.Prelude.{◌≡◌, ◌+◌, ◌*◌, ◌≤◌, ◌<◌, length};
+ghost use Rattle.std.specs.Prelude.{◌≡◌, ◌+◌, ◌*◌, ◌≤◌, ◌<◌, false, length};
 ghost use Rattle.std.proofs.lemmas.List.Edits.{sets};
 ghost use Rattle.circuit.specs.Limits.{most_shares};
 ghost use Rattle.circuit.specs.Answer.{label_noted};
-ghost use Rattle.checker.specs.Internal.Notes.{Room, noted, stage_found, wire_asked, first_word, inner_words, named_words, made_words};
+ghost use Rattle.checker.specs.Internal.Notes.{Room, noted, stage_found, wanted, wire_asked};
+ghost use Rattle.checker.specs.Internal.Notes.{first_word, inner_words, named_words, made_words};
 
 use circuit::Rule;
 
@@ -28,6 +29,19 @@ pub struct Wanted {
     pub stage: u16,
     pub ahead: u16,
     pub registered: bool,
+}
+
+impl Wanted {
+    // At a stage, and no more.
+    pub(crate) fn at(stage: u16) -> Self
+        ensures { result ≡ wanted stage 0 false }
+    {
+        Wanted {
+            stage,
+            ahead: 0,
+            registered: false,
+        }
+    }
 }
 
 // The wires that a frame makes, as the notes show them: inner ones, then named ones with labels in a row at one stage, all
@@ -72,7 +86,7 @@ pub fn label(notes: &[u16], wire: u16) -> u16
     notes[2 * w] % REGISTERED
 }
 
-// The stage that a wire shows; 0 where it shows none.
+// The stage that a wire shows; 0 where it shows none, and then the row that names the wire is refused for it.
 pub(crate) fn stage_shown(notes: &[u16], wires: usize, wire: u16) -> u16
     requires { Room wires notes.now }
     ensures { result ≡ stage_found (noted notes.now wires wire) }
@@ -125,7 +139,9 @@ fn write_inner(notes: &mut [u16], from: usize, count: usize)
     requires { 2 * (from + count) ≤ length notes.old }
     ensures { notes.new ≡ sets notes.old (2 * from) (inner_words count) }
 {
-    notes[2 * from..2 * (from + count)].fill(INNER);
+    for i in 2 * from..2 * (from + count) {
+        notes[i] = INNER;
+    }
 }
 
 // Writes named wires from the wire `from` on, with first words in a row and one stage.

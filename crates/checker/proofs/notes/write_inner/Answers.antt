@@ -1,16 +1,11 @@
--- The words filled in are those of the inner wires.
-use mathlib.Core.Path.{◌≡◌, ap, ◌∙◌}
+-- The words still to write, written from i on, give what all words written from the start give.
+use mathlib.Core.Path.{◌∙◌}
 use Prim.Native.Nat.{◌+◌, ◌*◌}
-use native.Mathlib.Omega.{arith}
-use lib.ListN.{length, replicate}
-use Rattle.std.specs.List.{between}
-use Rattle.std.proofs.lemmas.List.Edits.{length-between}
-use Rattle.circuit.specs.Limits.{inner_note}
-use Rattle.checker.proofs.Stores.{filled}
+use Rattle.checker.proofs.Stores.{inner_start, inner_turn}
 use Rattle.checker.proofs.notes.write_inner.Goals as goal
 
-pub returns : goal.returns
-returns c =
-    let a = c.args in
-    let many : length (between (2 * a.from) (2 * (a.from + a.count)) a.notes.now) ≡ 2 * a.count = omega (arith, length-between a.notes.now (2 * a.from) (2 * (a.from + a.count)) c.requires) in
-    filled a.notes.now a.from a.count c.fill.new.self c.requires (c.fill.ensures.after (λ y e. e) ∙ ap (λ k. replicate k inner_note) many)
+pub loop-i-init : goal.loop-i-init
+loop-i-init c = inner_start c.args.notes.now c.args.from c.args.count
+
+pub loop-i-preserved : goal.loop-i-preserved
+loop-i-preserved c = c.loop-i.invariant ∙ inner_turn c.loop-i.notes (2 * (c.args.from + c.args.count)) c.loop-i.i c.loop-i-test.true
