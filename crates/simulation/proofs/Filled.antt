@@ -63,11 +63,6 @@ fills-set {E} {from} {p} {to} {old} {mid} e place h f = record {
     r : p < length mid
     r = omega (arith, f.size)
 
--- one wire alone
-pub fills_one : {E : Values → Type 0} (first : ℕ) (sheet : List ℕ) (e : ℕ) → first < length sheet → ((v : Values) → E v → Known v 0 first sheet → e ≡ v first)
-    → Fills E first (first + 1) sheet (set sheet first e)
-fills_one first sheet e room h = fills-set e (omega arith) h (fills-none first sheet)
-
 -- bytes copied from another buffer
 pub fills_copied : (source : List ℕ) (from at count k n : ℕ) (old part : List ℕ) → at + count ≤ length old → from + count ≤ length source → k ≡ count → n ≡ count → part ≡ take n (drop from source)
     → Fills (Copied source from at count) at (at + count) old (put_mid at k old part)

@@ -1,5 +1,5 @@
 -- The wires of AND behind B, m and M, share by share: a row, then its output, which stands behind all rows.
-use mathlib.Core.Path.{◌≡◌, refl, sym, ap, ap₂, ◌∙◌}
+use mathlib.Core.Path.{◌≡◌, sym, ap, ap₂, ◌∙◌}
 use mathlib.Core.List.{List}
 use Prim.Native.Nat.{ℕ, ◌+◌, ◌≤◌, ◌<◌}
 use native.Mathlib.Omega.{arith}
@@ -26,17 +26,8 @@ pub record OutputsOn (d first : ℕ) (a : ℕ → ℕ) (old values : List ℕ) (
   pub above : (x : ℕ) → out_at d first d ≤ x → nth values x ≡ nth old x
   pub size : length values ≡ length old
 
-pub outputs_start : {d first : ℕ} {a : ℕ → ℕ} {old : List ℕ} → OutputsOn d first a old old 0
-outputs_start = record {
-  most = omega arith;
-  known = λ v e k. k;
-  outs = λ v e k x l u. absurd (omega arith);
-  below = λ x h. refl;
-  above = λ x h. refl;
-  size = refl;
-}
-
-pub outputs_end : {d first : ℕ} {a : ℕ → ℕ} {old values : List ℕ} {i : ℕ} → d ≤ i → OutputsOn d first a old values i → Fills (Multiplied 1 d first a) (first + cross_start d 0) (out_at d first d) old values
+pub outputs_end : {d first : ℕ} {a : ℕ → ℕ} {old values : List ℕ} {i : ℕ} → d ≤ i → OutputsOn d first a old values i
+    → Fills (Multiplied 1 d first a) (first + cross_start d 0) (out_at d first d) old values
 outputs_end {d = d} {first} {i = i} h on =
     let e : i ≡ d = omega (arith, on.most) in
     record {

@@ -4,7 +4,7 @@ ghost use Rattle.gadgets.specs.Internal.Places.{word_a, word_b, product_at, cros
 ghost use Rattle.gadgets.specs.Internal.Frames.{FrameEarly, Roomy};
 ghost use Rattle.frames.specs.declared.walk.Frame.TheVariants as frame;
 ghost use Rattle.simulation.specs.Internal.Filling.{Fills, Drawn, ShareProducts, Multiplied, Masked, DrawnMasked, Held};
-ghost use Rattle.simulation.specs.Internal.Gadgets.{Crosses, CrossesRow, Sums, Takes, Writes, TakesMasks};
+ghost use Rattle.simulation.specs.Internal.Gadgets.{Crosses, CrossesOther, CrossesRow, Sums, Takes, Writes, TakesMasks};
 
 use gadgets::places::Gadget;
 use gadgets::{gate_values, places};
@@ -55,19 +55,28 @@ fn cross(values: &mut [u8], at: usize, a: u8, b: u8, r: u8) -> u8
     u ^ w
 }
 
-// The same of the share i and every other, added to a word.
+// The same of the share i and another, added to a word. Of the share i itself, the word as it is. (A function of its own: written into the
+// loop below it was tried and is slower, since the loop is then not unrolled.)
+fn cross_other(values: &mut [u8], g: Gadget, i: usize, j: usize, a: u8, word: u8) -> u8
+    requires { (i < g.d) × (j < g.d) × Roomy g.d g.first values.old }
+    ensures { CrossesOther g.d g.first i j a word values.old values.new result }
+{
+    if i == j {
+        return word;
+    }
+    let r = values[g.pair_at(i, j)];
+    let b = values[g.product_at(j)];
+    word ^ cross(values, g.cross_at(i, j), a, b, r)
+}
+
+// The same of the share i and every other.
 fn cross_row(values: &mut [u8], g: Gadget, i: usize, a: u8, word: u8) -> u8
     requires { (i < g.d) × Roomy g.d g.first values.old }
     ensures { CrossesRow g.d g.first i a word values.old values.new result }
 {
     let mut sum = word;
     for j in 0..g.d {
-        if j == i {
-            continue;
-        }
-        let r = values[g.pair_at(i, j)];
-        let b = values[g.product_at(j)];
-        sum ^= cross(values, g.cross_at(i, j), a, b, r);
+        sum = cross_other(values, g, i, j, a, sum);
     }
     sum
 }
@@ -108,7 +117,7 @@ fn and_shares<const D: usize>(values: &mut [u8], gadget: Gadget, ops: &[u16], ta
     cross_all(values, g, ops);
 }
 
-// Calls a function of a gadget's shares with their number as a const argument.
+// Calls a function of a gadget's shares with their number as a const argument; the last arm is 8, the most there are.
 macro_rules! by_shares {
     ($shares:ident($values:expr, $g:expr, $ops:expr, $tape:expr)) => {
         match $g.d {
@@ -136,7 +145,7 @@ pub(crate) fn and(values: &mut [u8], g: Gadget, ops: &[u16], tape: &[u8])
 // just before `at`; those of the higher shares are the row of i.
 fn add_masks(values: &[u8], g: Gadget, i: usize, word: u8) -> u8
     requires { (i < g.d) × (g.first + g.pairs ≤ length values.now) }
-    ensures { (s : ℕ) × Sums g.d g.first i word 0 i values.now s × Sums g.d g.first i s (i + 1) g.d values.now result }
+    ensures { Sums g.d g.first i word values.now result }
 {
     let mut sum = word;
     let mut at = g.first + i;
@@ -179,7 +188,7 @@ pub fn mask(values: &mut [u8], g: Gadget, ops: &[u16], tape: &[u8])
     by_shares!(mask_shares(values, g, ops, tape))
 }
 
-// REF's outputs, registers of the sums.
+// REF's outputs, registers of the sums. (copy_within was tried: of two and three shares it is slower.)
 fn holds(values: &mut [u8], g: Gadget)
     requires { held_at g.d g.first g.d ≤ length values.old }
     ensures { Fills (Held g.d g.first) (held_at g.d g.first 0) (held_at g.d g.first g.d) values.old values.new }
