@@ -146,6 +146,29 @@ module _ (table notes shares tape : List ℕ) (sheets : List (List ℕ)) (probes
     pub few : wires ≤ wire_limit
     pub probed : (x : ℕ) → In x probes → x < wires
 
+  passed_by : (room wires : ℕ) → Shortest room sheets → rule ≡ pass → wires ≡ size k → Passed room wires
+  unfolding call_rule
+  passed_by room wires s p w =
+      let first = (then_pass (checked table (length notes)).judgement _ p).0 in
+      let t = taken table notes first in
+      let (b, h1) = need_then (eqb (length shares) (k.inputs * k.d)) 15 0 0 _ (sym (rules-left room s first) ∙ p) in
+      let (c, h2) = need_then (eqb (length tape) k.randoms) 16 0 0 _ h1 in
+      let (d, h3) = need_then (leb wire_limit room) 17 0 0 _ h2 in
+      let (e, h4) = then_pass (bytes_rule 0 shares) _ h3 in
+      let (f, g) = then_pass (bytes_rule (0 + length shares) tape) _ h4 in
+      record {
+        passes = p;
+        of = t;
+        shared = eqb-true (length shares) (k.inputs * k.d) b ∙ ap (λ (c : Circuit). c.inputs * c.d) t.circuit_is;
+        drawn = eqb-true (length tape) k.randoms c ∙ ap (λ (c : Circuit). c.randoms) t.circuit_is;
+        share_bits = bits-pass 0 shares e;
+        tape_bits = bits-pass (0 + length shares) tape f;
+        roomy = leb-true wire_limit room d;
+        wires_are = w ∙ ap size t.circuit_is;
+        few = omega (arith, t.wires_few);
+        probed = λ x i. omega (arith, probes_pass k 0 probes g x i);
+      }
+
   -- its values are filled in, and its buffers hold what is said of the table's circuit
   pub evaluable : {room wires n : ℕ} → Passed room wires → room ≤ n → Evaluable table shares tape n
   evaluable p enough = record { accepted = p.of.accepted; shared = p.shared; drawn = p.drawn; roomy = omega arith }

@@ -27,6 +27,9 @@ refusal rule i (Some r) = refuse rule 0 (i + r)
 abbrev pub Passed : (ℕ → List ℕ → Judgement) → List ℕ → ℕ → Type 0
 Passed rule xs i = (n : ℕ) → rule n xs ≡ rule (n + i) (drop i xs)
 
+pub passed_start : (rule : ℕ → List ℕ → Judgement) (xs : List ℕ) → Passed rule xs 0
+passed_start rule xs n = simp add-zero
+
 -- a rule that asks the same of each element, in order: the first that breaks it is named
 pub record Asks (rule : ℕ → List ℕ → Judgement) (number : ℕ) (test : ℕ → Bool) : Type 0 where
   pub none : (n : ℕ) → rule n [] ≡ pass
