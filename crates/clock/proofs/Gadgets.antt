@@ -22,6 +22,10 @@ use Rattle.clock.specs.Internal.Running.{Clock, Runs}
 use Rattle.clock.specs.Internal.Parts.{Draws, Products, Rows, Holds, Framed}
 use Rattle.clock.proofs.Wires.{met, fill, upto_at}
 
+-- a random wire shows its bit of the tape
+random-shows : (k : Clock) (x n : ℕ) → x < k.size → k.gate x ≡ random → k.rank x ≡ n → k.shows x ≡ nth k.tape n
+random-shows k x n l e r = met k x l e refl ∙ ap (nth k.tape) r
+
 -- AND: r and R, then B, m and M, then the rows and the outputs. It takes no shares
 pub and_runs : (d first used randoms : ℕ) (ops tape : List ℕ) → randoms ≡ pairs d → {values bank one one_bank two two_bank new new_bank : List ℕ}
     → Runs (Draws tape used first randoms) first (first + 2 * randoms) values bank one one_bank
