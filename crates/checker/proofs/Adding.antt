@@ -1,12 +1,11 @@
 -- A frame added: where its form is judged, the counts fit and the code's answer is the definition's.
 use mathlib.Core.Path.{◌≡◌, refl, sym, ap, ap₂, ◌∙◌}
-use mathlib.Core.Bool.{false}
 use mathlib.Core.List.{List}
 use Prim.Native.Nat.{ℕ, ◌+◌, ◌-◌, ◌≤◌}
 use native.Mathlib.Omega.{arith}
 use lib.Dec.{leb}
 use lib.ListN.{length}
-use borrow.Author.Tests.{leb-true, le-leb}
+use borrow.Author.Tests.{leb-true}
 use Rattle.circuit.specs.Limits.{stage_limit, wire_limit}
 use Rattle.circuit.proofs.Base.{cases}
 use Rattle.frames.specs.declared.kinds.Form.{Form}
@@ -20,9 +19,9 @@ use Rattle.checker.specs.declared.notes.Made.{Made}
 use Rattle.checker.specs.declared.forms.Spot.{Spot}
 use Rattle.checker.specs.declared.span.Span.{Span}
 use Rattle.checker.specs.declared.frame.Tally.{Tally}
-use Rattle.checker.specs.Internal.Notes.{noted, inner_words, named_words}
+use Rattle.checker.specs.Internal.Notes.{noted}
 use Rattle.checker.specs.Internal.Spans.{span_in}
-use Rattle.checker.specs.Internal.Adding.{◌and_then◌, broken_in, wires_at, made_in, limit_broken, notes_with, Judges, numbers_of, with_frame, added_by, Bounded, Fitting, FrameOf, Adds}
+use Rattle.checker.specs.Internal.Adding.{◌and_then◌, broken_in, made_in, limit_broken, notes_with, Judges, numbers_of, with_frame, added_by, Bounded, Fitting, FrameOf, Adds}
 use Rattle.checker.proofs.MadeNotes.{word_count, numbers_in, Counts, counts}
 
 -- no rule is broken only where the new wires fit
@@ -30,11 +29,6 @@ within : (words : Result (Unit {0}) Spot) (m : Made) (wires : ℕ) → (words an
 within (Err s) m wires e = absurd (cc)
 within (Ok u) m wires e = cases (leb (wires + (m.inner + m.named)) wire_limit) (leb-true (wires + (m.inner + m.named)) wire_limit) (λ a.
     cases (leb m.stage stage_limit) (λ b. absurd (let h = rw (b, a) at e in cc)) (λ b. absurd (let h = rw b at e in cc)))
-
--- no wires are written where none are made
-pub nothing_made : (wires : ℕ) (old : List ℕ) → wires ≤ wire_limit → Judges (Ok tt) (wires_at 0 0 0 false) wires old old (Ok tt)
-unfolding inner_words named_words
-nothing_made wires old h = let e : wires + (0 + 0) ≡ wires = omega arith in record { spot_is = rw (e, le-leb wires wire_limit h); notes_are = refl }
 
 -- the words and the wires of a frame's form
 module _ {sh : ShapeCode} {d : ℕ} {ops : List ℕ} (o : FrameOf sh d ops) {form : Form} (e : sh.form ≡ form) where

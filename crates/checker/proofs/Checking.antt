@@ -44,7 +44,8 @@ unfolding head_rule
 head_judged table room = go (leb (length table) table_limit) (leb notes_room room) (leb 2 (length table) && eqb (nth table 0) 0) (leb fewest_shares (nth table 1) && leb (nth table 1) most_shares)
   where
     go : (a b c e : Bool) → (need a 1 0 0 then need b 2 0 0 then need c 3 0 0 then need e 4 0 1)
-        ≡ judged_by (cond a (cond b (cond c (cond e (Ok tt) (Err (refusal rule.ShareCount 0 1))) (Err (refusal rule.Head 0 0))) (Err (refusal rule.NotesLength 0 0))) (Err (refusal rule.TableLength 0 0)))
+        ≡ judged_by (cond a (cond b (cond c (cond e (Ok tt) (Err (refusal rule.ShareCount 0 1))) (Err (refusal rule.Head 0 0))) (Err (refusal rule.NotesLength 0 0)))
+        (Err (refusal rule.TableLength 0 0)))
     go false b c e = refl
     go true false c e = refl
     go true true false e = refl

@@ -26,7 +26,8 @@ row_turn look want w i row h =
 
 -- what a row breaks, by its wire i, and at its end
 module _ (look : ℕ → Result Named Rule) (want : Wanted) (w i : ℕ) (row : List ℕ) {r : Result (Unit {0}) Spot} (h : r ≡ row_broken look want (w + i) i (drop i row)) where
-  pub row_next : {s : Result (Unit {0}) Spot} → i < length row → at_word (w + i) (wire_asked (look (nth row i)) i want) ≡ s → r ≡ (s and_then row_broken look want (w + (i + 1)) (i + 1) (drop (i + 1) row))
+  pub row_next : {s : Result (Unit {0}) Spot} → i < length row → at_word (w + i) (wire_asked (look (nth row i)) i want) ≡ s
+      → r ≡ (s and_then row_broken look want (w + (i + 1)) (i + 1) (drop (i + 1) row))
   row_next l e = rw (← e) (h ∙ row_turn look want w i row l)
 
   pub row_end : length row ≤ i → r ≡ Ok tt

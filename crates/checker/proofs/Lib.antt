@@ -3,7 +3,6 @@ pub mod Spots
 pub mod Judged
 pub mod Mapped
 -- The words of a form
-pub mod Lookups
 pub mod Words
 -- Wires in the notes
 pub mod Stores

@@ -65,14 +65,14 @@ pub record Counts (d : ℕ) (kind : Kind) (look : ℕ → Result Named Rule) (op
 pub counts : (d : ℕ) (kind : Kind) (look : ℕ → Result Named Rule) (ops : List ℕ) → Counts d kind look ops
 unfolding shape
 counts d HEAD look ops = record { form_later = λ h e. h refl; words_are = refl; numbers_are = refl; wires_are = refl; randoms_few = omega arith; inputs_few = omega arith }
-counts d IN look ops = record { form_later = λ h e. let z : ◌≡◌ {A = ℕ} 0 1 = cc in omega arith; words_are = refl; numbers_are = refl; wires_are = omega arith; randoms_few = omega arith; inputs_few = omega arith }
-counts d CON look ops = record { form_later = λ h e. let z : ◌≡◌ {A = ℕ} 0 1 = cc in omega arith; words_are = refl; numbers_are = refl; wires_are = refl; randoms_few = omega arith; inputs_few = omega arith }
-counts d XOR look ops = record { form_later = λ h e. let z : ◌≡◌ {A = ℕ} 0 1 = cc in omega arith; words_are = refl; numbers_are = refl; wires_are = refl; randoms_few = omega arith; inputs_few = omega arith }
-counts d NOT look ops = record { form_later = λ h e. let z : ◌≡◌ {A = ℕ} 0 1 = cc in omega arith; words_are = refl; numbers_are = refl; wires_are = refl; randoms_few = omega arith; inputs_few = omega arith }
-counts d REG look ops = record { form_later = λ h e. let z : ◌≡◌ {A = ℕ} 0 1 = cc in omega arith; words_are = refl; numbers_are = refl; wires_are = refl; randoms_few = omega arith; inputs_few = omega arith }
-counts d AND look ops = record { form_later = λ h e. let z : ◌≡◌ {A = ℕ} 0 1 = cc in omega arith; words_are = words-AND d; numbers_are = refl; wires_are = omega arith; randoms_few = omega arith; inputs_few = omega arith }
-counts d REF look ops = record { form_later = λ h e. let z : ◌≡◌ {A = ℕ} 0 1 = cc in omega arith; words_are = words-REF d; numbers_are = refl; wires_are = omega arith; randoms_few = omega arith; inputs_few = omega arith }
-counts d OUT look ops = record { form_later = λ h e. let z : ◌≡◌ {A = ℕ} 0 1 = cc in omega arith; words_are = words-OUT d; numbers_are = refl; wires_are = refl; randoms_few = omega arith; inputs_few = omega arith }
+counts d IN look ops = record { form_later = λ h e. cc; words_are = refl; numbers_are = refl; wires_are = omega arith; randoms_few = omega arith; inputs_few = omega arith }
+counts d CON look ops = record { form_later = λ h e. cc; words_are = refl; numbers_are = refl; wires_are = refl; randoms_few = omega arith; inputs_few = omega arith }
+counts d XOR look ops = record { form_later = λ h e. cc; words_are = refl; numbers_are = refl; wires_are = refl; randoms_few = omega arith; inputs_few = omega arith }
+counts d NOT look ops = record { form_later = λ h e. cc; words_are = refl; numbers_are = refl; wires_are = refl; randoms_few = omega arith; inputs_few = omega arith }
+counts d REG look ops = record { form_later = λ h e. cc; words_are = refl; numbers_are = refl; wires_are = refl; randoms_few = omega arith; inputs_few = omega arith }
+counts d AND look ops = record { form_later = λ h e. cc; words_are = words-AND d; numbers_are = refl; wires_are = omega arith; randoms_few = omega arith; inputs_few = omega arith }
+counts d REF look ops = record { form_later = λ h e. cc; words_are = words-REF d; numbers_are = refl; wires_are = omega arith; randoms_few = omega arith; inputs_few = omega arith }
+counts d OUT look ops = record { form_later = λ h e. cc; words_are = words-OUT d; numbers_are = refl; wires_are = refl; randoms_few = omega arith; inputs_few = omega arith }
 
 -- the words of wires in the notes
 pub notes-append : (xs ys : List Wire) → notes_of (xs ++ ys) ≡ notes_of xs ++ notes_of ys

@@ -9,15 +9,7 @@ use Rattle.circuit.specs.Limits.{inner_note}
 use Rattle.circuit.proofs.Base.{stores_append}
 use Rattle.checker.specs.Internal.Notes.{inner_words, named_words}
 
--- before the first turn
-pub store_start : (n : List ℕ) (from label count : ℕ) (words : ℕ → ℕ → List ℕ) → sets n (2 * from) (words label count) ≡ sets n (2 * from + 0) (words (label + 0) (count - 0))
-store_start n from label count words =
-    let p : 2 * from + 0 ≡ 2 * from = omega arith in
-    let l : label + 0 ≡ label = omega arith in
-    let k : count - 0 ≡ count = omega arith in
-    rw (p, l, k)
-
--- one turn
+-- two words stored
 pub store_turn : (n : List ℕ) (from i a b : ℕ) (ws rest : List ℕ) → ws ≡ a ∷ b ∷ rest
     → sets n (2 * from + 2 * i) ws ≡ sets (set (set n (2 * from + 2 * i) a) (2 * from + 2 * i + 1) b) (2 * from + 2 * (i + 1)) rest
 store_turn n from i a b ws rest e =

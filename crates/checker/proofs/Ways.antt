@@ -41,11 +41,13 @@ use Rattle.checker.proofs.Checking.{Promised, Walking, here, AtFrame, met}
 
 module _ {table notes₀ notes : List ℕ} {d : ℕ} {walk : Walk} {tally : Tally} (w : Walking table notes₀ notes d walk tally) where
   -- the random bits that the step is given are those of a gadget
-  pub stepped : {randoms : ℕ} {r : Result (Option Next) Rule} → randoms ≡ listed_pairs d → r ≡ step_with (shape_taking randoms walk.d) table walk.d walk.at → r ≡ step_at table walk.d walk.at
+  pub stepped : {randoms : ℕ} {r : Result (Option Next) Rule} → randoms ≡ listed_pairs d → r ≡ step_with (shape_taking randoms walk.d) table walk.d walk.at
+      → r ≡ step_at table walk.d walk.at
   stepped {randoms} g e = right_step table randoms walk.d walk.at e (g ∙ listed-right d (omega (arith, w.shares, w.most)) ∙ ap pairs (sym w.walk_shares))
 
   -- the rest of the table judged ends the check
-  ends : (c : Checked) → frames w.k tally.frames 0 (drop walk.at table) ≡ c → c.circuit ≡ w.k → (v : Result Accepted Refusal) → answer_of v ≡ answer c.circuit c.judgement → InputsAre v c.circuit.inputs
+  ends : (c : Checked) → frames w.k tally.frames 0 (drop walk.at table) ≡ c → c.circuit ≡ w.k
+      → (v : Result Accepted Refusal) → answer_of v ≡ answer c.circuit c.judgement → InputsAre v c.circuit.inputs
       → Promised table notes₀ notes v
   ends c e s v a n = rw (w.rest, e) (a, (w.notes_is ∙ ap (λ k. notes_after k notes₀) (sym s), n))
 

@@ -33,7 +33,8 @@ module _ (k : Circuit) where
   past : (x : ℕ) → size k ≤ x → look_up k x ≡ hidden
   past x h = ap shown_by (get_or-eq_default k.wires _ h)
 
-  found_by : {A : Type 0} (f : Result Named Rule → A) (g : Lookup → A) → f (Err rule.MissingWire) ≡ g hidden → ((p : Lookup) → f (shown p) ≡ g p) → (x : ℕ) → f (found_of k x) ≡ g (look_up k x)
+  found_by : {A : Type 0} (f : Result Named Rule → A) (g : Lookup → A) → f (Err rule.MissingWire) ≡ g hidden → ((p : Lookup) → f (shown p) ≡ g p)
+      → (x : ℕ) → f (found_of k x) ≡ g (look_up k x)
   found_by f g e h x = cases (ltb x (size k)) (λ l. rw l (h (look_up k x))) (λ l. rw (l, past x (ltb-false x (size k) l)) e)
 
   label-shown : (p : Lookup) → label_found (shown p) ≡ label_shown p
@@ -77,7 +78,8 @@ module _ (k : Circuit) (f : ℕ) (ops : List ℕ) where
       tests false b register c = refl
 
       go : (b : Bool) (p : Lookup) → judged_at f (at_word w (wire_asked (cond b (shown p) (Err rule.MissingWire)) l want))
-          ≡ ((need b 8 f w then need (is_named p) 9 f w then need (eqb (label_shown p) l) 10 f w then need (eqb (stage_shown p + want.ahead) want.stage) 11 f w) then asked want.registered (is_registered p) w)
+          ≡ ((need b 8 f w then need (is_named p) 9 f w then need (eqb (label_shown p) l) 10 f w then need (eqb (stage_shown p + want.ahead) want.stage) 11 f w)
+          then asked want.registered (is_registered p) w)
       go false p = refl
       go true hidden = refl
       go true (found a s c) = tests (eqb a l) (eqb (s + want.ahead) want.stage) want.registered c
@@ -138,7 +140,8 @@ module _ (k : Circuit) (f : ℕ) where
       let firsts = length-take-le d xs (omega arith) in
       judged_then f (row_broken (found_of k) (wanted t 0 false) 2 0 (take d xs)) (row_broken (found_of k) (wanted t 1 false) (2 + d) 0 (drop d xs))
       ∙ ap₂ ◌then◌ (row_is k f ops (λ i. share i 1) (wanted t 0 false) (share-is k f ops 1) 2 0 d (take d xs) firsts)
-      (row_is k f ops (λ i. before i 1) (wanted t 1 false) (before-is k f ops 1) (2 + d) 0 d (drop d xs) (omega (arith, length-drop d xs)) ∙ ap (λ n. words_rule k f ops (2 + n) (row before 1 d) (drop d xs)) (sym firsts))
+      (row_is k f ops (λ i. before i 1) (wanted t 1 false) (before-is k f ops 1) (2 + d) 0 d (drop d xs) (omega (arith, length-drop d xs))
+      ∙ ap (λ n. words_rule k f ops (2 + n) (row before 1 d) (drop d xs)) (sym firsts))
       ∙ sym (words_append k f ops 2 (row share 1 d) (row before 1 d) (take d xs) (drop d xs) (omega (arith, row-length share 1 d)))
       ∙ ap (words_rule k f ops 2 (row share 1 d ++ row before 1 d)) (take-append-drop d xs)
 
@@ -159,11 +162,14 @@ module _ (k : Circuit) (f : ℕ) where
   words_are Product [] h e = absurd (omega arith)
   words_are Product (x ∷ xs) h e =
       let t = stage_found (found_of k (nth (x ∷ xs) 1)) in
-      word_then f 1 (random_asked k.randoms x) (row_broken (found_of k) (wanted t 0 false) 2 0 (take k.d xs) and_then row_broken (found_of k) (wanted t 1 false) (2 + k.d) 0 (drop k.d xs)) (tested (eqb x k.randoms) rule.FirstRandom f 1)
+      word_then f 1 (random_asked k.randoms x) (row_broken (found_of k) (wanted t 0 false) 2 0 (take k.d xs) and_then row_broken (found_of k) (wanted t 1 false) (2 + k.d) 0 (drop k.d xs))
+      (tested (eqb x k.randoms) rule.FirstRandom f 1)
       (rows_are (x ∷ xs) xs (omega (arith, length-append (row share 1 k.d) (row before 1 k.d), row-length share 1 k.d, row-length before 1 k.d)))
   words_are Refresh [] h e = absurd (omega arith)
   words_are Refresh (x ∷ xs) h e =
       let t = stage_found (found_of k (nth (x ∷ xs) 1)) in
       word_then f 1 (random_asked k.randoms x) (row_broken (found_of k) (wanted t 0 false) 2 0 xs) (tested (eqb x k.randoms) rule.FirstRandom f 1)
       (row_is k f (x ∷ xs) (λ i. share i 1) (wanted t 0 false) (share-is k f (x ∷ xs) 1) 2 0 k.d xs (omega (arith, row-length share 1 k.d)))
-  words_are Row ops h e = let t = stage_found (found_of k (nth ops 0)) in row_is k f ops (λ i. registered i 0) (wanted t 0 true) (registered-is k f ops 0) 1 0 k.d ops (e ∙ row-length registered 0 k.d)
+  words_are Row ops h e =
+      let t = stage_found (found_of k (nth ops 0)) in
+      row_is k f ops (λ i. registered i 0) (wanted t 0 true) (registered-is k f ops 0) 1 0 k.d ops (e ∙ row-length registered 0 k.d)

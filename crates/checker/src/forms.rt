@@ -4,7 +4,8 @@ ghost use Rattle.std.specs.Prelude.{◌≡◌, ◌+◌, ◌-◌, ◌≤◌, ◌<
 ghost use Rattle.circuit.specs.Limits.{most_shares};
 ghost use Rattle.circuit.specs.Lists.{nth};
 ghost use Rattle.checker.specs.Internal.Notes.{Room, noted, wanted, label_found, stage_found};
-ghost use Rattle.checker.specs.Internal.Adding.{spot, at_word, ◌and_then◌, stage_asked, label_asked, value_asked, like_asked, row_broken, product_broken, refresh_broken, gadget_after, wires_at, Judges};
+ghost use Rattle.checker.specs.Internal.Adding.{spot, at_word, ◌and_then◌, stage_asked, label_asked, value_asked, like_asked};
+ghost use Rattle.checker.specs.Internal.Adding.{row_broken, product_broken, refresh_broken, gadget_after, wires_at, Judges};
 
 use super::notes;
 use super::notes::{Made, Wanted};

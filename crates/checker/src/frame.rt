@@ -6,7 +6,7 @@ ghost use Rattle.checker.specs.Internal.Adding.{accepted_by, head_alone, numbers
 use super::forms::Spot;
 use super::notes::stage_shown;
 use super::span::Span;
-use super::{Accepted, forms, span};
+use super::{Accepted, forms};
 use circuit::Refusal;
 use frames::kinds::{Form, Shape};
 
@@ -21,6 +21,19 @@ pub struct Tally {
 }
 
 impl Tally {
+    // HEAD by itself.
+    pub(crate) fn head_alone() -> Self
+        ensures { result ≡ head_alone }
+    {
+        Tally {
+            frames: 1,
+            wires: 0,
+            randoms: 0,
+            span: Span::none(),
+            inputs: 0,
+        }
+    }
+
     // With one frame more: so many wires, random bits and INs.
     fn grown(self, wires: usize, randoms: usize, inputs: usize, span: Span) -> Tally
         requires { Fitting self (numbers wires randoms inputs) }
@@ -56,19 +69,6 @@ impl Tally {
             latency: self.span.latency(),
             inputs: self.inputs,
         }
-    }
-}
-
-// HEAD by itself.
-pub(crate) fn head_alone() -> Tally
-    ensures { result ≡ head_alone }
-{
-    Tally {
-        frames: 1,
-        wires: 0,
-        randoms: 0,
-        span: span::none(),
-        inputs: 0,
     }
 }
 

@@ -15,6 +15,7 @@ mod span;
 
 use circuit::{Refusal, Rule};
 use forms::Spot;
+use frame::Tally;
 use frames::randoms::random_bits;
 use frames::walk::Walk;
 
@@ -57,7 +58,8 @@ fn check_frames(table: &[u16], notes: &mut [u16]) -> Result<Accepted, Refusal>
     let d = table[1];
     let randoms = random_bits(d);
     let mut walk = Walk { d, at: 2 };
-    let mut tally = frame::head_alone();
+    let mut tally = Tally::head_alone();
+    // a while, since each frame's words tell where the next one begins
     while let Some(next) = walk
         .step(table, randoms)
         .map_err(|rule| tally.refused(Spot { rule, word: 0 }))?

@@ -4,7 +4,8 @@ ghost use Rattle.std.specs.Prelude.{◌≡◌, ◌+◌, ◌*◌, ◌≤◌, ◌<
 ghost use Rattle.std.proofs.lemmas.List.Edits.{sets};
 ghost use Rattle.circuit.specs.Limits.{most_shares};
 ghost use Rattle.circuit.specs.Answer.{label_noted};
-ghost use Rattle.checker.specs.Internal.Notes.{Room, noted, stage_found, wanted, wire_asked, first_word, inner_words, named_words, made_words};
+ghost use Rattle.checker.specs.Internal.Notes.{Room, noted, stage_found, wanted, wire_asked};
+ghost use Rattle.checker.specs.Internal.Notes.{first_word, inner_words, named_words, made_words};
 
 use circuit::Rule;
 
@@ -85,7 +86,7 @@ pub fn label(notes: &[u16], wire: u16) -> u16
     notes[2 * w] % REGISTERED
 }
 
-// The stage that a wire shows; 0 where it shows none.
+// The stage that a wire shows; 0 where it shows none, and then the row that names the wire is refused for it.
 pub(crate) fn stage_shown(notes: &[u16], wires: usize, wire: u16) -> u16
     requires { Room wires notes.now }
     ensures { result ≡ stage_found (noted notes.now wires wire) }

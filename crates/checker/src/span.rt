@@ -10,17 +10,17 @@ pub struct Span {
     pub highest: usize,
 }
 
-// Of no frames.
-pub(crate) fn none() -> Span
-    ensures { result ≡ no_span }
-{
-    Span {
-        lowest: circuit::LAST_STAGE + 1,
-        highest: 0,
-    }
-}
-
 impl Span {
+    // Of no frames.
+    pub(crate) fn none() -> Self
+        ensures { result ≡ no_span }
+    {
+        Span {
+            lowest: circuit::LAST_STAGE + 1,
+            highest: 0,
+        }
+    }
+
     // With an IN at a stage, which is a word of the table.
     pub(crate) fn with_input(self, stage: u16) -> Span
         ensures { result ≡ with_input self stage }

@@ -23,7 +23,8 @@ use Rattle.evaluation.proofs.Refusals.{refusal, over_first, first_within, none_o
 use Rattle.clock.specs.Internal.Whole.{wires_of, AllBits, Clocked}
 
 -- where no byte of a wire is over 1, none of a register is
-pub none_over_bank : (table bank : List ℕ) {wires : ℕ} → wires ≡ size (circuit_in table) → ((x : ℕ) → x < wires → nth bank x ≤ 1) → None ≡ position (λ b. ltb 1 b) (register_bytes (wires_of table) bank)
+pub none_over_bank : (table bank : List ℕ) {wires : ℕ} → wires ≡ size (circuit_in table) → ((x : ℕ) → x < wires → nth bank x ≤ 1)
+    → None ≡ position (λ b. ltb 1 b) (register_bytes (wires_of table) bank)
 none_over_bank table bank all few =
     let ws = wires_of table in
     none_over (register_bytes ws bank) (λ x l.

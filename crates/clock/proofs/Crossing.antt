@@ -47,7 +47,8 @@ module _ (values bank : List ℕ) (at a b r held u v w : ℕ) (u-gate : u ≡ bi
   pub crosses : Crosses at a b r held values bank shown kept (bit_xor (nth shown (at + 1)) (nth shown (at + 5)))
   crosses = record {
     on = λ k x y z few g a_is b_is r_is held-is c. let all = six k x y z few g a_is b_is r_is held-is c in (all, ap₂ bit_xor (all.below (at + 1) (omega arith)) (all.below (at + 5) (omega arith)));
-    above = λ x l. get_or-set_other (set (set values at u) (at + 2) v) (at + 4) x w 0 (omega arith) ∙ get_or-set_other (set values at u) (at + 2) x v 0 (omega arith) ∙ get_or-set_other values at x u 0 (omega arith);
+    above = λ x l. get_or-set_other (set (set values at u) (at + 2) v) (at + 4) x w 0 (omega arith)
+        ∙ get_or-set_other (set values at u) (at + 2) x v 0 (omega arith) ∙ get_or-set_other values at x u 0 (omega arith);
   }
     where
       six : (k : Clock) (x y z : ℕ) → at + 6 ≤ k.size → CrossGates at x y z k.gate

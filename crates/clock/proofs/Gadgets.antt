@@ -39,7 +39,8 @@ and_runs d first used randoms ops tape same draws products rows from shares =
           let gates = g.gates in
           let room : out_at d first d ≤ k.size = omega (arith, g.within) in
           let fed : (q : ℕ) → q < pairs d → k.shows (first + 2 * q) ≡ nth tape (used + q) = λ q h.
-          random-shows k (first + 2 * q) (used + q) (omega (arith, twice)) (gates.draws q h).0 (pairs-rank k.size k.gate k.rank k.ranks first used (pairs d) g.drawn gates.draws (omega (arith, twice)) q (omega arith)) ∙ ap (λ t. nth t (used + q)) g.tape_is in
+          random-shows k (first + 2 * q) (used + q) (omega (arith, twice)) (gates.draws q h).0
+          (pairs-rank k.size k.gate k.rank k.ranks first used (pairs d) g.drawn gates.draws (omega (arith, twice)) q (omega arith)) ∙ ap (λ t. nth t (used + q)) g.tape_is in
           let drawn = draws.on k (omega (arith, twice), λ q l. let h : q < pairs d = omega arith in ((gates.draws q h).0, (gates.draws q h).1, fed q h)) u in
           let multiplied = products.on k (omega arith, gates.products) (upto_at (omega (arith, twice)) drawn) in
           upto_at (omega arith) (rows.on k (room, gates.crosses, gates.outs) (upto_at (omega arith) multiplied));
@@ -56,7 +57,8 @@ ref_runs d first used ops tape masks holds from shares = record {
       let gates = g.gates in
       let room : held_at d first d ≤ k.size = omega (arith, g.within) in
       let drawn : (q : ℕ) → q < pairs d → k.shows (first + q) ≡ nth tape (used + q) = λ q l.
-      random-shows k (first + q) (used + q) (omega arith) (gates.draws q l) (masks_rank k.size k.gate k.rank k.ranks first used (pairs d) g.drawn gates.draws (omega arith) q (omega arith)) ∙ ap (λ t. nth t (used + q)) g.tape_is in
+      random-shows k (first + q) (used + q) (omega arith) (gates.draws q l)
+      (masks_rank k.size k.gate k.rank k.ranks first used (pairs d) g.drawn gates.draws (omega arith) q (omega arith)) ∙ ap (λ t. nth t (used + q)) g.tape_is in
       let sums : (i : ℕ) → i < d → k.shows (sum_at d first i) ≡ bit_xor (k.shows (word_a ops i)) _ = λ i l.
       met k (sum_at d first i) (omega arith) (gates.sums i l) refl ∙ ap (bit_xor (k.shows (word_a ops i))) (word_sum-map k.shows (λ j. mask_at d first i j) (others d i)) in
       let added = fill u masks (omega arith) (omega arith) (record { drawn = drawn; masked = sums }) (λ x l m. cases (ltb x (first + pairs d))

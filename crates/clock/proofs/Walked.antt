@@ -49,7 +49,8 @@ module _ {table : List ℕ} (a : AcceptedTable table) {shares tape values : List
   pub clock_start : Upto clock_of 0 values bank
   clock_start = record {
     below = λ x l. absurd (omega arith);
-    registers = λ x l r. sym (register_shows (whole a).wires (whole_ordered a) values shares tape x l r (b.shown_bits x (omega (arith, ap size a.circuit_is)) (subst (λ (k : Circuit). is_register (gate_at k.wires x) ≡ true) (sym a.circuit_is) r)));
+    registers = λ x l r. sym (register_shows (whole a).wires (whole_ordered a) values shares tape x l r
+        (b.shown_bits x (omega (arith, ap size a.circuit_is)) (subst (λ (k : Circuit). is_register (gate_at k.wires x) ≡ true) (sym a.circuit_is) r)));
     above = λ x l. refl;
     held_below = λ x l. absurd (omega arith);
     held_above = λ x l. refl;

@@ -1,5 +1,6 @@
 // AND and REF on one clock. The buffer of values holds what every register shows; the bank gets what each shows on the next clock, which is
-// what its operand shows on this one. Capital letters are registers, as in document 01.
+// what its operand shows on this one. Capital letters are registers, as in document 01. (One code with simulation's AND was tried and is
+// slower: an evaluation has at hand what R, B and V show, and a clock reads it.)
 ghost use Rattle.std.specs.Prelude.{◌≡◌, List, ℕ, ◌+◌, ◌-◌, ◌*◌, ◌≤◌, ◌<◌, length};
 ghost use Rattle.gadgets.specs.Internal.Places.{word_a, word_b, product_at, cross_start, out_at, held_at};
 ghost use Rattle.gadgets.specs.Internal.Frames.{FrameEarly, Roomy, frame_wires};
@@ -41,8 +42,8 @@ fn share_products(values: &mut [u8], bank: &mut [u8], g: Gadget, ops: &[u16])
     }
 }
 
-// AND's wires u, v and w, and what U, V and W show next, of two shares, from the words of a, b, r and what R shows. The answer is the sum of
-// what U and W show.
+// AND's wires u, v and w, and what U, V and W show next, of two shares, from the words of a, b, r and what R shows. The answer is the sum
+// of what U and W show.
 fn cross(values: &mut [u8], bank: &mut [u8], at: usize, a: u8, b: u8, r: u8, shown: u8) -> u8
     requires { (at + 6 ≤ length values.old) × (at + 6 ≤ length bank.old) }
     ensures { Crosses at a b r shown values.old bank.old values.new bank.new result }
@@ -59,7 +60,8 @@ fn cross(values: &mut [u8], bank: &mut [u8], at: usize, a: u8, b: u8, r: u8, sho
     values[at + 1] ^ values[at + 5]
 }
 
-// The same of the share i and every other, added to a word.
+// The same of the share i and of each share j with from <= j < to, added to a word. (One loop over all shares that passes over i was tried
+// and is slower.)
 fn cross_row(
     values: &mut [u8],
     bank: &mut [u8],
@@ -68,15 +70,14 @@ fn cross_row(
     ops: &[u16],
     a: u8,
     word: u8,
+    from: usize,
+    to: usize,
 ) -> u8
-    requires { (i < g.d) × FrameEarly frame.And g.d g.first ops.now × Roomy g.d g.first values.old × Roomy g.d g.first bank.old }
-    ensures { CrossesRow g.d g.first i (word_b g.d ops.now) a word values.old bank.old values.new bank.new result }
+    requires { (i < g.d) × (to ≤ g.d) × FrameEarly frame.And g.d g.first ops.now × Roomy g.d g.first values.old × Roomy g.d g.first bank.old × ((j : ℕ) → from ≤ j → j < to → j ≡ i → ⊥) × (from ≤ to) }
+    ensures { CrossesRow g.d g.first i (word_b g.d ops.now) a word from to values.old bank.old values.new bank.new result }
 {
     let mut sum = word;
-    for j in 0..g.d {
-        if j == i {
-            continue;
-        }
+    for j in from..to {
         let pair = g.pair_at(i, j);
         let r = values[pair];
         let shown = values[pair + 1];
@@ -94,11 +95,13 @@ fn cross_all(values: &mut [u8], bank: &mut [u8], g: Gadget, ops: &[u16])
     for i in 0..g.d {
         let a = values[places::word_a(ops, i)];
         let m = values[g.product_at(i) + 2];
-        values[g.out_at(i)] = cross_row(values, bank, g, i, ops, a, m);
+        let lower = cross_row(values, bank, g, i, ops, a, m, 0, i);
+        values[g.out_at(i)] = cross_row(values, bank, g, i, ops, a, lower, i + 1, g.d);
     }
 }
 
-// AND.
+// AND. It stays out of the loop over frames, which is faster for the other frames.
+#[inline(never)]
 pub(crate) fn and(values: &mut [u8], bank: &mut [u8], g: Gadget, ops: &[u16], tape: &[u8])
     requires { Takes frame.And g ops.now tape.now values.old × (g.first + frame_wires frame.And g.d ≤ length bank.old) }
     ensures { (from : ℕ) (shares : List ℕ) → Runs (Framed frame.And g.d g.first from g.used ops.now shares tape.now) g.first (g.first + frame_wires frame.And g.d) values.old bank.old values.new bank.new }

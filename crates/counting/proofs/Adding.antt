@@ -60,7 +60,8 @@ adds-few {f} {m} {old} {new} a w n = cases (ltb n 256)
     (λ b. omega (arith, get_or-eq_default new 0 {n = n} (omega (arith, ltb-false n 256 b, a.sized))))
 
 -- so there is room for those that are left; and where none are left, all are counted
-pub adds-room : {f : ℕ → ℕ} {done lanes room : ℕ} {old new : List ℕ} → Adds f done old new → length old ≡ 256 → ((n : ℕ) → nth old n + lanes < room) → (count : ℕ) → done + count ≤ lanes
+pub adds-room : {f : ℕ → ℕ} {done lanes room : ℕ} {old new : List ℕ} → Adds f done old new → length old ≡ 256 → ((n : ℕ) → nth old n + lanes < room)
+    → (count : ℕ) → done + count ≤ lanes
     → (n : ℕ) → nth new n + count < room
 adds-room a w h count l n = omega (arith, adds-few a w n, h n)
 

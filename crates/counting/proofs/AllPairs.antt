@@ -33,7 +33,8 @@ use Rattle.counting.proofs.Solved.{Solution, solved, solution}
 use Rattle.counting.proofs.Preparing.{Given, valued}
 use Rattle.counting.proofs.Tallying.{number_placed}
 
-module _ {table secrets read sums terms : List ℕ} {outputs : ℕ} {plan : Plan} (p : Prepared table secrets read sums terms outputs plan) {factors : ℕ} (sv : Surveyed sums terms read outputs factors) (second : Bool) where
+module _ {table secrets read sums terms : List ℕ} {outputs : ℕ} {plan : Plan} (p : Prepared table secrets read sums terms outputs plan) {factors : ℕ}
+    (sv : Surveyed sums terms read outputs factors) (second : Bool) where
   abbrev found : ℕ
   found = length read
 
@@ -105,12 +106,14 @@ module _ {table secrets read sums terms : List ℕ} {outputs : ℕ} {plan : Plan
       set_at n e = ap (λ y. lane_bit y sv.needed) (sym e) ∙ d
 
       out : (n : ℕ) → s ≡ 18 + n → n < outputs → f hi s ≡ f lo s
-      out n e h = ap (f hi) e ∙ (solves hi).outs n h ∙ product-same n (p.expanded.before n (omega arith) h) (sv.outs n (omega arith) h) (set_at n e) (λ t l. lower t (omega arith)) ∙ sym (ap (f lo) e ∙ (solves lo).outs n h)
+      out n e h = ap (f hi) e ∙ (solves hi).outs n h
+          ∙ product-same n (p.expanded.before n (omega arith) h) (sv.outs n (omega arith) h) (set_at n e) (λ t l. lower t (omega arith)) ∙ sym (ap (f lo) e ∙ (solves lo).outs n h)
 
       inner : (i : ℕ) → s ≡ 50 + i → i < found → f hi s ≡ f lo s
       inner i e h =
           let n = 32 + i in
-          ap (f hi) e ∙ (solves hi).reads i h ∙ product-same n (p.expanded.reads_before n (omega arith) (omega arith)) (sv.inner n (omega arith) (omega arith)) (set_at n (omega arith)) (λ t l. lower t (omega arith))
+          ap (f hi) e ∙ (solves hi).reads i h ∙ product-same n (p.expanded.reads_before n (omega arith) (omega arith)) (sv.inner n (omega arith) (omega arith))
+          (set_at n (omega arith)) (λ t l. lower t (omega arith))
           ∙ sym (ap (f lo) e ∙ (solves lo).reads i h)
 
       rest : 18 ≤ s → (s < 18 + outputs → ⊥) → (50 ≤ s → s < 50 + found → ⊥) → f hi s ≡ f lo s
@@ -154,7 +157,8 @@ module _ {table secrets read sums terms : List ℕ} {outputs : ℕ} {plan : Plan
     number_shifted : number_with k set read hi ≡ bit_xor (number_with k set read lo) (shift_in sums read x)
     number_shifted =
         number_placed (at (values_with k set hi)) read
-        ∙ number_flipped (λ i. at (values_with k set lo) (nth read i)) (λ i. at (values_with k set hi) (nth read i)) (λ i. lane_bit x (nth sums (nth read i))) (range 0 found) (λ i h. wire_flipped i (omega (arith, range_in i 0 found h)))
+        ∙ number_flipped (λ i. at (values_with k set lo) (nth read i)) (λ i. at (values_with k set hi) (nth read i)) (λ i. lane_bit x (nth sums (nth read i))) (range 0 found)
+        (λ i h. wire_flipped i (omega (arith, range_in i 0 found h)))
         ∙ ap (λ n. bit_xor n (shift_in sums read x)) (sym (number_placed (at (values_with k set lo)) read))
 
   -- all pairs
@@ -169,7 +173,8 @@ module _ {table secrets read sums terms : List ℕ} {outputs : ℕ} {plan : Plan
     all_shifted = shifted varied (nth shifts) (number_with k set wires) plan.free
         (λ pre bs e linear. number_shifted pre bs e linear ∙ ap (bit_xor (number_with k set wires (pre ++ false ∷ bs))) (sym (sh.are (length pre) (omega arith)))) plan.free 0 [] refl (omega arith)
 
-    counted-all : {tally : List ℕ} → TalliedSome table (set_of table second secrets) wires factors plan.free tally → (n : ℕ) → n < 2 ^ found → folded varied (nth shifts) plan.free 0 (nth tally) n ≡ shown_of k set wires n
+    counted-all : {tally : List ℕ} → TalliedSome table (set_of table second secrets) wires factors plan.free tally → (n : ℕ) → n < 2 ^ found
+        → folded varied (nth shifts) plan.free 0 (nth tally) n ≡ shown_of k set wires n
     counted-all {tally} t n l =
         let ones : List Bool → ℕ = λ bs. cond (eqb (number_with k set wires bs) n) 1 0 in
         fold_same varied (nth shifts) found sh.low plan.free 0 (nth tally) (some varied (nth shifts) plan.free 0 (number_with k set wires))
@@ -177,10 +182,17 @@ module _ {table secrets read sums terms : List ℕ} {outputs : ℕ} {plan : Plan
         ∙ sym (fold_all varied (nth shifts) plan.free 0 (number_with k set wires) all_shifted n)
         ∙ ap (λ m. sum_bits m ones) p.planned.free_is ∙ sum-numbers (free_bits k) ones
 
-    pub counted-few : {tally : List ℕ} → TalliedSome table (set_of table second secrets) wires factors plan.free tally → (n : ℕ) → n < 2 ^ found → folded varied (nth shifts) plan.free 0 (nth tally) n ≤ 65536
-    counted-few {tally} t n l = omega (arith, counted-all t n l, few_ones (2 ^ free_bits k) (λ u. eqb (number_with k set wires (free_of (free_bits k) u)) n), pow_mono 16 (free_bits k) (p.countable second).few)
+    pub counted-few : {tally : List ℕ} → TalliedSome table (set_of table second secrets) wires factors plan.free tally → (n : ℕ) → n < 2 ^ found
+        → folded varied (nth shifts) plan.free 0 (nth tally) n ≤ 65536
+    counted-few {tally} t n l = omega (
+      arith,
+      counted-all t n l,
+      few_ones (2 ^ free_bits k) (λ u. eqb (number_with k set wires (free_of (free_bits k) u)) n),
+      pow_mono 16 (free_bits k) (p.countable second).few,
+    )
 
-    pub tallied_all : {tally new : List ℕ} → TalliedSome table (set_of table second secrets) wires factors plan.free tally → Remade (folded varied (nth shifts) plan.free 0 (nth tally)) (2 ^ found) tally new
+    pub tallied_all : {tally new : List ℕ} → TalliedSome table (set_of table second secrets) wires factors plan.free tally
+        → Remade (folded varied (nth shifts) plan.free 0 (nth tally)) (2 ^ found) tally new
         → Tallied table (set_of table second secrets) wires new
     tallied_all {tally} {new} t r =
         record {

@@ -6,7 +6,6 @@ use native.Mathlib.Nat.{mul-le-mul_right}
 use native.Mathlib.Omega.{arith}
 use lib.ListN.{length}
 use lib.Pow.{pow-add}
-use Rattle.semantics.specs.Counts.{free_bits}
 use Rattle.circuit.specs.Lists.{nth}
 use Rattle.circuit.specs.Circuit.{Circuit, empty}
 use Rattle.circuit.proofs.Building.{build-shares}
@@ -41,12 +40,6 @@ some-shares a = omega (arith, d_is a, a.least)
 pub second_is : {table : List ℕ} (a : AcceptedTable table) → nth table 1 ≡ (circuit_in table).d
 second_is a = second_word a ∙ sym (d_is a)
 
-pub second-least : {table : List ℕ} → AcceptedTable table → 2 ≤ nth table 1
-second-least a = omega (arith, second_word a, a.least)
-
-pub second-most : {table : List ℕ} → AcceptedTable table → nth table 1 ≤ 8
-second-most a = omega (arith, second_word a, a.most)
-
 pub record Sizes (secrets : List ℕ) (others start free : ℕ) : Type 0 where
   pub some : 1 ≤ others
   pub most : others ≤ 7
@@ -78,6 +71,3 @@ module _ {table secrets : List ℕ} (k : Countable table secrets) {plan : Plan} 
 -- the number of pairs
 pub pairs-are : {table : List ℕ} {plan : Plan} → Planned table plan → 2 ^ plan.free ≡ pair_count (circuit_in table)
 pairs-are p = ap (λ n. 2 ^ n) p.free_is
-
-pub pairs-few : (table : List ℕ) → free_bits (circuit_in table) ≤ 16 → (1 ≤ pair_count (circuit_in table)) × (pair_count (circuit_in table) ≤ 65536)
-pairs-few table few = (pow_mono (free_bits (circuit_in table)) 0 (omega arith), pow_mono 16 (free_bits (circuit_in table)) few)

@@ -96,9 +96,12 @@ module _ (table notes secrets probes counts : List ℕ) where
       read_is : read_wires k probes ≡ read
       read_is = ap (λ (z : Circuit). read_wires z probes) same ∙ sym r.are
 
+      few_bits : free_bits (circuit_in table) ≤ 16
+      few_bits = subst (λ (z : Circuit). free_bits z ≤ 16) same g.of.few
+
       pub listable : Listable table secrets a.inputs a.randoms a.wires read counts
       listable = record {
-        numbered = record { accepted = g.of.of.accepted; few = subst (λ (z : Circuit). free_bits z ≤ 16) same g.of.few; inputs_are = g.inputs ∙ ap (λ (z : Circuit). z.inputs) same; randoms_are = g.randoms };
+        numbered = record { accepted = g.of.of.accepted; few = few_bits; inputs_are = g.inputs ∙ ap (λ (z : Circuit). z.inputs) same; randoms_are = g.randoms };
         wires_are = g.wires;
         sized = omega (arith, g.of.sized, g.inputs);
         bit = g.of.bit;
@@ -106,10 +109,12 @@ module _ (table notes secrets probes counts : List ℕ) where
         room = g.of.roomy;
       }
 
-      pub ends_counted : {count pairs : ℕ} {new : List ℕ} → count ≡ 2 ^ length read → pairs ≡ pair_count (circuit_in table) → ListsCounts table secrets a.inputs read counts new → Ends (accepted (length read) count pairs) new
+      pub ends_counted : {count pairs : ℕ} {new : List ℕ} → count ≡ 2 ^ length read → pairs ≡ pair_count (circuit_in table)
+          → ListsCounts table secrets a.inputs read counts new → Ends (accepted (length read) count pairs) new
       ends_counted {count} {pairs} c p l =
           let n : length (read_wires k probes) ≡ length read = ap length read_is in
-          ends {j = pass} (last_rule table notes secrets probes counts ∙ rw (g.passes, n, le-leb (length read) 8 few)) (rw (n, same) (ap₂ (accepted (length read)) c p)) (sheet g.of.of g.inputs l read_is)
+          ends {j = pass} (last_rule table notes secrets probes counts ∙ rw (g.passes, n, le-leb (length read) 8 few)) (rw (n, same) (ap₂ (accepted (length read)) c p))
+          (sheet g.of.of g.inputs l read_is)
 
 -- the counts of every accepted circuit
 module _ (table notes probes : List ℕ) where

@@ -109,7 +109,8 @@ module _ (lanes : ℕ) where
       (columns_words n zs (drop n cs) (λ x. h (suc x)) ∙ ap (all_shares n (wholes zs)) (map-drop (packed lanes) n cs))
 
   -- the words of free bits, and what the sharing and the tape of each pair are in them
-  module _ (given : ℕ → List Bool) (free : ℕ) (each : (l : ℕ) → length (given l) ≡ free) (ws : List ℕ) (long : free ≤ length ws) (are : (i : ℕ) → i < free → nth ws i ≡ packed lanes (λ l. at (given l) i)) where
+  module _ (given : ℕ → List Bool) (free : ℕ) (each : (l : ℕ) → length (given l) ≡ free) (ws : List ℕ) (long : free ≤ length ws)
+      (are : (i : ℕ) → i < free → nth ws i ≡ packed lanes (λ l. at (given l) i)) where
     abbrev cols : List Column
     cols = free_columns given free
 
@@ -139,4 +140,5 @@ module _ (lanes : ℕ) where
       drawn-packed i =
           let s = others * length secrets in
           ap (λ r. nth r i) (ap (drop s) free_words ∙ sym (map-drop (packed lanes) s cols)) ∙ packs_columns (drop s cols) i
-          ∙ packed-same lanes (λ l. at (lane l (drop s cols)) i) (λ l. at (drop s (given l)) i) (λ l h. ap (λ r. at r i) (map-drop (λ (col : Column). col l) s cols ∙ ap (drop s) (free_lane given free l (each l))))
+          ∙ packed-same lanes (λ l. at (lane l (drop s cols)) i) (λ l. at (drop s (given l)) i)
+          (λ l h. ap (λ r. at r i) (map-drop (λ (col : Column). col l) s cols ∙ ap (drop s) (free_lane given free l (each l))))

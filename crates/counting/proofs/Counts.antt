@@ -43,7 +43,8 @@ shown {table} {secrets} {wires} k t probes e n l =
     (count_shown c probes (bits secrets) (some-shares k.accepted) (length-map secrets is_set ∙ k.sized) n) l
     ∙ sym (t.counts n l)
 
-module _ {table one other first second wires : List ℕ} (k : Countable table one) (l : Countable table other) (t : Tallied table one wires first) (u : Tallied table other wires second) (few : length wires ≤ 8) where
+module _ {table one other first second wires : List ℕ} (k : Countable table one) (l : Countable table other) (t : Tallied table one wires first)
+    (u : Tallied table other wires second) (few : length wires ≤ 8) where
   abbrev c : Circuit
   c = circuit_in table
 
@@ -60,7 +61,8 @@ module _ {table one other first second wires : List ℕ} (k : Countable table on
       (λ n i. let h : n < 2 ^ m = omega (arith, range_in n 0 (2 ^ m) i) in ap₂ (λ a b. four_of a b (pair_count c)) (shown k t probes e n h) (shown l u probes e n h))
 
   -- written from the start of the sheet
-  pub sheet-is : (probes : List ℕ) → read_wires c probes ≡ wires → (old : List ℕ) {new : List ℕ} → 1024 ≤ length old → new ≡ sets old 0 (list_of first second (pair_count c) 0 (2 ^ length wires))
+  pub sheet-is : (probes : List ℕ) → read_wires c probes ≡ wires → (old : List ℕ) {new : List ℕ} → 1024 ≤ length old
+      → new ≡ sets old 0 (list_of first second (pair_count c) 0 (2 ^ length wires))
       → new ≡ overwrite (count_list c probes (bits one) (bits other)) old
   sheet-is probes e old room f =
       let L = list_of first second (pair_count c) 0 (2 ^ length wires) in
@@ -90,7 +92,8 @@ module _ {table : List ℕ} {inputs randoms : ℕ} (n : Numbered table inputs ra
   }
 
   pub lists : {read first second : List ℕ} → ReadIn table read → Tallied table (set_of table false secrets) read first → Tallied table (set_of table true secrets) read second
-      → (old : List ℕ) {new : List ℕ} → 1024 ≤ length old → (count pairs : ℕ) → count ≡ 2 ^ length read → pairs ≡ pair_count (circuit_in table) → new ≡ sets old 0 (list_of first second pairs 0 count)
+      → (old : List ℕ) {new : List ℕ} → 1024 ≤ length old → (count pairs : ℕ) → count ≡ 2 ^ length read → pairs ≡ pair_count (circuit_in table)
+      → new ≡ sets old 0 (list_of first second pairs 0 count)
       → ListsCounts table secrets inputs read old new
   lists {read} {first} {second} r t u old room count pairs count_is pairs-are f =
       let c = circuit_in table in

@@ -5,12 +5,10 @@ use mathlib.Core.List.{List, [], ◌∷◌, map}
 use Prim.Native.Nat.{ℕ, suc, ◌+◌, ◌*◌, ◌%◌, ◌≤◌, ◌<◌}
 use native.Mathlib.Nat.{zero-add}
 use native.Mathlib.Omega.{arith}
-use lib.Dec.{ltb, leb}
-use lib.ListN.{length, take, set, length-set, length-map}
-use lib.Seq.{get_or-set_same, get_or-set_other, get_or-take, length-take-le, ext_get_or}
-use borrow.Author.Tests.{ltb-true, ltb-false}
+use lib.Dec.{leb}
+use lib.ListN.{length, take, length-map}
+use lib.Seq.{get_or-take, length-take-le, ext_get_or}
 use Rattle.circuit.specs.Lists.{nth, range}
-use Rattle.circuit.proofs.Base.{cases}
 use Rattle.circuit.proofs.Numbered.{map_at, range_at}
 use Rattle.circuit.proofs.Sizes.{range_length}
 use Rattle.semantics.specs.Values.{byte, at}
@@ -74,7 +72,8 @@ module _ {factors free batch : ℕ} {words : List ℕ} {rank i : ℕ} (t : Fille
   next-rank : (b : Bool) → lane_bit i factors ≡ b → rank + byte b ≡ rank_in (varied_in factors free) (i + 1)
   next-rank b e = ap₂ ◌+◌ t.rank_is (ap byte (sym e)) ∙ sym (rank_more factors free i l)
 
-  filled-with : {new : List ℕ} {r : ℕ} (b : Bool) → lane_bit i factors ≡ b → r ≡ rank + byte b → Four words (4 * i) (λ w. cond b (free_word rank (2 * batch + w % 2)) 0) new → FilledTo factors free batch new r (i + 1)
+  filled-with : {new : List ℕ} {r : ℕ} (b : Bool) → lane_bit i factors ≡ b → r ≡ rank + byte b
+      → Four words (4 * i) (λ w. cond b (free_word rank (2 * batch + w % 2)) 0) new → FilledTo factors free batch new r (i + 1)
   filled-with {new} b e n f = record {
     most = omega arith;
     are = fours_next (λ j w. placed_word factors free j (2 * batch + w % 2)) {old = words} {new = new} t.are (record {
@@ -91,7 +90,8 @@ module _ {factors free batch : ℕ} {words : List ℕ} {rank i : ℕ} (t : Fille
   filled_none {new} few e n = filled-with false e (omega arith) (rw n (four words (4 * i) 0 0 0 0 (λ w. 0) (omega (arith, t.sized)) (refl, refl, refl, refl)))
 
   pub filled_next : {new : List ℕ} → i < 16 → lane_bit i factors ≡ true
-      → new ≡ four_at words (4 * i) (free_word rank (2 * batch)) (free_word rank (2 * batch + 1)) (free_word rank (2 * batch)) (free_word rank (2 * batch + 1)) → FilledTo factors free batch new (rank + 1) (i + 1)
+      → new ≡ four_at words (4 * i) (free_word rank (2 * batch)) (free_word rank (2 * batch + 1)) (free_word rank (2 * batch)) (free_word rank (2 * batch + 1))
+      → FilledTo factors free batch new (rank + 1) (i + 1)
   filled_next {new} few e n =
       let none : 2 * batch ≡ 2 * batch + 0 = omega arith in
       filled-with true e refl (rw n (four words (4 * i) _ _ _ _ (λ w. free_word rank (2 * batch + w % 2)) (omega (arith, t.sized)) (ap (free_word rank) none, refl, ap (free_word rank) none, refl)))
@@ -103,7 +103,9 @@ set_words {words} s e = rw e (four words 64 0 0 ones ones (λ w. cond (leb 2 w) 
 pub one-words : {words new : List ℕ} → length words ≡ 256 → new ≡ four_at words 68 ones ones ones ones → Four words 68 (λ w. ones) new
 one-words {words} s e = rw e (four words 68 ones ones ones ones (λ w. ones) (omega arith) (refl, refl, refl, refl))
 
-pub filled_end : {factors free batch : ℕ} {words mid new : List ℕ} → free ≤ 16 → FreeFilled factors free batch words → Four words 64 (λ w. cond (leb 2 w) ones 0) mid → Four mid 68 (λ w. ones) new → Variables factors free batch new
+pub filled_end : {factors free batch : ℕ} {words mid new : List ℕ} → free ≤ 16 → FreeFilled factors free batch words → Four words 64 (λ w. cond (leb 2 w) ones 0) mid
+    → Four mid 68 (λ w. ones) new
+    → Variables factors free batch new
 filled_end few t f g = record {
   free_are = λ i w k h. g.below (4 * i + w) (omega arith) ∙ f.below (4 * i + w) (omega arith) ∙ t.are i w k h;
   set = λ w h. g.below (64 + w) (omega arith) ∙ f.are w h;
@@ -115,17 +117,6 @@ filled_end few t f g = record {
 pub record GivenTo (f : ℕ → ℕ) (size : ℕ) (list : List ℕ) (i : ℕ) : Type 0 where
   pub are : (j : ℕ) → j < i → nth list j ≡ f j
   pub sized : length list ≡ size
-
-pub given_start : {f : ℕ → ℕ} {size : ℕ} {list : List ℕ} → length list ≡ size → GivenTo f size list 0
-given_start s = record { are = λ j l. absurd (omega arith); sized = s }
-
-pub given_next : {f : ℕ → ℕ} {size i x : ℕ} {list : List ℕ} → GivenTo f size list i → i < size → x ≡ f i → GivenTo f size (set list i x) (i + 1)
-given_next {i = i} {x} {list} t room e = record {
-  are = λ j l. cases (ltb j i)
-      (λ h. let k = ltb-true j i h in get_or-set_other list i j x 0 (λ s. omega arith) ∙ t.are j k)
-      (λ h. let same : j ≡ i = omega (arith, ltb-false j i h) in rw same (get_or-set_same list i x 0 (omega (arith, t.sized)) ∙ e));
-  sized = length-set list i x ∙ t.sized;
-}
 
 pub given_end : {f : ℕ → ℕ} {size i : ℕ} {list : List ℕ} → GivenTo f size list i → (n : ℕ) → n ≤ i → n ≤ size → take n list ≡ map f (range 0 n)
 given_end {f} {size} {i} {list} t n l room =

@@ -37,7 +37,8 @@ added-on (suc n) m f g h =
     cases (is_set (m % 2)) (λ d. rw d (ap₂ bit_xor (h 0 d) tails)) (λ d. rw d (ap (bit_xor 0) tails))
 
 -- one variable of them flipped
-pub added_flipped : (n x m : ℕ) (f g : Values) → x < n → ((s : ℕ) → lane_bit s m ≡ true → (s ≡ x → ⊥) → g s ≡ f s) → g x ≡ bit_xor (f x) 1 → added_in n m g ≡ bit_xor (added_in n m f) (byte (lane_bit x m))
+pub added_flipped : (n x m : ℕ) (f g : Values) → x < n → ((s : ℕ) → lane_bit s m ≡ true → (s ≡ x → ⊥) → g s ≡ f s) → g x ≡ bit_xor (f x) 1
+    → added_in n m g ≡ bit_xor (added_in n m f) (byte (lane_bit x m))
 unfolding added_in
 added_flipped zero x m f g l h e = absurd (omega arith)
 added_flipped (suc n) zero m f g l h e =

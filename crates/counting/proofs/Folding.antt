@@ -74,7 +74,8 @@ module _ (varied : ℕ → Bool) (shift : ℕ → ℕ) where
   -- what is shown differs by the shift of a bit, where that does not vary and is set
   abbrev pub Shifted : (count from : ℕ) → (List Bool → ℕ) → Type 0
   Shifted zero i number = Unit {0}
-  Shifted (suc n) i number = (varied i ≡ false → (bs : List Bool) → length bs ≡ n → number (true ∷ bs) ≡ bit_xor (number (false ∷ bs)) (shift i)) × ((b : Bool) → Shifted n (suc i) (λ bs. number (b ∷ bs)))
+  Shifted (suc n) i number = (varied i ≡ false → (bs : List Bool) → length bs ≡ n → number (true ∷ bs) ≡ bit_xor (number (false ∷ bs)) (shift i))
+      × ((b : Bool) → Shifted n (suc i) (λ bs. number (b ∷ bs)))
 
   abbrev ones : (List Bool → ℕ) → ℕ → List Bool → ℕ
   ones number m bs = cond (eqb (number bs) m) 1 0
@@ -104,10 +105,12 @@ module _ (varied : ℕ → Bool) (shift : ℕ → ℕ) where
       ∙ ap (λ f. fold n (suc i) f m + fold n (suc i) f (bit_xor m (shift i))) (sym (some-other n i number e)) ∙ sym (fold_other n i (some (suc n) i number) m e))
 
   -- said of whole lists
-  pub shifted : (number : List Bool → ℕ) (free : ℕ) → ((pre bs : List Bool) → length pre + suc (length bs) ≡ free → varied (length pre) ≡ false → number (pre ++ true ∷ bs) ≡ bit_xor (number (pre ++ false ∷ bs)) (shift (length pre)))
+  pub shifted : (number : List Bool → ℕ) (free : ℕ)
+      → ((pre bs : List Bool) → length pre + suc (length bs) ≡ free → varied (length pre) ≡ false → number (pre ++ true ∷ bs) ≡ bit_xor (number (pre ++ false ∷ bs)) (shift (length pre)))
       → (n i : ℕ) (pre : List Bool) → length pre ≡ i → i + n ≡ free → Shifted n i (λ bs. number (pre ++ bs))
   shifted number free h zero i pre e f = tt
   shifted number free h (suc n) i pre e f = (
     (λ v bs l. ap (λ j. number (pre ++ true ∷ bs)) e ∙ h pre bs (omega (arith, l)) (ap varied e ∙ v) ∙ ap (λ j. bit_xor (number (pre ++ false ∷ bs)) (shift j)) e),
-    (λ b. subst (Shifted n (suc i)) (fun_ext (λ bs. ap number (append_assoc pre (b ∷ []) bs))) (shifted number free h n (suc i) (pre ++ b ∷ []) (length-append pre (b ∷ []) ∙ omega arith) (omega arith))),
+    (λ b. subst (Shifted n (suc i)) (fun_ext (λ bs. ap number (append_assoc pre (b ∷ []) bs)))
+        (shifted number free h n (suc i) (pre ++ b ∷ []) (length-append pre (b ∷ []) ∙ omega arith) (omega arith))),
   )

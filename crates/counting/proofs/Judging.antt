@@ -83,7 +83,8 @@ module _ (table notes secrets probes : List ℕ) where
     left15 = need (eqb (length secrets) (2 * k.inputs)) 15 0 0 then left17
 
     -- a refusal by one of them, and the checker's
-    pub refuses : {new : List ℕ} {r : Refusal} {rule word : ℕ} → new ≡ notes_after k notes → refusal_answer r ≡ refused rule 0 word → rules ≡ refuse rule 0 word → Judged table notes secrets probes room new (Err r)
+    pub refuses : {new : List ℕ} {r : Refusal} {rule word : ℕ} → new ≡ notes_after k notes → refusal_answer r ≡ refused rule 0 word → rules ≡ refuse rule 0 word
+        → Judged table notes secrets probes room new (Err r)
     refuses noted e h = record { answers = e ∙ sym (ap (answer k) h); noted = noted; inputs = tt }
 
     pub checker_refuses : {new : List ℕ} {r : Refusal} → new ≡ notes_after k notes → refusal_answer r ≡ verdict_of table (length notes) → Judged table notes secrets probes room new (Err r)

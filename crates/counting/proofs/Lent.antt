@@ -50,7 +50,8 @@ low-shares x (w ∷ ws) l h (suc i) = low-shares (bit_xor x w) ws (xor_lt 18 x w
 low-all : (n : ℕ) (zs ws : List ℕ) → Low zs → Low ws → Low (all_shares n zs ws)
 unfolding all_shares
 low-all n [] ws h k i = omega arith
-low-all n (x ∷ zs) ws h k i = low-append (shares_of x (take n ws)) (all_shares n zs (drop n ws)) (low-shares x (take n ws) (h zero) (low-take n ws k)) (low-all n zs (drop n ws) (λ j. h (suc j)) (low-drop n ws k)) i
+low-all n (x ∷ zs) ws h k i = low-append (shares_of x (take n ws)) (all_shares n zs (drop n ws)) (low-shares x (take n ws) (h zero) (low-take n ws k))
+    (low-all n zs (drop n ws) (λ j. h (suc j)) (low-drop n ws k)) i
 
 low-map : (g : ℕ → ℕ) (xs : List ℕ) → ((x : ℕ) → In x xs → g x < 2 ^ 18) → Low (map g xs)
 low-map g [] h i = omega arith
@@ -81,7 +82,8 @@ pub lasts_many : {secrets lasts : List ℕ} {inputs : ℕ} → SecretSums secret
 lasts_many {secrets} {lasts} {inputs} ls = ap length ls.are ∙ secrets_many inputs secrets
 
 -- the shares and random bits that are lent to the expansion
-module _ {table secrets : List ℕ} {inputs : ℕ} {plan : Plan} (k : Countable table (take inputs secrets)) (pl : Planned table plan) (inputs_are : inputs ≡ (circuit_in table).inputs) {free lasts shares : List ℕ} (fs : free ≡ free_sums)
+module _ {table secrets : List ℕ} {inputs : ℕ} {plan : Plan} (k : Countable table (take inputs secrets)) (pl : Planned table plan)
+    (inputs_are : inputs ≡ (circuit_in table).inputs) {free lasts shares : List ℕ} (fs : free ≡ free_sums)
     (ls : SecretSums secrets inputs lasts) (sh : shares ≡ sets (replicate 32 0) 0 (all_shares plan.others (take inputs lasts) free)) where
   abbrev sz : Sizes (take inputs secrets) plan.others plan.start plan.free
   sz = sizes k pl
@@ -96,7 +98,8 @@ module _ {table secrets : List ℕ} {inputs : ℕ} {plan : Plan} (k : Countable 
   list_is = ap₂ (all_shares plan.others) ls.are fs
 
   many : length (prepared_shares plan inputs secrets) ≡ (plan.others + 1) * inputs
-  many = all-length plan.others (secret_sums inputs secrets) free_sums (omega (arith, ap (λ n. plan.others * n) (secrets_many inputs secrets), starts, sz.within, sz.few)) ∙ ap (λ n. (plan.others + 1) * n) (secrets_many inputs secrets)
+  many = all-length plan.others (secret_sums inputs secrets) free_sums (omega (arith, ap (λ n. plan.others * n) (secrets_many inputs secrets), starts, sz.within, sz.few))
+      ∙ ap (λ n. (plan.others + 1) * n) (secrets_many inputs secrets)
 
   all-few : (plan.others + 1) * inputs ≤ 32
   all-few = omega (arith, ap (λ n. (plan.others + 1) * n) as_many, sz.shares)

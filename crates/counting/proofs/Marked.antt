@@ -1,12 +1,12 @@
 -- The marked wires below a number, wire by wire; and that they are those that probes read.
 use mathlib.Core.Path.{◌≡◌, refl, sym, ap, subst, ◌∙◌}
-use mathlib.Core.Bool.{Bool, true, cond}
+use mathlib.Core.Bool.{Bool, cond}
 use mathlib.Core.List.{List, [], ◌∷◌, ◌++◌, append-nil}
 use Prim.Native.Nat.{ℕ, zero, suc, ◌+◌, ◌-◌, ◌≤◌, ◌<◌}
 use native.Mathlib.Nat.{zero-add}
 use native.Mathlib.Omega.{arith}
-use lib.ListN.{length, take, length-append}
-use Rattle.std.specs.Prelude.{Option, None, Some, MatchOption}
+use lib.ListN.{length, length-append}
+use Rattle.std.specs.Prelude.{Option, None, Some}
 use Rattle.circuit.specs.Limits.{wire_limit}
 use Rattle.circuit.specs.Lists.{nth, range, filter}
 use Rattle.circuit.specs.Circuit.{Circuit, size, is_set}
@@ -17,9 +17,9 @@ use Rattle.gadgets.proofs.Bits.{set_low, set_high}
 use Rattle.gadgets.proofs.Ranges.{range_split, filter-append, filter_none}
 use Rattle.reach.specs.Internal.Marks.{Unmarked}
 use Rattle.reach.specs.Internal.Reading.{OnStops}
-use Rattle.counting.specs.declared.read.ReadWires.{ReadWires}
+use Rattle.counting.specs.declared.read_wires.ReadWires.{ReadWires}
 use Rattle.counting.specs.Counting.{is_read, read_wires}
-use Rattle.counting.specs.Internal.Reading.{marked_below, Probed, ReadBy}
+use Rattle.counting.specs.Internal.Reading.{marked_below, Probed, ReadBy, Lists, ListsRead}
 
 module _ (marks : List ℕ) where
   -- the marked wires below a number, from those below a lower one
@@ -31,7 +31,8 @@ module _ (marks : List ℕ) where
   unmarked {x} {to} h none =
       let e : to ≡ x + (to - x) = omega arith in
       ap (marked_below marks) e ∙ marked_more x (to - x)
-      ∙ ap (λ r. marked_below marks x ++ r) (filter_none (λ y. is_set (nth marks y)) (0 + x) (to - x) (λ y l u. set_low (nth marks y) (none y (omega arith) (omega arith)))) ∙ append-nil (marked_below marks x)
+      ∙ ap (λ r. marked_below marks x ++ r) (filter_none (λ y. is_set (nth marks y)) (0 + x) (to - x) (λ y l u. set_low (nth marks y) (none y (omega arith) (omega arith))))
+      ∙ append-nil (marked_below marks x)
 
   -- one wire, marked or not
   pub one_marked : (x : ℕ) → 1 ≤ nth marks x → marked_below marks (x + 1) ≡ marked_below marks x ++ x ∷ []
@@ -97,7 +98,6 @@ module _ {table probes marks : List ℕ} {wires : ℕ} (p : Probed table wires p
   more_read h = rw (← below) h
 
   -- of what is found with the marks
-  pub read_found : (found : Option ReadWires) → MatchOption found (8 < length (marked_below marks wires)) (λ list. take list.count list.wires ≡ marked_below marks wires)
-      → MatchOption found (8 < length (read_wires (circuit_in table) probes)) (λ list. ReadBy table probes (take list.count list.wires))
+  pub read_found : (found : Option ReadWires) → Lists (marked_below marks wires) found → ListsRead table probes found
   read_found None h = more_read h
   read_found (Some list) h = read_by h

@@ -62,7 +62,8 @@ free_of_lem n t b = ap₂ ◌∷◌ (digit_of t b) (ap (free_of n) (half_of t b)
 
 pub sum-numbers : (n : ℕ) (f : List Bool → ℕ) → sum_bits n f ≡ sum_to (2 ^ n) (λ t. f (free_of n t))
 sum-numbers zero f = omega arith
-sum-numbers (suc n) f = rw (pow-suc 2 n) (ap₂ ◌+◌ (half false (sum-numbers n (λ bs. f (false ∷ bs)))) (half true (sum-numbers n (λ bs. f (true ∷ bs)))) ∙ sym (sum-pairs (2 ^ n) (λ t. f (free_of (suc n) t))))
+sum-numbers (suc n) f = rw (pow-suc 2 n) (ap₂ ◌+◌ (half false (sum-numbers n (λ bs. f (false ∷ bs)))) (half true (sum-numbers n (λ bs. f (true ∷ bs))))
+    ∙ sym (sum-pairs (2 ^ n) (λ t. f (free_of (suc n) t))))
   where
     half : (b : Bool) → sum_bits n (λ bs. f (b ∷ bs)) ≡ sum_to (2 ^ n) (λ t. f (b ∷ free_of n t)) → sum_bits n (λ bs. f (b ∷ bs)) ≡ sum_to (2 ^ n) (λ t. f (free_of (suc n) (t * 2 + byte b)))
     half b ih = ih ∙ sum_to_same (2 ^ n) (λ t. f (b ∷ free_of n t)) (λ t. f (free_of (suc n) (t * 2 + byte b))) (λ t l. ap f (sym (free_of_lem n t b)))

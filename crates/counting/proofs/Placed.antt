@@ -23,9 +23,11 @@ placed_of vs t b = ap₂ ◌∷◌ (digit_of t b) (ap (placed vs) (half_of t b))
 pub sum-placed : (vs : List Bool) (f : List Bool → ℕ) → sum_varied vs f ≡ sum_to (2 ^ count_varied vs) (λ t. f (placed vs t))
 sum-placed [] f = omega arith
 sum-placed (false ∷ vs) f = sum-placed vs (λ bs. f (false ∷ bs))
-sum-placed (true ∷ vs) f = rw (pow-suc 2 (count_varied vs)) (ap₂ ◌+◌ (half false (sum-placed vs (λ bs. f (false ∷ bs)))) (half true (sum-placed vs (λ bs. f (true ∷ bs)))) ∙ sym (sum-pairs (2 ^ count_varied vs) (λ t. f (placed (true ∷ vs) t))))
+sum-placed (true ∷ vs) f = rw (pow-suc 2 (count_varied vs)) (ap₂ ◌+◌ (half false (sum-placed vs (λ bs. f (false ∷ bs)))) (half true (sum-placed vs (λ bs. f (true ∷ bs))))
+    ∙ sym (sum-pairs (2 ^ count_varied vs) (λ t. f (placed (true ∷ vs) t))))
   where
-    half : (b : Bool) → sum_varied vs (λ bs. f (b ∷ bs)) ≡ sum_to (2 ^ count_varied vs) (λ t. f (b ∷ placed vs t)) → sum_varied vs (λ bs. f (b ∷ bs)) ≡ sum_to (2 ^ count_varied vs) (λ t. f (placed (true ∷ vs) (t * 2 + byte b)))
+    half : (b : Bool) → sum_varied vs (λ bs. f (b ∷ bs)) ≡ sum_to (2 ^ count_varied vs) (λ t. f (b ∷ placed vs t))
+        → sum_varied vs (λ bs. f (b ∷ bs)) ≡ sum_to (2 ^ count_varied vs) (λ t. f (placed (true ∷ vs) (t * 2 + byte b)))
     half b ih = ih ∙ sum_to_same (2 ^ count_varied vs) (λ t. f (b ∷ placed vs t)) (λ t. f (placed (true ∷ vs) (t * 2 + byte b))) (λ t l. ap f (sym (placed_of vs t b)))
 
 pub placed-length : (vs : List Bool) (t : ℕ) → length (placed vs t) ≡ length vs

@@ -101,7 +101,8 @@ module _ (f : Values) where
     secret-word (suc zero) (suc (suc y)) h k = absurd (omega arith)
 
     -- all of them, in the set that is taken
-    secret-words : (n : ℕ) (secrets : List ℕ) → length secrets ≡ n + n → ((x : ℕ) → nth secrets x ≤ 1) → map word (secret_sums n secrets) ≡ map (λ z. u * z) (cond second (drop n secrets) (take n secrets))
+    secret-words : (n : ℕ) (secrets : List ℕ) → length secrets ≡ n + n → ((x : ℕ) → nth secrets x ≤ 1)
+        → map word (secret_sums n secrets) ≡ map (λ z. u * z) (cond second (drop n secrets) (take n secrets))
     secret-words n secrets e bit = ext_get_or 0 (map word (secret_sums n secrets)) (map (λ z. u * z) (cond second (drop n secrets) (take n secrets)))
         (length-map (secret_sums n secrets) word ∙ secrets_many n secrets ∙ sym (length-map (cond second (drop n secrets) (take n secrets)) (λ z. u * z) ∙ taken second))
         (λ j l. let k : j < n = omega (arith, length-map (secret_sums n secrets) word, secrets_many n secrets) in
@@ -113,7 +114,8 @@ module _ (f : Values) where
         taken false = length-take n secrets ∙ omega arith
 
         range-map : (j : ℕ) → j < n → nth (secret_sums n secrets) j ≡ secret_sum (nth secrets j) (nth secrets (n + j))
-        range-map j k = map_at (λ i. secret_sum (nth secrets i) (nth secrets (n + i))) (range 0 n) j 0 0 (omega (arith, range_length 0 n)) ∙ ap (λ i. secret_sum (nth secrets i) (nth secrets (n + i))) (range_at 0 n j k ∙ zero-add j)
+        range-map j k = map_at (λ i. secret_sum (nth secrets i) (nth secrets (n + i))) (range 0 n) j 0 0 (omega (arith, range_length 0 n))
+            ∙ ap (λ i. secret_sum (nth secrets i) (nth secrets (n + i))) (range_at 0 n j k ∙ zero-add j)
 
         chosen : (b : Bool) (j : ℕ) → j < n → nth (cond b (drop n secrets) (take n secrets)) j ≡ cond b (nth secrets (n + j)) (nth secrets j)
         chosen true j k = get_or-drop n secrets j 0
@@ -131,7 +133,8 @@ pub record Given (plan : Plan) (lanes : ℕ) (given : ℕ → List Bool) (second
   pub one : f 17 ≡ packed lanes (λ l. true)
 
 -- the wires that are read have the words of their sums, where the products have theirs
-module _ {table secrets read sums terms : List ℕ} {outputs : ℕ} {plan : Plan} (p : Prepared table secrets read sums terms outputs plan) {lanes : ℕ} {given : ℕ → List Bool} {second : Bool} {f : Values} (g : Given plan lanes given second f) where
+module _ {table secrets read sums terms : List ℕ} {outputs : ℕ} {plan : Plan} (p : Prepared table secrets read sums terms outputs plan) {lanes : ℕ}
+    {given : ℕ → List Bool} {second : Bool} {f : Values} (g : Given plan lanes given second f) where
   abbrev set : List ℕ
   set = set_of table second secrets
 
@@ -160,13 +163,22 @@ module _ {table secrets read sums terms : List ℕ} {outputs : ℕ} {plan : Plan
   unfolding sharings tapes
   words = record {
     full = g.one;
-    shared = rw (all_words f plan.others (secret_sums (circuit_in table).inputs secrets) free_sums, secret-words f (packed lanes (λ l. true)) second g.set g.one (circuit_in table).inputs secrets p.sized p.bit)
+    shared = rw (
+      all_words f plan.others (secret_sums (circuit_in table).inputs secrets) free_sums,
+      secret-words f (packed lanes (λ l. true)) second g.set g.one (circuit_in table).inputs secrets p.sized p.bit,
+    )
         (sharing_packed lanes given plan.free g.each (map (λ m. added m f) free_sums) long free_words plan.others set taken countable.bit);
-    drawn = rw (part_is plan.start plan.free free_sums z.within (omega (arith, z.few)), map-drop (λ m. added m f) plan.start (take plan.free free_sums), map-take (λ m. added m f) plan.free free_sums, ← z.starts)
+    drawn = rw (
+      part_is plan.start plan.free free_sums z.within (omega (arith, z.few)),
+      map-drop (λ m. added m f) plan.start (take plan.free free_sums),
+      map-take (λ m. added m f) plan.free free_sums,
+      ← z.starts,
+    )
         (drawn-packed lanes given plan.free g.each (map (λ m. added m f) free_sums) long free_words plan.others set taken);
   }
 
-  pub valued : Solves terms outputs read (length read) (size (circuit_in table)) f → (i : ℕ) → i < length read → packed lanes (λ l. at (values_with (circuit_in table) (bits set) (given l)) (nth read i)) ≡ added (nth sums (nth read i)) f
+  pub valued : Solves terms outputs read (length read) (size (circuit_in table)) f → (i : ℕ) → i < length read
+      → packed lanes (λ l. at (values_with (circuit_in table) (bits set) (given l)) (nth read i)) ≡ added (nth sums (nth read i)) f
   unfolding sharings tapes
   valued s i h =
       let k = circuit_in table in
@@ -232,7 +244,8 @@ module _ {table secrets read sums terms : List ℕ} {outputs : ℕ} {plan : Plan
       reads = λ i h u. let e : 50 + i ≡ 18 + (32 + i) = omega arith in ap f e ∙ reads.are (32 + i) w (omega arith) (omega arith) l;
     }
 
-    shows : (i : ℕ) → i < length read → nth shown (4 * i + w) ≡ packed 64 (λ e. at (values_with (circuit_in table) (bits (set_of table second secrets)) (placed (varied_in factors plan.free) (64 * number + e))) (nth read i))
+    shows : (i : ℕ) → i < length read
+        → nth shown (4 * i + w) ≡ packed 64 (λ e. at (values_with (circuit_in table) (bits (set_of table second secrets)) (placed (varied_in factors plan.free) (64 * number + e))) (nth read i))
     unfolding varied
     shows i h = s.are i w h l ∙ sym (valued p given solves i h)
 

@@ -1,8 +1,8 @@
 -- The words of shares as they are written: of one secret bit word by word, of all bit by bit.
 use mathlib.Core.Path.{◌≡◌, refl, sym, ap, ap₂, ◌∙◌}
 use mathlib.Core.List.{List, [], ◌∷◌, ◌++◌, append-nil, append_assoc}
-use Prim.Native.Nat.{ℕ, suc, ◌+◌, ◌*◌, ◌-◌, ◌≤◌, ◌<◌}
-use native.Mathlib.Nat.{add-zero, sub-zero, mul-le-mul_left}
+use Prim.Native.Nat.{ℕ, suc, ◌+◌, ◌*◌, ◌≤◌, ◌<◌}
+use native.Mathlib.Nat.{mul-le-mul_left}
 use native.Mathlib.Omega.{arith}
 use borrow.Rule.Slice.PartMut.{put_mid}
 use lib.Bits.{bit_xor}
@@ -21,9 +21,6 @@ shares-length sum (w ∷ ws) = ap suc (shares-length (bit_xor sum w) ws)
 pub record OneTo (words : List ℕ) (whole : ℕ) (old shares : List ℕ) (last i : ℕ) : Type 0 where
   pub sized : length shares ≡ length old
   pub left : sets old 0 (shares_of whole words) ≡ sets shares i (shares_of last (drop i words))
-
-pub one_start : (words : List ℕ) (whole : ℕ) (old : List ℕ) → OneTo words whole old old whole 0
-one_start words whole old = record { sized = refl; left = refl }
 
 module _ {words : List ℕ} {whole : ℕ} {old shares : List ℕ} {last i : ℕ} (o : OneTo words whole old shares last i) where
   pub one-next : i < length words → OneTo words whole old (set shares i (nth words i)) (bit_xor last (nth words i)) (i + 1)
@@ -62,9 +59,6 @@ pub record AllTo (words : List ℕ) (others : ℕ) (lasts old shares : List ℕ)
   pub sized : length shares ≡ length old
   pub left : sets old 0 (all_shares others lasts words) ≡ sets shares (others * j + j) (all_shares others (drop j lasts) (drop (others * j) words))
 
-pub all_start : (words : List ℕ) (others : ℕ) (lasts old : List ℕ) → AllTo words others lasts old old 0
-all_start words others lasts old = record { sized = refl; left = let z : 0 ≡ others * 0 = omega arith in let y : 0 ≡ others * 0 + 0 = omega arith in ap₂ (λ m n. sets old m (all_shares others lasts (drop n words))) y z }
-
 module _ {words : List ℕ} {others : ℕ} {lasts old shares : List ℕ} {j : ℕ} (a : AllTo words others lasts old shares j) where
   abbrev from : ℕ
   from = others * j
@@ -76,14 +70,16 @@ module _ {words : List ℕ} {others : ℕ} {lasts old shares : List ℕ} {j : �
       let z = nth lasts j in
       let one = shares_of z (take others (drop from words)) in
       let rest = all_shares others (drop (suc j) lasts) (drop others (drop from words)) in
-      let n : length one ≡ others + 1 = shares-length z (take others (drop from words)) ∙ ap suc (length-take-le others (drop from words) (rw (length-drop from words) (omega (arith, mul-le-mul_left others l)))) ∙ omega arith in
+      let n : length one ≡ others + 1 = shares-length z (take others (drop from words))
+      ∙ ap suc (length-take-le others (drop from words) (rw (length-drop from words) (omega (arith, mul-le-mul_left others l)))) ∙ omega arith in
       let next : suc j ≡ j + 1 = omega arith in
       let place : from + j + (others + 1) ≡ others * (j + 1) + (j + 1) = omega arith in
       let behind : from + others ≡ others * (j + 1) = omega arith in
       record {
         sized = ap length e ∙ length-sets shares (from + j) one ∙ a.sized;
         left = a.left ∙ ap (λ zs. sets shares (from + j) (all_shares others zs (drop from words))) (drop-cons lasts j 0 l) ∙ stores_append shares (from + j) one rest
-            ∙ ap₂ (λ m t. sets t (from + j + m) rest) n (sym e) ∙ ap₂ (λ m ws. sets new m (all_shares others (drop (suc j) lasts) ws)) place (drop-drop others from words ∙ ap (λ m. drop m words) behind)
+            ∙ ap₂ (λ m t. sets t (from + j + m) rest) n (sym e)
+            ∙ ap₂ (λ m ws. sets new m (all_shares others (drop (suc j) lasts) ws)) place (drop-drop others from words ∙ ap (λ m. drop m words) behind)
             ∙ ap (λ m. sets new (others * (j + 1) + (j + 1)) (all_shares others (drop m lasts) (drop (others * (j + 1)) words))) next;
       }
 

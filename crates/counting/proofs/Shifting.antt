@@ -32,9 +32,6 @@ module _ (shift count : ℕ) (old : List ℕ) where
     pub rest : (m : ℕ) → count ≤ m → nth new m ≡ nth old m
     pub sized : length new ≡ length old
 
-  pub paired_start : PairedTo old 0
-  paired_start = record { done = λ m l h. absurd (omega arith); others = λ m l h. absurd (omega arith); left = λ m l h. refl; rest = λ m l. refl; sized = refl }
-
   module _ {new : List ℕ} {n : ℕ} (p : PairedTo new n) (inside : n < count) where
     back : (m : ℕ) → bit_xor m shift ≡ n → m ≡ bit_xor n shift
     back m e = sym (twice m shift) ∙ ap (λ x. bit_xor x shift) e
@@ -57,12 +54,14 @@ module _ (shift count : ℕ) (old : List ℕ) where
         lower = let ne = apart n shift some in omega arith
 
     -- two
-    paired_here : n < bit_xor n shift → bit_xor n shift < count → count ≤ length old → (value : ℕ) → value ≡ nth new n + nth new (bit_xor n shift) → PairedTo (set (set new n value) (bit_xor n shift) value) (n + 1)
+    paired_here : n < bit_xor n shift → bit_xor n shift < count → count ≤ length old → (value : ℕ) → value ≡ nth new n + nth new (bit_xor n shift)
+        → PairedTo (set (set new n value) (bit_xor n shift) value) (n + 1)
     paired_here l h room value e = record {
       done = λ m k u. cases (eqb m n) (λ b. rw (eqb-true m n b) first) (λ b. other m (eqb-false m n b) (λ z. omega arith) ∙ p.done m k (omega (arith, eqb-false m n b)));
       others = λ m k u. cases (eqb (bit_xor m shift) n)
           (λ b. rw (back m (eqb-true (bit_xor m shift) n b)) second)
-          (λ b. let ne = eqb-false (bit_xor m shift) n b in other m (λ z. omega (arith, ap (λ y. bit_xor y shift) z)) (λ z. ne (ap (λ y. bit_xor y shift) z ∙ twice n shift)) ∙ p.others m k (omega arith));
+          (λ b. let ne = eqb-false (bit_xor m shift) n b in other m (λ z. omega (arith, ap (λ y. bit_xor y shift) z)) (λ z. ne (ap (λ y. bit_xor y shift) z ∙ twice n shift))
+          ∙ p.others m k (omega arith));
       left = λ m k u. other m (λ z. omega arith) (λ z. omega (arith, ap (λ y. bit_xor y shift) z, twice n shift)) ∙ p.left m (omega arith) (omega arith);
       rest = λ m k. other m (λ z. omega arith) (λ z. omega arith) ∙ p.rest m k;
       sized = simp length-set p.sized;
@@ -86,29 +85,6 @@ module _ (shift count : ℕ) (old : List ℕ) where
         (λ e. rw e (paired_past some (leb-true (bit_xor n shift) n e)))
         (λ e. rw e (paired_here (leb-false (bit_xor n shift) n e) h room _ refl))
 
-  -- two counts that are still to be added are as they were
-  pub paired_few : {new : List ℕ} {n most : ℕ} → PairedTo new n → sum n ≤ most → n < bit_xor n shift → nth new n + nth new (bit_xor n shift) ≤ most
-  paired_few {n = n} p few l = omega (arith, p.left n (omega arith) (omega arith), p.left (bit_xor n shift) (omega arith) (omega (arith, twice n shift)))
-
-  pub paired_end : {new : List ℕ} {n : ℕ} → PairedTo new n → count ≤ n → Remade sum count old new
-  paired_end p l = record { are = λ m h. p.done m h (omega arith); rest = p.rest; sized = p.sized }
-
--- counts one after the other
-pub remade_none : (f : ℕ → ℕ) (old : List ℕ) → Remade f 0 old old
-remade_none f old = record { are = λ n l. absurd (omega arith); rest = λ n l. refl; sized = refl }
-
-pub remade_next : {f : ℕ → ℕ} {n : ℕ} {old new : List ℕ} → Remade f n old new → n < length old → (value : ℕ) → value ≡ f n → Remade f (n + 1) old (set new n value)
-remade_next {f} {n} {old} {new} r inside value e = record {
-  are = λ m l. cases (eqb m n)
-      (λ b. rw (eqb-true m n b) (get_or-set_same new n value 0 (omega (arith, r.sized)) ∙ e))
-      (λ b. get_or-set_other new n m value 0 (eqb-false m n b) ∙ r.are m (omega (arith, eqb-false m n b)));
-  rest = λ m l. get_or-set_other new n m value 0 (λ z. omega arith) ∙ r.rest m (omega arith);
-  sized = length-set new n value ∙ r.sized;
-}
-
-pub remade_all : {f : ℕ → ℕ} {n count : ℕ} {old new : List ℕ} → Remade f n old new → n ≡ count → Remade f count old new
-remade_all r e = rw (← e) r
-
 -- the free bits up to one: what is counted so far, times a power of two, comes to all where the others are counted too
 module _ (varied : ℕ → Bool) (shift : ℕ → ℕ) (free found : ℕ) (old : List ℕ) where
   abbrev fold : (count from : ℕ) (counts : ℕ → ℕ) → ℕ → ℕ
@@ -120,9 +96,6 @@ module _ (varied : ℕ → Bool) (shift : ℕ → ℕ) (free found : ℕ) (old :
     pub left : (m : ℕ) → m < 2 ^ found → fold free 0 (nth old) m ≡ 2 ^ doubles * fold (free - i) i (nth new) m
     pub rest : (m : ℕ) → 2 ^ found ≤ m → nth new m ≡ nth old m
     pub sized : length new ≡ length old
-
-  pub folded_start : FoldedTo old 0 0
-  folded_start = record { most = omega arith; few = omega arith; left = λ m l. let e : free ≡ free - 0 = omega arith in ap (λ n. fold n 0 (nth old) m) e ∙ omega arith; rest = λ m l. refl; sized = refl }
 
   module _ {new : List ℕ} {doubles i : ℕ} (t : FoldedTo new doubles i) (inside : i < free) where
     -- the bits from this one on
@@ -175,7 +148,15 @@ module _ (varied : ℕ → Bool) (shift : ℕ → ℕ) (free found : ℕ) (old :
       sums-few most h m l =
           let F : ℕ → ℕ = fold (free - (i + 1)) (i + 1) (nth new) in
           let some : 1 ≤ 2 ^ doubles = pow_mono doubles 0 (omega arith) in
-          omega (arith, fold_least varied shift (free - (i + 1)) (i + 1) (nth new) m, fold_least varied shift (free - (i + 1)) (i + 1) (nth new) (bit_xor m (shift i)), two m, t.left m l, h m l, mul-le-mul_right (fold (free - i) i (nth new) m) some)
+          omega (
+            arith,
+            fold_least varied shift (free - (i + 1)) (i + 1) (nth new) m,
+            fold_least varied shift (free - (i + 1)) (i + 1) (nth new) (bit_xor m (shift i)),
+            two m,
+            t.left m l,
+            h m l,
+            mul-le-mul_right (fold (free - i) i (nth new) m) some,
+          )
 
   module _ {new : List ℕ} {doubles i : ℕ} (t : FoldedTo new doubles i) (end : free ≤ i) where
     pub all_left : (m : ℕ) → m < 2 ^ found → fold free 0 (nth old) m ≡ 2 ^ doubles * nth new m

@@ -90,7 +90,8 @@ module _ (k : Circuit) (probes : List ℕ) (secrets : List Bool) (some : 1 ≤ k
       let bs = get_or (combinations m) n [] in
       let at_once : (free : List Bool) → length (seen k probes secrets free) ≡ m = λ free. length-map (read_wires k probes) _ in
       count_is bs (combination_length m n l) ∙ sum-numbers (free_bits k) (λ free. cond (alike beq (seen k probes secrets free) bs) 1 0)
-      ∙ sum_to_same (pair_count k) (λ t. cond (alike beq (seen k probes secrets (free_of (free_bits k) t)) bs) 1 0) (λ t. cond (eqb (number_of (seen k probes secrets (free_of (free_bits k) t))) n) 1 0)
+      ∙ sum_to_same (pair_count k) (λ t. cond (alike beq (seen k probes secrets (free_of (free_bits k) t)) bs) 1 0)
+      (λ t. cond (eqb (number_of (seen k probes secrets (free_of (free_bits k) t))) n) 1 0)
       (λ t h. ap (λ b. cond b 1 0) (at-number (seen k probes secrets (free_of (free_bits k) t)) m n (at_once (free_of (free_bits k) t)) l))
 
   -- every pair shows one combination

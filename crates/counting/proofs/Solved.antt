@@ -48,7 +48,8 @@ pub record Solution (terms : List ℕ) (outputs found : ℕ) (base f : Values) :
 pub solved : (terms : List ℕ) (outputs found : ℕ) → Values → Values
 solved terms outputs found base = solve terms 32 found (solve terms 0 outputs base)
 
-pub solution : {terms : List ℕ} {outputs found : ℕ} → outputs ≤ 32 → BoundedTerms terms 0 outputs → BoundedTerms terms 32 (32 + found) → (base : Values) → Solution terms outputs found base (solved terms outputs found base)
+pub solution : {terms : List ℕ} {outputs found : ℕ} → outputs ≤ 32 → BoundedTerms terms 0 outputs → BoundedTerms terms 32 (32 + found) → (base : Values)
+    → Solution terms outputs found base (solved terms outputs found base)
 unfolding solved
 solution {terms} {outputs} {found} few b c base = record {
   low = λ s l. before s (omega arith) ∙ outside terms 0 outputs base s (λ p q. omega arith);

@@ -1,6 +1,6 @@
 -- The variables that the read wires need, found product by product, the last first.
-use mathlib.Core.Path.{◌≡◌, refl, sym, ap, subst, ◌∙◌}
-use mathlib.Core.Bool.{true, false, true≢false, cond}
+use mathlib.Core.Path.{◌≡◌, refl, sym, ap, ◌∙◌}
+use mathlib.Core.Bool.{true, false, cond}
 use mathlib.Core.List.{List}
 use Prim.Native.Nat.{ℕ, zero, suc, ◌+◌, ◌*◌, ◌/◌, ◌%◌, max, ◌≤◌, ◌<◌}
 use native.Mathlib.Omega.{arith}
@@ -46,18 +46,9 @@ in_second a b m h s d = or_lane s a b ∙ rw (h s d) (both (lane_bit s a))
 pub within_all : (m : ℕ) → Within m m
 within_all m s d = d
 
--- one product: it is not needed, or its variables are added
-pub survey_none : {terms : List ℕ} {n needed factors : ℕ} → lane_bit (18 + n) needed ≡ false → SurveysMore terms n (n + 1) needed factors needed factors
-survey_none {n = n} {needed} {factors} off = record {
-  done = λ m l u. let e : 18 + m ≡ 18 + n = omega arith in
-      let clash : lane_bit (18 + m) needed ≡ true → ⊥ = λ d. true≢false (sym d ∙ ap (λ x. lane_bit x needed) e ∙ off) in
-      record { one = λ d. absurd (clash d); other = λ d. absurd (clash d) };
-  needed_more = within_all needed;
-  factors_more = within_all factors;
-  above = λ s l. refl;
-}
-
-pub survey_both : {terms : List ℕ} {n needed factors : ℕ} → Before terms n → let both = bit_or (nth terms (2 * n)) (nth terms (2 * n + 1)) in SurveysMore terms n (n + 1) needed factors (bit_or needed both) (bit_or factors both)
+-- a product that is needed: its variables are added
+pub survey_both : {terms : List ℕ} {n needed factors : ℕ} → Before terms n
+    → let both = bit_or (nth terms (2 * n)) (nth terms (2 * n + 1)) in SurveysMore terms n (n + 1) needed factors (bit_or needed both) (bit_or factors both)
 survey_both {terms} {n} {needed} {factors} b =
     let x = nth terms (2 * n) in
     let y = nth terms (2 * n + 1) in
@@ -88,14 +79,13 @@ module _ {terms : List ℕ} {from to needed factors needed' factors' : ℕ} (s :
       back : lane_bit (18 + m) needed' ≡ true → lane_bit (18 + m) needed ≡ true
       back d = sym (s.above (18 + m) (omega arith)) ∙ d
 
--- none, and one more
-pub survey_start : (terms : List ℕ) (to needed factors : ℕ) → SurveysMore terms to to needed factors needed factors
-survey_start terms to needed factors = record { done = λ m l u. absurd (omega arith); needed_more = within_all needed; factors_more = within_all factors; above = λ s l. refl }
-
-pub survey_from : {terms : List ℕ} {n m to needed factors needed' factors' : ℕ} → n ≡ m → SurveysMore terms n to needed factors needed' factors' → SurveysMore terms m to needed factors needed' factors'
+-- one more
+pub survey_from : {terms : List ℕ} {n m to needed factors needed' factors' : ℕ} → n ≡ m → SurveysMore terms n to needed factors needed' factors'
+    → SurveysMore terms m to needed factors needed' factors'
 survey_from e s = rw (← e) s
 
-pub survey_next : {terms : List ℕ} {n to needed factors mid mid' needed' factors' : ℕ} → n + 1 ≤ to → SurveysMore terms (n + 1) to needed factors mid mid' → SurveysMore terms n (n + 1) mid mid' needed' factors' → SurveysMore terms n to needed factors needed' factors'
+pub survey_next : {terms : List ℕ} {n to needed factors mid mid' needed' factors' : ℕ} → n + 1 ≤ to → SurveysMore terms (n + 1) to needed factors mid mid'
+    → SurveysMore terms n (n + 1) mid mid' needed' factors' → SurveysMore terms n to needed factors needed' factors'
 survey_next {n = n} room a b = record {
   done = λ m l u. cases (ltb m (n + 1))
       (λ e. b.done m l (ltb-true m (n + 1) e))
@@ -128,15 +118,9 @@ module _ {sums terms read : List ℕ} {outputs start needed factors needed' fact
       both : {n : ℕ} → Surveys terms needed' factors' n → Surveys terms needed' needed' n
       both v = record { one = λ d. ((v.one d).0, (v.one d).0); other = λ d. ((v.other d).0, (v.other d).0) }
 
-pub surveyed_by : {sums terms read : List ℕ} {outputs factors f : ℕ} → f ≡ factors → Surveyed sums terms read outputs factors → Surveyed sums terms read outputs f
-surveyed_by {sums} {terms} {read} {outputs} e s = subst (Surveyed sums terms read outputs) (sym e) s
-
 -- the variables of the read wires up to one
 pub record ReadTo (sums read : List ℕ) (all i : ℕ) : Type 0 where
   pub within : (j : ℕ) → j < i → Within (nth sums (nth read j)) all
-
-pub read_start : (sums read : List ℕ) → ReadTo sums read 0 0
-read_start sums read = record { within = λ j l. absurd (omega arith) }
 
 pub read_next : {sums read : List ℕ} {all i : ℕ} → ReadTo sums read all i → ReadTo sums read (bit_or all (nth sums (nth read i))) (i + 1)
 read_next {sums} {read} {all} {i} r = record {

@@ -39,14 +39,16 @@ pub record TalliedTo (table secrets wires : List ℕ) (factors free : ℕ) (old 
   pub none : (n : ℕ) → nth old n ≡ 0
   pub wide : length old ≡ 256
 
-pub tallied_start : {table secrets wires : List ℕ} {factors free : ℕ} {old : List ℕ} {lanes : ℕ} → length old ≡ 256 → ((n : ℕ) → nth old n ≡ 0) → TalliedTo table secrets wires factors free old old 0 lanes
+pub tallied_start : {table secrets wires : List ℕ} {factors free : ℕ} {old : List ℕ} {lanes : ℕ} → length old ≡ 256 → ((n : ℕ) → nth old n ≡ 0)
+    → TalliedTo table secrets wires factors free old old 0 lanes
 tallied_start {table} {secrets} {wires} {factors} {free} {old} {lanes} s h =
     let z : 0 ≡ 0 * lanes = omega arith in
     let number = number_in table secrets wires factors free in
     record { counted = subst (λ n. Adds number n old old) z (adds_none number old); none = h; wide = s }
 
 -- one batch more
-module _ {table secrets read : List ℕ} (second : Bool) {factors free : ℕ} {old tally : List ℕ} {batch lanes : ℕ} (t : TalliedTo table (set_of table second secrets) read factors free old tally batch lanes) (behind : batch * lanes ≡ 128 * batch) (most : lanes ≤ 128)
+module _ {table secrets read : List ℕ} (second : Bool) {factors free : ℕ} {old tally : List ℕ} {batch lanes : ℕ}
+    (t : TalliedTo table (set_of table second secrets) read factors free old tally batch lanes) (behind : batch * lanes ≡ 128 * batch) (most : lanes ≤ 128)
     {shown : List ℕ} (h : HoldsShown table secrets factors free batch read shown) where
   pair_shows : (u : ℕ) → u < lanes → shown_in shown second (length read) u ≡ number_in table (set_of table second secrets) read factors free (batch * lanes + u)
   pair_shows u l =
@@ -70,7 +72,8 @@ module _ {table secrets wires : List ℕ} {factors free : ℕ} {old tally : List
   pub tallied_small : {varied count : ℕ} → Divides varied count lanes → batch ≤ count → varied ≤ 16 → (n : ℕ) → nth tally n ≤ 65536
   tallied_small {varied} d l few n = omega (arith, tallied_few n, mul-le-mul_right lanes l, d.all, pow_mono 16 varied few)
 
-  pub tallied_end : {count : ℕ} → Divides (count_varied (varied_in factors free)) count lanes → batch ≡ count → count_varied (varied_in factors free) ≤ 16 → TalliedSome table secrets wires factors free tally
+  pub tallied_end : {count : ℕ} → Divides (count_varied (varied_in factors free)) count lanes → batch ≡ count → count_varied (varied_in factors free) ≤ 16
+      → TalliedSome table secrets wires factors free tally
   tallied_end {count} d e few =
       let all : batch * lanes ≡ 2 ^ count_varied (varied_in factors free) = ap (λ n. n * lanes) e ∙ d.all in
       record {

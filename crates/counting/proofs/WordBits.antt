@@ -7,7 +7,6 @@ use native.Mathlib.Omega.{arith}
 use lib.Bits.{block_half, block_odd}
 use Rattle.std.specs.Prelude.{nat_eq}
 use Rattle.circuit.specs.Circuit.{is_set}
-use Rattle.circuit.proofs.Base.{cases}
 use Rattle.semantics.specs.Values.{byte}
 use Rattle.gadgets.proofs.Bits.{set-byte}
 use Rattle.simulation.specs.Internal.Evaluating.{packed}
@@ -49,15 +48,9 @@ pub lane_shift : (n i x : ℕ) → lane_bit (n + i) x ≡ lane_bit i (x / 2 ^ n)
 lane_shift zero i x = ap₂ lane_bit (zero-add i) (sym (div-one x))
 lane_shift (suc n) i x = ap (λ m. lane_bit m x) (suc-add n i) ∙ lane_shift n i (x / 2) ∙ ap (lane_bit i) (div-div-eq-div-mul x 2 (2 ^ n) ∙ ap (λ m. x / m) (sym (pow-succ' 2 n)))
 
--- a digit as the code asks for it
-pub digit_off : (i x : ℕ) → x / 2 ^ i % 2 ≡ 0 → lane_bit i x ≡ false
-digit_off i x e = let z : i ≡ i + 0 = omega arith in ap (λ m. lane_bit m x) z ∙ lane_shift i 0 x ∙ ap is_set e
-
+-- a digit, and whether it is set, as the code asks for them
 pub digit-is : (i x : ℕ) → x / 2 ^ i % 2 ≡ byte (lane_bit i x)
 digit-is i x = let z : i + 0 ≡ i = omega arith in set-byte (x / 2 ^ i % 2) (omega arith) ∙ ap byte (sym (lane_shift i 0 x) ∙ ap (λ m. lane_bit m x) z)
-
-pub digit-on : (i x : ℕ) → (x / 2 ^ i % 2 ≡ 0 → ⊥) → lane_bit i x ≡ true
-digit-on i x h = cases (lane_bit i x) (λ e. e) (λ e. absurd (h (digit-is i x ∙ ap byte e)))
 
 pub digit-test : (i x : ℕ) → not (nat_eq (x / 2 ^ i % 2) 0) ≡ lane_bit i x
 digit-test i x = rw (digit-is i x) (told (lane_bit i x))

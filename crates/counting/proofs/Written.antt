@@ -1,8 +1,7 @@
 -- The list of counts, combination by combination.
-use mathlib.Core.Path.{◌≡◌, refl, sym, ap, ◌∙◌}
+use mathlib.Core.Path.{◌≡◌, sym, ap, ◌∙◌}
 use mathlib.Core.List.{List}
 use Prim.Native.Nat.{ℕ, ◌+◌, ◌*◌, ◌-◌, ◌≤◌, ◌<◌}
-use native.Mathlib.Nat.{sub-zero}
 use native.Mathlib.Omega.{arith}
 use lib.ListN.{length}
 use lib.Seq.{sets, length-sets}
@@ -16,9 +15,6 @@ pub record WrittenTo (one other : List ℕ) (pairs count : ℕ) (old counts : Li
   pub most : n ≤ count
   pub sized : length counts ≡ length old
   pub left : sets old 0 (list_of one other pairs 0 count) ≡ sets counts (4 * n) (list_of one other pairs n (count - n))
-
-pub written_start : (one other : List ℕ) (pairs count : ℕ) (old : List ℕ) → WrittenTo one other pairs count old old 0
-written_start one other pairs count old = record { most = omega arith; sized = refl; left = simp sub-zero }
 
 module _ {one other : List ℕ} {pairs count : ℕ} {old counts : List ℕ} {n : ℕ} (w : WrittenTo one other pairs count old counts n) where
   abbrev four : ℕ → List ℕ

@@ -6,7 +6,8 @@ ghost use Rattle.counting.specs.Internal.Linear.{varied_in};
 use super::plan::Plan;
 use super::{linear, numbers};
 
-// Of so many free bits only some vary, those that are factors or others beside them: the pairs in batches, and the pairs of each.
+// Of a plan's free bits only some vary: those that are factors, or others beside them. How many batches there are of the pairs in
+// which they do, and how many pairs each has.
 #[derive(Clone, Copy)]
 pub struct Enumeration {
     pub plan: Plan,

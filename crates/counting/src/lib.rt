@@ -18,6 +18,7 @@ mod pairs;
 mod plan;
 mod prepare;
 mod read;
+mod read_wires;
 mod tallies;
 mod tally;
 mod variables;

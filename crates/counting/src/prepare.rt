@@ -21,7 +21,7 @@ const SET: u64 = 0x1_0000;
 // The products of an expanded table, and how many of them are in outputs of ANDs.
 #[derive(Drop)]
 pub struct Terms {
-    pub sums: [u64; 80],
+    pub sums: [u64; TERM_SUMS],
     pub outputs: usize,
     ghost sized: { length sums ≡ 80 },
 }

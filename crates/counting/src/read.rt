@@ -1,10 +1,9 @@
 // The wires that probes read, from marks on them.
-ghost use Rattle.std.specs.Prelude.{◌≡◌, ◌++◌, [], ◌∷◌, ◌≤◌, ◌<◌, length, take, MatchOption};
+ghost use Rattle.std.specs.Prelude.{◌≡◌, ◌≤◌, length};
 ghost use Rattle.circuit.specs.Limits.{wire_limit};
-ghost use Rattle.gadgets.specs.Internal.Accepting.{circuit_in};
-ghost use Rattle.counting.specs.Counting.{read_wires};
-ghost use Rattle.counting.specs.Internal.Reading.{marked_below, Probed, ReadBy};
+ghost use Rattle.counting.specs.Internal.Reading.{marked_below, Probed, listed, Lists, ListsRead};
 
+use super::read_wires::ReadWires;
 use circuit::WIRES;
 use reach::bytes::largest;
 use reach::readings::reach_stops;
@@ -12,57 +11,16 @@ use reach::readings::reach_stops;
 // Wires that are passed over together where none is marked.
 const BLOCK: usize = 64;
 
+// The least that a mark is: a wire with less is not marked.
+const MARK: u8 = 1;
+
 // Wires of a circuit for which small marks do: they are set to 0 at each call, and those of any circuit take longer than such a circuit.
 const FEW: usize = 512;
 
-// Wires on a list, at most eight.
-#[derive(Clone, Copy)]
-pub struct ReadWires {
-    pub wires: [u16; 8],
-    pub count: usize,
-    ghost sized: { length wires ≡ 8 },
-    ghost few: { count ≤ 8 },
-}
-
-impl ReadWires {
-    // An empty list.
-    fn none() -> Self
-        ensures { result.count ≡ 0 }
-    {
-        ReadWires {
-            wires: [0; 8],
-            count: 0,
-        }
-    }
-
-    // The list itself.
-    pub(crate) fn as_slice(&self) -> &[u16]
-        ensures { (result.now ≡ take self.now.count self.now.wires) × (length result.now ≤ 8) }
-    {
-        &self.wires[..self.count]
-    }
-
-    // The list with a wire more, where it has room.
-    fn with(self, wire: usize) -> Option<Self>
-        requires { wire ≤ wire_limit }
-        ensures { MatchOption result (self.count ≡ 8) (λ more. take more.count more.wires ≡ take self.count self.wires ++ wire ∷ []) }
-    {
-        if self.count == 8 {
-            return None;
-        }
-        let mut wires = self.wires;
-        wires[self.count] = wire as u16;
-        Some(ReadWires {
-            wires,
-            count: self.count + 1,
-        })
-    }
-}
-
 // The list of the marked wires below a number, the lowest first, from that of those below a lower one; none where they are too many.
 fn list_block(marks: &[u8], from: usize, to: usize, before: ReadWires) -> Option<ReadWires>
-    requires { (from ≤ to) × (to ≤ wire_limit) × (to ≤ length marks.now) × (take before.count before.wires ≡ marked_below marks.now from) }
-    ensures { MatchOption result (8 < length (marked_below marks.now to)) (λ list. take list.count list.wires ≡ marked_below marks.now to) }
+    requires { (from ≤ to) × (to ≤ wire_limit) × (to ≤ length marks.now) × (listed before ≡ marked_below marks.now from) }
+    ensures { Lists (marked_below marks.now to) result }
 {
     let mut list = before;
     for x in from..to {
@@ -76,10 +34,10 @@ fn list_block(marks: &[u8], from: usize, to: usize, before: ReadWires) -> Option
 // The same, a whole block being passed over where no wire is marked; in fewer wires it is not asked first, since bytes that were just
 // written one by one are slow to read together.
 fn list_some(marks: &[u8], from: usize, to: usize, before: ReadWires) -> Option<ReadWires>
-    requires { (from ≤ to) × (to ≤ wire_limit) × (to ≤ length marks.now) × (take before.count before.wires ≡ marked_below marks.now from) }
-    ensures { MatchOption result (8 < length (marked_below marks.now to)) (λ list. take list.count list.wires ≡ marked_below marks.now to) }
+    requires { (from ≤ to) × (to ≤ wire_limit) × (to ≤ length marks.now) × (listed before ≡ marked_below marks.now from) }
+    ensures { Lists (marked_below marks.now to) result }
 {
-    if to - from == BLOCK && largest(&marks[from..to]) == 0 {
+    if to - from == BLOCK && largest(&marks[from..to]) < MARK {
         return Some(before);
     }
     list_block(marks, from, to, before)
@@ -88,7 +46,7 @@ fn list_some(marks: &[u8], from: usize, to: usize, before: ReadWires) -> Option<
 // The marked wires below a number, the lowest first; none where they are more than eight.
 fn list_marked(marks: &[u8], wires: usize) -> Option<ReadWires>
     requires { (wires ≤ wire_limit) × (wires ≤ length marks.now) }
-    ensures { MatchOption result (8 < length (marked_below marks.now wires)) (λ list. take list.count list.wires ≡ marked_below marks.now wires) }
+    ensures { Lists (marked_below marks.now wires) result }
 {
     let mut list = ReadWires::none();
     for from in (0..wires).step_by(BLOCK) {
@@ -100,7 +58,7 @@ fn list_marked(marks: &[u8], wires: usize) -> Option<ReadWires>
 // The wires that probes on an accepted table's wires read, with so many marks.
 fn list_by<const MARKS: usize>(table: &[u16], wires: usize, probes: &[u16]) -> Option<ReadWires>
     requires { Probed table.now wires probes.now × (wires ≤ MARKS) × (MARKS ≤ wire_limit) }
-    ensures { MatchOption result (8 < length (read_wires (circuit_in table.now) probes.now)) (λ list. ReadBy table.now probes.now (take list.count list.wires)) }
+    ensures { ListsRead table.now probes.now result }
 {
     let mut marks = [0u8; MARKS];
     reach_stops(table, probes, &mut marks);
@@ -110,7 +68,7 @@ fn list_by<const MARKS: usize>(table: &[u16], wires: usize, probes: &[u16]) -> O
 // The wires that probes on an accepted table's wires read, the lowest first; none where they are more than eight.
 pub(crate) fn list_read(table: &[u16], wires: usize, probes: &[u16]) -> Option<ReadWires>
     requires { Probed table.now wires probes.now }
-    ensures { MatchOption result (8 < length (read_wires (circuit_in table.now) probes.now)) (λ list. ReadBy table.now probes.now (take list.count list.wires)) }
+    ensures { ListsRead table.now probes.now result }
 {
     if FEW < wires {
         return list_by::<WIRES>(table, wires, probes);

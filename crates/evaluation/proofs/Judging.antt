@@ -36,7 +36,8 @@ module _ (q : Call) where
   abbrev pub Comes : Judgement → Type 0
   Comes j = (sheets : List (List ℕ)) → Shortest q.room sheets → call_rule q.table q.notes q.shares q.tape sheets q.probes ≡ j
 
-  pub judged : {new : List ℕ} {r : Result Accepted Refusal} {j : Judgement} → new ≡ call_notes q.table q.notes q.shares q.tape → answer_of r ≡ answer k j → Comes j → Judged q.table q.notes q.shares q.tape q.probes q.room new r
+  pub judged : {new : List ℕ} {r : Result Accepted Refusal} {j : Judgement} → new ≡ call_notes q.table q.notes q.shares q.tape → answer_of r ≡ answer k j → Comes j
+      → Judged q.table q.notes q.shares q.tape q.probes q.room new r
   judged noted e h = record { answers = λ sheets s. e ∙ sym (ap (answer k) (h sheets s)); noted = noted }
 
   -- what is left from each rule on

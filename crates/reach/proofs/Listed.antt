@@ -58,7 +58,8 @@ listed_start a list = record {
 }
 
 -- an entry of a list in which one was written
-listed_set : {A : Type 0} (list : List Listed) (p : ℕ) (e : Listed) (x : ℕ) → p < length list → (x ≡ p → at_place (set list p e) x ≡ e → A) → ((x ≡ p → ⊥) → at_place (set list p e) x ≡ at_place list x → A) → A
+listed_set : {A : Type 0} (list : List Listed) (p : ℕ) (e : Listed) (x : ℕ) → p < length list
+    → (x ≡ p → at_place (set list p e) x ≡ e → A) → ((x ≡ p → ⊥) → at_place (set list p e) x ≡ at_place list x → A) → A
 listed_set list p e x room f g = cases (eqb x p)
     (λ h. let q = eqb-true x p h in f q (ap (at_place (set list p e)) q ∙ get_or-set_same list p e _ room))
     (λ h. g (eqb-false x p h) (get_or-set_other list p x e _ (eqb-false x p h)))
@@ -101,9 +102,12 @@ module _ {table : List ℕ} {list : List Listed} {at first count : ℕ} (l : Lis
     the_frame true false m = absurd m
     the_frame false k m = absurd m
 
-    met : Met a l.between (nth table 1) (size (so_far a l.between)) ((so_far a l.between).inputs * a.d) (frame_code (kind_code (kind_of (nth table at))) (operands_at table (nth table 1) at)) shape (behind (nth table 1) at shape.words)
-    met = rw decided (the_frame (leb 1 (nth table at) && leb (nth table at) 8) (leb (words (nth table 1) (kind_of (nth table at))) (length (drop (at + 1) table)))
-        (rw (lt-ltb at (length table) inside) at (step_answers a l.between (second_word a) refl refl (sym (right_step table randoms (nth table 1) at {s = step_with (shape_taking randoms (nth table 1)) table (nth table 1) at} refl given)))))
+    met : Met a l.between (nth table 1) (size (so_far a l.between)) ((so_far a l.between).inputs * a.d)
+        (frame_code (kind_code (kind_of (nth table at))) (operands_at table (nth table 1) at)) shape (behind (nth table 1) at shape.words)
+    met =
+        let step = right_step table randoms (nth table 1) at {s = step_with (shape_taking randoms (nth table 1)) table (nth table 1) at} refl given in
+        rw decided (the_frame (leb 1 (nth table at) && leb (nth table at) 8) (leb (words (nth table 1) (kind_of (nth table at))) (length (drop (at + 1) table)))
+        (rw (lt-ltb at (length table) inside) at (step_answers a l.between (second_word a) refl refl (sym step))))
 
     pub passes : Passes (length table) at next first shape.wires count
     passes = record {

@@ -84,7 +84,8 @@ module _ {table : List ℕ} {list : List Listed} {count : ℕ} (l : Lists table 
       top = omega (arith, found.as_many, found.wires_next, wires-before a found.onward {n = i} (omega (arith, found.longer, numbered)), l.firsts_are i (omega arith))
 
       pub moved-next : {to : ℕ} {old marks new : List ℕ} → i ≤ to → to ≤ count → Moves (GatesOf table) (first_of list i) (first_of list to) old marks
-          → ((from : ℕ) → Moves (FrameGates n.frame (nth table 1) (first_of list (i - 1)) from (operands_at table (nth table 1) (start_of list (i - 1)))) (first_of list (i - 1)) (first_of list (i - 1) + frame_wires n.frame (nth table 1)) marks new)
+          → ((from : ℕ) → Moves (FrameGates n.frame (nth table 1) (first_of list (i - 1)) from (operands_at table (nth table 1) (start_of list (i - 1))))
+          (first_of list (i - 1)) (first_of list (i - 1) + frame_wires n.frame (nth table 1)) marks new)
           → Moves (GatesOf table) (first_of list (i - 1)) (first_of list to) old new
       moved-next p q m g = moves_then (rising p q) m (moves_at refl top (moves_for (λ z same. rw (same, a.circuit_is) found.gates) (g ((so_far a place).inputs * a.d))))
 

@@ -38,6 +38,7 @@ fn mark_six_apart(marks: &mut [u8], from: usize, count: usize)
 }
 
 // An output of AND: its mark goes to M, to every U and to every W.
+#[tactic(auto, using(std::proofs::lemmas::Bool::Decides::nat_tests))]
 fn propagate_output(marks: &mut [u8], gadget: Gadget, i: usize)
     requires { (i < gadget.d) × Roomy gadget.d gadget.first marks.old }
     ensures { marks.new ≡ propagated (out_at gadget.d gadget.first i) (out_wires gadget.d gadget.first i) marks.old }
@@ -138,6 +139,7 @@ fn mark_masks(marks: &mut [u8], gadget: Gadget, i: usize)
 }
 
 // A sum of REF: its mark goes to the share's wire and to its random bits.
+#[tactic(auto, using(std::proofs::lemmas::Bool::Decides::nat_tests))]
 fn propagate_sum(marks: &mut [u8], gadget: Gadget, i: usize, a: usize)
     requires { (i < gadget.d) × (a < gadget.first) × (gadget.first + pairs gadget.d + gadget.d ≤ length marks.old) }
     ensures { marks.new ≡ propagated (sum_at gadget.d gadget.first i) (a ∷ map (mask_at gadget.d gadget.first i) (others gadget.d i)) marks.old }

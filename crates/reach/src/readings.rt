@@ -7,7 +7,7 @@ ghost use Rattle.gadgets.specs.Internal.Places.{word_a, word_b};
 ghost use Rattle.gadgets.specs.Internal.Gates.{AndGates, FrameGates};
 ghost use Rattle.gadgets.specs.Internal.Frames.{frame_wires, FrameEarly};
 ghost use Rattle.gadgets.specs.Internal.Accepting.{circuit_in};
-ghost use Rattle.reach.specs.Internal.Marks.{Marked, mark_all, Moves, GatesOf, Unmarked, shown_at};
+ghost use Rattle.reach.specs.Internal.Marks.{Marked, mark_all, Moves, GatesOf, shown_at};
 ghost use Rattle.reach.specs.Internal.Listing.{Room, Lists, first_of};
 ghost use Rattle.reach.specs.Internal.Reading.{Reachable, OnStops, Shows};
 
@@ -122,6 +122,7 @@ fn propagate_frames(table: &[u16], list: &[Listed], count: usize, marks: &mut [u
 {
     let mut to = count.saturating_sub(FRAME_BLOCK);
     propagate_block(table, list, to, count, marks);
+    // block by block; the first may have fewer frames
     while 0 < to {
         let from = to.saturating_sub(FRAME_BLOCK);
         let low = list[from].first as usize;
@@ -136,11 +137,11 @@ fn propagate_frames(table: &[u16], list: &[Listed], count: usize, marks: &mut [u
 
 // From clear marks, a mark on exactly the stops that the probes on an accepted table's wires read; the frames that make the marked
 // wires are listed on the way, in a list of so many.
-fn reach_listed<const FRAMES: usize>(table: &[u16], probes: &[u16], marks: &mut [u8])
-    requires { Reachable table.now probes.now marks.old × (length table.now ≤ 2 * FRAMES) × (2 * FRAMES ≤ table_limit) }
+fn reach_listed<const ROOM: usize>(table: &[u16], probes: &[u16], marks: &mut [u8])
+    requires { Reachable table.now probes.now marks.old × (length table.now ≤ 2 * ROOM) × (2 * ROOM ≤ table_limit) }
     ensures { OnStops (circuit_in table.now).wires probes.now marks.new }
 {
-    let mut list = [Listed::NONE; FRAMES];
+    let mut list = [Listed::NONE; ROOM];
     mark(marks, probes);
     let end = marks_end(probes);
     let count = list_frames(table, end, &mut list);
@@ -175,6 +176,7 @@ pub fn show(marks: &[u8; WIRES], values: &[u8], wires: usize, reading: &mut [u8]
     for x in 0..wires {
         reading[x] = shown(marks[x], values[x]);
     }
+    // no other wire is marked
     for x in wires..WIRES {
         reading[x] = 2;
     }

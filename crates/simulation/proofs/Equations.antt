@@ -87,7 +87,8 @@ module _ (ws : List Wire) (early : OrderedFrom 0 ws) (ones : ℕ) (shares tape :
         let room = cross_room d first i j l k ne in
         let ρ = valued (pair_at d first i j) in
         let β = valued (product_at d first j) in
-        let u_is : valued x ≡ bit_and (bit_xor ones (valued (a i))) ρ = gate-value x (and_not (a i) (pair_at d first i j + 1)) (omega arith) g.0 ∙ ap (bit_and (bit_xor ones (valued (a i)))) (hold_is (pair_site d i j) (pair_lt d i j l k ne)) in
+        let u_is : valued x ≡ bit_and (bit_xor ones (valued (a i))) ρ = gate-value x (and_not (a i) (pair_at d first i j + 1)) (omega arith) g.0
+        ∙ ap (bit_and (bit_xor ones (valued (a i)))) (hold_is (pair_site d i j) (pair_lt d i j l k ne)) in
         let v_is : valued (x + 2) ≡ bit_xor β ρ = gate-value (x + 2) (sum (b j ∷ pair_at d first i j ∷ [])) (omega arith) g.2 ∙ ap₂ bit_xor (sym (products j k).0) (xor_zero_r ρ) in
         let V_is : valued (x + 3) ≡ bit_xor β ρ = gate-value (x + 3) (reg (x + 2)) (omega arith) g.3 ∙ v_is in
         let w_is : valued (x + 4) ≡ bit_and (valued (a i)) (bit_xor β ρ) = gate-value (x + 4) (product (a i) (x + 3)) (omega arith) g.4 ∙ ap (bit_and (valued (a i))) V_is in (

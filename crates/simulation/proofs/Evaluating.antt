@@ -47,7 +47,8 @@ module _ {table shares tape old values : List ℕ} {place w from used : ℕ} (f 
           walked = walked_next f.walked same m;
           known = λ shared drawn.
               let v = values_at ws 1 (λ l. bits shares) (λ l. bits tape) in
-              let holds = frame-values ws (whole_ordered a) 1 shares tape 1 (λ l. bits shares) (λ l. bits tape) refl (packs shares shared) (packs tape drawn) fr d w from used (operands_at table d place) m.gates (frame-within f.walked same m) (rank_is f.walked) in
+              let holds = frame-values ws (whole_ordered a) 1 shares tape 1 (λ l. bits shares) (λ l. bits tape) refl (packs shares shared)
+              (packs tape drawn) fr d w from used (operands_at table d place) m.gates (frame-within f.walked same m) (rank_is f.walked) in
               subst (λ (k : ℕ). Known v 0 k new) made (known-all g v holds (f.known shared drawn));
           above = λ x l. g.above x (omega (arith, made)) ∙ f.above x (omega arith);
           sized = g.size ∙ f.sized;

@@ -26,7 +26,8 @@ pub record OutputsOn (d first : ℕ) (a : ℕ → ℕ) (old values : List ℕ) (
   pub above : (x : ℕ) → out_at d first d ≤ x → nth values x ≡ nth old x
   pub size : length values ≡ length old
 
-pub outputs_end : {d first : ℕ} {a : ℕ → ℕ} {old values : List ℕ} {i : ℕ} → d ≤ i → OutputsOn d first a old values i → Fills (Multiplied 1 d first a) (first + cross_start d 0) (out_at d first d) old values
+pub outputs_end : {d first : ℕ} {a : ℕ → ℕ} {old values : List ℕ} {i : ℕ} → d ≤ i → OutputsOn d first a old values i
+    → Fills (Multiplied 1 d first a) (first + cross_start d 0) (out_at d first d) old values
 outputs_end {d = d} {first} {i = i} h on =
     let e : i ≡ d = omega (arith, on.most) in
     record {

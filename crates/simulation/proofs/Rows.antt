@@ -52,10 +52,12 @@ module _ {d first i a word : ℕ} (l : i < d) where
         k (pair_at d first i j) (omega arith) (omega (arith, pair_early d first i j l h ne, product-early d first i 0 (omega arith))),
       )
 
-      crossed-at : (v : Values) → RowCrossed 1 d first i a v → Known v 0 (cross_at d first i j) values → Crossed 1 (cross_at d first i j) a (nth values (product_at d first j)) (nth values (pair_at d first i j)) v
+      crossed-at : (v : Values) → RowCrossed 1 d first i a v → Known v 0 (cross_at d first i j) values
+          → Crossed 1 (cross_at d first i j) a (nth values (product_at d first j)) (nth values (pair_at d first i j)) v
       crossed-at v e k = rw ((known_at v k).0, (known_at v k).1) (e j h ne)
 
-      row_turn : {new : List ℕ} {s : ℕ} → Crosses (cross_at d first i j) a (nth values (product_at d first j)) (nth values (pair_at d first i j)) values new s → RowOn d first i a word old new (bit_xor sum s) (j + 1)
+      row_turn : {new : List ℕ} {s : ℕ} → Crosses (cross_at d first i j) a (nth values (product_at d first j)) (nth values (pair_at d first i j)) values new s
+          → RowOn d first i a word old new (bit_xor sum s) (j + 1)
       row_turn c = record {
         fills = fills-next (omega arith) (omega (arith, slot_next i j ne)) crossed-at on.fills (fills-at refl (omega (arith, slot_next i j ne)) c.fills);
         adds = λ v e k.

@@ -25,8 +25,10 @@ pub packs : (values : List ℕ) → Bits values → Packs 1 (λ l. bits values) 
 packs values h i = set-byte (nth values i) (h i) ∙ ap byte (sym (bits_at values i)) ∙ sym (one (λ l. at (bits values) i))
 
 -- a buffer over which a list is written, the rest as it was
-pub written_over : (list old new : List ℕ) → length list ≤ length old → ((x : ℕ) → x < length list → nth new x ≡ nth list x) → ((x : ℕ) → length list ≤ x → nth new x ≡ nth old x) → length new ≡ length old → new ≡ overwrite list old
-written_over list old new room known rest size = ext_get_or 0 new (overwrite list old) (size ∙ sym all) (λ x l. cases (ltb x (length list)) (λ e. low x (ltb-true x (length list) e)) (λ e. high x (ltb-false x (length list) e)))
+pub written_over : (list old new : List ℕ) → length list ≤ length old → ((x : ℕ) → x < length list → nth new x ≡ nth list x)
+    → ((x : ℕ) → length list ≤ x → nth new x ≡ nth old x) → length new ≡ length old → new ≡ overwrite list old
+written_over list old new room known rest size =
+    ext_get_or 0 new (overwrite list old) (size ∙ sym all) (λ x l. cases (ltb x (length list)) (λ e. low x (ltb-true x (length list) e)) (λ e. high x (ltb-false x (length list) e)))
   where
     all : length (overwrite list old) ≡ length old
     all = length-append list (drop (length list) old) ∙ omega (arith, length-drop (length list) old)
@@ -40,7 +42,8 @@ written_over list old new room known rest size = ext_get_or 0 new (overwrite lis
         rest x l ∙ rw e (simp (get_or-append-add, get_or-drop))
 
 -- one that holds all values
-pub all_known : (vs : List Bool) (old new : List ℕ) → length vs ≤ length old → ((x : ℕ) → x < length vs → nth new x ≡ byte (at vs x)) → ((x : ℕ) → length vs ≤ x → nth new x ≡ nth old x) → length new ≡ length old → new ≡ overwrite (bytes vs) old
+pub all_known : (vs : List Bool) (old new : List ℕ) → length vs ≤ length old → ((x : ℕ) → x < length vs → nth new x ≡ byte (at vs x))
+    → ((x : ℕ) → length vs ≤ x → nth new x ≡ nth old x) → length new ≡ length old → new ≡ overwrite (bytes vs) old
 all_known vs old new room known rest size =
     let count : length (bytes vs) ≡ length vs = length-map vs byte in
     written_over (bytes vs) old new (omega arith) (λ x l. known x (omega arith) ∙ sym (get_or-map byte vs x false)) (λ x l. rest x (omega arith)) size

@@ -51,7 +51,8 @@ module _ {table shares tape : List ℕ} {room place w from used : ℕ} (f : Walk
   walked-answers = step_answers a f.between (second_word a) f.wires_are f.from_are
 
   -- the same, with the walk's number of shares and the random bits that the step is given
-  pub walked-step : {s : Result (Option Next) Rule} {randoms d : ℕ} → s ≡ step_with (shape_taking randoms d) table d place → d ≡ nth table 1 → randoms ≡ pairs (nth table 1) → Answers a f.between (nth table 1) w from s
+  pub walked-step : {s : Result (Option Next) Rule} {randoms d : ℕ} → s ≡ step_with (shape_taking randoms d) table d place → d ≡ nth table 1
+      → randoms ≡ pairs (nth table 1) → Answers a f.between (nth table 1) w from s
   walked-step {s} {randoms} {d} e same given = walked-answers (sym (right_step table randoms d place e (given ∙ ap pairs (sym same)) ∙ ap (λ n. step_at table n place) same))
 
   -- the frame that is met

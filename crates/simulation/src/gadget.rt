@@ -117,7 +117,7 @@ fn and_shares<const D: usize>(values: &mut [u8], gadget: Gadget, ops: &[u16], ta
     cross_all(values, g, ops);
 }
 
-// Calls a function of a gadget's shares with their number as a const argument.
+// Calls a function of a gadget's shares with their number as a const argument; the last arm is 8, the most there are.
 macro_rules! by_shares {
     ($shares:ident($values:expr, $g:expr, $ops:expr, $tape:expr)) => {
         match $g.d {
@@ -145,7 +145,7 @@ pub(crate) fn and(values: &mut [u8], g: Gadget, ops: &[u16], tape: &[u8])
 // just before `at`; those of the higher shares are the row of i.
 fn add_masks(values: &[u8], g: Gadget, i: usize, word: u8) -> u8
     requires { (i < g.d) × (g.first + g.pairs ≤ length values.now) }
-    ensures { (s : ℕ) × Sums g.d g.first i word 0 i values.now s × Sums g.d g.first i s (i + 1) g.d values.now result }
+    ensures { Sums g.d g.first i word values.now result }
 {
     let mut sum = word;
     let mut at = g.first + i;
@@ -188,7 +188,7 @@ pub fn mask(values: &mut [u8], g: Gadget, ops: &[u16], tape: &[u8])
     by_shares!(mask_shares(values, g, ops, tape))
 }
 
-// REF's outputs, registers of the sums.
+// REF's outputs, registers of the sums. (copy_within was tried: of two and three shares it is slower.)
 fn holds(values: &mut [u8], g: Gadget)
     requires { held_at g.d g.first g.d ≤ length values.old }
     ensures { Fills (Held g.d g.first) (held_at g.d g.first 0) (held_at g.d g.first g.d) values.old values.new }

@@ -57,7 +57,8 @@ zeros_at (suc m) zero = refl
 zeros_at (suc m) (suc n) = zeros_at m n
 
 -- before the first frame
-pub expanded_start : {table shares tape read sums : List ℕ} {found : ℕ} → Evaluable table shares tape (length sums) → ExpandedTo (length sums) table shares tape read found sums (replicate 80 0) 2 0 0 0 0
+pub expanded_start : {table shares tape read sums : List ℕ} {found : ℕ} → Evaluable table shares tape (length sums)
+    → ExpandedTo (length sums) table shares tape read found sums (replicate 80 0) 2 0 0 0 0
 expanded_start {found = found} e = record {
   walked = walked_start e;
   sums_sized = refl;
@@ -72,7 +73,8 @@ expanded_start {found = found} e = record {
     zero_below : (x m : ℕ) → nth (replicate 80 0) x < 2 ^ m
     zero_below x m = rw (zeros_at 80 x) (some m)
 
-module _ {room : ℕ} {table shares tape read : List ℕ} {found : ℕ} {sums terms : List ℕ} {place w from used outputs : ℕ} (t : ExpandedTo room table shares tape read found sums terms place w from used outputs) where
+module _ {room : ℕ} {table shares tape read : List ℕ} {found : ℕ} {sums terms : List ℕ} {place w from used outputs : ℕ}
+    (t : ExpandedTo room table shares tape read found sums terms place w from used outputs) where
   abbrev a : AcceptedTable table
   a = t.walked.evaluable.accepted
 
@@ -86,7 +88,8 @@ module _ {room : ℕ} {table shares tape read : List ℕ} {found : ℕ} {sums te
   none_met (Err rule) h none = absurd h
 
   -- words of variables that are right behind a frame are right before it
-  pub earlier : {terms' : List ℕ} {r w' : ℕ} (f : Values) → outputs ≤ r → w ≤ w' → ((n : ℕ) → n < outputs → term_at terms' n ≡ term_at terms n) → ((i : ℕ) → i < found → nth read i < w → term_at terms' (32 + i) ≡ term_at terms (32 + i))
+  pub earlier : {terms' : List ℕ} {r w' : ℕ} (f : Values) → outputs ≤ r → w ≤ w' → ((n : ℕ) → n < outputs → term_at terms' n ≡ term_at terms n)
+      → ((i : ℕ) → i < found → nth read i < w → term_at terms' (32 + i) ≡ term_at terms (32 + i))
       → Solves terms' r read found w' f → Solves terms outputs read found w f
   earlier f more wide outs reads s = record {
     outs = λ n l. s.outs n (omega arith) ∙ ap (product_value f) (outs n l);
@@ -112,7 +115,8 @@ module _ {room : ℕ} {table shares tape read : List ℕ} {found : ℕ} {sums te
     -- what the values of the frame's wires meet
     pub holds : (n : ℕ) (sharings tapes : ℕ → List Bool) (f : Values) → Words shares tape n sharings tapes f
         → FrameValues fr (packed n (λ l. true)) d w from used ops (map (λ s. added s f) shares) (map (λ s. added s f) tape) (values_at k.wires n sharings tapes)
-    holds n sharings tapes f v = frame-values k.wires (whole_ordered a) (packed n (λ l. true)) (map (λ s. added s f) shares) (map (λ s. added s f) tape) n sharings tapes refl v.shared v.drawn fr d w from used ops
+    holds n sharings tapes f v = frame-values k.wires (whole_ordered a) (packed n (λ l. true))
+        (map (λ s. added s f) shares) (map (λ s. added s f) tape) n sharings tapes refl v.shared v.drawn fr d w from used ops
         m.gates (frame-within t.walked same m) (rank_is t.walked)
 
     -- behind a frame: its own wires are right, and the others as they were
@@ -129,7 +133,8 @@ module _ {room : ℕ} {table shares tape read : List ℕ} {found : ℕ} {sums te
       pub before : (n : ℕ) → outputs ≤ n → n < r → Before terms' n
       pub reads_before : (i : ℕ) → i < found → Before terms' (32 + i)
 
-    pub expanded-next : {sums' terms' : List ℕ} {r : ℕ} → Made sums' terms' r → ExpandedTo room table shares tape read found sums' terms' wk.at (w + sh.wires) (from + d * sh.inputs) (used + sh.randoms) r
+    pub expanded-next : {sums' terms' : List ℕ} {r : ℕ} → Made sums' terms' r
+        → ExpandedTo room table shares tape read found sums' terms' wk.at (w + sh.wires) (from + d * sh.inputs) (used + sh.randoms) r
     expanded-next {sums'} {terms'} {r} z = record {
       walked = walked_next t.walked same m;
       sums_sized = z.sized ∙ t.sums_sized;
@@ -154,5 +159,6 @@ module _ {room : ℕ} {table shares tape read : List ℕ} {found : ℕ} {sums te
         few = omega (arith, t.few, t.walked.used_are, randoms-grow a t.walked.between, drawn);
         before = λ n l u. t.before n u;
         reads_before = λ n l u. let i = n - 32 in let z : 32 + i ≡ n = omega arith in subst (Before terms) z (t.reads_before i (omega arith));
-        right = λ n sharings tapes f v s i l. rw a.circuit_is (t.right (nth read i) (omega (arith, made i l, all)) (by_list i l refl) n sharings tapes f v (subst (λ (y : ℕ). Solves terms outputs read found y f) (sym all) s));
+        right = λ n sharings tapes f v s i l. rw a.circuit_is (t.right (nth read i) (omega (arith, made i l, all)) (by_list i l refl) n sharings tapes f v
+            (subst (λ (y : ℕ). Solves terms outputs read found y f) (sym all) s));
       }

@@ -4,8 +4,6 @@ pub mod Masks
 pub mod Running
 -- Where a wire stands inside AND
 pub mod Inside
--- Words of other shares, added
-pub mod Others
 -- Words multiplied and added
 pub mod Products
 -- Terms that stand for wires of AND

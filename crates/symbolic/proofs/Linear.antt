@@ -42,7 +42,8 @@ module _ {m : ℕ} (least : 18 ≤ m) where
   constant-below true = one_below
   constant-below false = some m
 
-  pub gate-below : (g : GateCode) (d w from : ℕ) (shares old new : List ℕ) → GateWrites g d w from shares old new → w + gate_wires g d ≤ length old → ((x : ℕ) → nth shares x < 2 ^ m) → GateNames g (λ x. nth old x < 2 ^ m)
+  pub gate-below : (g : GateCode) (d w from : ℕ) (shares old new : List ℕ) → GateWrites g d w from shares old new → w + gate_wires g d ≤ length old
+      → ((x : ℕ) → nth shares x < 2 ^ m) → GateNames g (λ x. nth old x < 2 ^ m)
       → (x : ℕ) → w ≤ x → x < w + gate_wires g d → nth new x < 2 ^ m
   gate-below (gate.In t) d w from shares old new h room s p x l u =
       let e : x ≡ w + (x - w) = omega arith in
@@ -82,7 +83,8 @@ module _ (v f : Values) (ones : ℕ) (full : f 17 ≡ ones) where
   at_one : (sums : List ℕ) (w s x : ℕ) → w < length sums → w ≤ x → x < w + 1 → Is w s → Is x (nth (set sums w s) x)
   at_one sums w s x room l u h = let e : x ≡ w = omega arith in set-right (λ y. Is x y) sums w s x room l u (ap v e ∙ h)
 
-  pub gate-right : (g : GateCode) (d w from : ℕ) (shares old new : List ℕ) → GateWrites g d w from shares old new → w + gate_wires g d ≤ length old → GateValues g ones d w from (map (λ m. added m f) shares) v
+  pub gate-right : (g : GateCode) (d w from : ℕ) (shares old new : List ℕ) → GateWrites g d w from shares old new → w + gate_wires g d ≤ length old
+      → GateValues g ones d w from (map (λ m. added m f) shares) v
       → GateNames g (λ x. Is x (nth old x)) → (x : ℕ) → w ≤ x → x < w + gate_wires g d → Is x (nth new x)
   gate-right (gate.In t) d w from shares old new h room vs p x l u =
       let e : x ≡ w + (x - w) = omega arith in
@@ -94,7 +96,8 @@ module _ (v f : Values) (ones : ℕ) (full : f 17 ≡ ones) where
   gate-right gate.Out d w from shares old new h room vs p x l u = absurd (omega arith)
 
 -- a wire of REF is a random bit, a sum or a register
-ref_wire_lem : (P : ℕ → Type 0) (d w : ℕ) → ((q : ℕ) → q < pairs d → P (w + q)) → ((i : ℕ) → i < d → P (sum_at d w i)) → ((i : ℕ) → i < d → P (held_at d w i)) → (x : ℕ) → w ≤ x → x < w + (pairs d + 2 * d) → P x
+ref_wire_lem : (P : ℕ → Type 0) (d w : ℕ) → ((q : ℕ) → q < pairs d → P (w + q)) → ((i : ℕ) → i < d → P (sum_at d w i)) → ((i : ℕ) → i < d → P (held_at d w i))
+    → (x : ℕ) → w ≤ x → x < w + (pairs d + 2 * d) → P x
 ref_wire_lem P d w draws sums holds x l u = cases (ltb x (w + pairs d))
     (λ e. let h = ltb-true x (w + pairs d) e in let z : w + (x - w) ≡ x = omega arith in subst P z (draws (x - w) (omega arith)))
     (λ e. let h = ltb-false x (w + pairs d) e in cases (ltb x (w + pairs d + d))
@@ -123,5 +126,6 @@ module _ {d w : ℕ} {ops tape : List ℕ} {used : ℕ} {old new : List ℕ} (h 
 
       summed : (i : ℕ) → i < d → v (sum_at d w i) ≡ added (bit_xor (nth old (word_a ops i)) (word_sum (others d i) (λ j. nth tape (mask_at d used i j)))) f
       summed i l = vs.masked i l
-          ∙ ap₂ bit_xor (a i l) (word_sum_ext _ _ (others d i) (λ j k. let (o, ne) = apart d i j l k in drawn (pair_site d i j) (pair_lt d i j l o ne)) ∙ sym (added-sum 64 (λ j. nth tape (mask_at d used i j)) f (others d i)))
+          ∙ ap₂ bit_xor (a i l) (word_sum_ext _ _ (others d i) (λ j k. let (o, ne) = apart d i j l k in drawn (pair_site d i j) (pair_lt d i j l o ne))
+          ∙ sym (added-sum 64 (λ j. nth tape (mask_at d used i j)) f (others d i)))
           ∙ sym (added-xor 64 (nth old (word_a ops i)) (word_sum (others d i) (λ j. nth tape (mask_at d used i j))) f)

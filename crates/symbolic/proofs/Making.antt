@@ -52,7 +52,8 @@ names_are (gate.Reg x) w P Q h e p = h x e p
 names_are gate.Out w P Q h e p = tt
 
 -- a gate takes no random bits, and its shares are the first of those from a place on
-shares_left : (g : GateCode) (d from used : ℕ) (shares : List ℕ) (tape : ℕ) → FrameSupplied (frame.Gate g) d from used (length shares) tape → FrameSupplied (frame.Gate g) d 0 0 (length (drop from shares)) 0
+shares_left : (g : GateCode) (d from used : ℕ) (shares : List ℕ) (tape : ℕ) → FrameSupplied (frame.Gate g) d from used (length shares) tape
+    → FrameSupplied (frame.Gate g) d 0 0 (length (drop from shares)) 0
 shares_left (gate.In t) d from used shares tape h = omega (arith, length-drop from shares)
 shares_left (gate.Con l b t) d from used shares tape h = tt
 shares_left (gate.Xor x y) d from used shares tape h = tt
@@ -68,7 +69,8 @@ shares_taken (gate.Not x) d w from shares sums sums' h = h
 shares_taken (gate.Reg x) d w from shares sums sums' h = h
 shares_taken gate.Out d w from shares sums sums' h = h
 
-module _ {room : ℕ} {table shares tape read : List ℕ} {found : ℕ} {sums terms : List ℕ} {place w from used outputs : ℕ} (t : ExpandedTo room table shares tape read found sums terms place w from used outputs)
+module _ {room : ℕ} {table shares tape read : List ℕ} {found : ℕ} {sums terms : List ℕ} {place w from used outputs : ℕ}
+    (t : ExpandedTo room table shares tape read found sums terms place w from used outputs)
     (shares-below : (x : ℕ) → nth shares x < 2 ^ 18) (tape-below : (x : ℕ) → nth tape x < 2 ^ 18) (few : length tape ≤ 16) (found-few : found ≤ 8) where
   abbrev a : AcceptedTable table
   a = t.walked.evaluable.accepted
@@ -91,7 +93,8 @@ module _ {room : ℕ} {table shares tape read : List ℕ} {found : ℕ} {sums te
     -- frames that add no variable
     plain : {fr : FrameCode} (m : Met a t.walked.between d w from fr sh wk) {sums' : List ℕ} → ((x : ℕ) → x < w → nth sums' x ≡ nth sums x) → length sums' ≡ length sums
         → ((x : ℕ) → w ≤ x → x < w + sh.wires → nth sums' x < 2 ^ (18 + outputs))
-        → ((n : ℕ) (sharings tapes : ℕ → List Bool) (f : Values) → Words shares tape n sharings tapes f → Solves terms outputs read found w f → (x : ℕ) → w ≤ x → x < w + sh.wires → values_at k.wires n sharings tapes x ≡ added (nth sums' x) f)
+        → ((n : ℕ) (sharings tapes : ℕ → List Bool) (f : Values) → Words shares tape n sharings tapes f → Solves terms outputs read found w f
+        → (x : ℕ) → w ≤ x → x < w + sh.wires → values_at k.wires n sharings tapes x ≡ added (nth sums' x) f)
         → Made t same m sums' terms outputs
     plain m kept sized below right = record {
       more = omega arith;
@@ -113,15 +116,18 @@ module _ {room : ℕ} {table shares tape read : List ℕ} {found : ℕ} {sums te
         let here = room_in t.walked same m in
         let made = shares_taken g d w from shares sums sums' h.0 in
         rw (h.1, h.2) (plain m (gate_kept g d w from shares sums sums' made) (gate-sized g d w from shares sums sums' made)
-        (λ x l u. gate-below {m = 18 + outputs} (omega arith) g d w from shares sums sums' made (omega (arith, here, t.sums_sized)) (λ y. more {m = 18} (omega arith) (shares-below y)) (names_are g w Named _ (λ y z e. t.below y z e) m.early m.names) x l (omega (arith, m.as_many)))
-        (λ n sharings tapes f v s x l u. gate-right (values_at k.wires n sharings tapes) f (packed n (λ e. true)) v.full g d w from shares sums sums' made (omega (arith, here, t.sums_sized)) (holds t same m n sharings tapes f v)
+        (λ x l u. gate-below {m = 18 + outputs} (omega arith) g d w from shares sums sums' made (omega (arith, here, t.sums_sized))
+        (λ y. more {m = 18} (omega arith) (shares-below y)) (names_are g w Named _ (λ y z e. t.below y z e) m.early m.names) x l (omega (arith, m.as_many)))
+        (λ n sharings tapes f v s x l u. gate-right (values_at k.wires n sharings tapes) f (packed n (λ e. true)) v.full g d w from shares sums sums' made
+        (omega (arith, here, t.sums_sized)) (holds t same m n sharings tapes f v)
         (names_are g w Named _ (λ y z e. known n sharings tapes f v s y z e) m.early m.names) x l (omega (arith, m.as_many))))
 
     ref_made : (m : Met a t.walked.between d w from frame.Ref sh wk) {sums' terms' : List ℕ} {r : ℕ}
         → FrameWrites frame.Ref d w used (operands_at table d place) (drop from shares) tape read found outputs sums terms sums' terms' r → Made t same m sums' terms' r
     ref_made m h = rw (h.1, h.2) (plain m h.0.below h.0.sized
         (λ x l u. ref_below h.0 (18 + outputs) (λ y. more {m = 18} (omega arith) (tape-below y)) (λ i z. t.below _ (m.early.1 i z) (m.names i z)) x l (omega (arith, m.as_many)))
-        (λ n sharings tapes f v s x l u. ref_right h.0 (values_at k.wires n sharings tapes) f (holds t same m n sharings tapes f v) (λ i z. known n sharings tapes f v s _ (m.early.1 i z) (m.names i z)) x l (omega (arith, m.as_many))))
+        (λ n sharings tapes f v s x l u. ref_right h.0 (values_at k.wires n sharings tapes) f (holds t same m n sharings tapes f v)
+        (λ i z. known n sharings tapes f v s _ (m.early.1 i z) (m.names i z)) x l (omega (arith, m.as_many))))
 
     -- a gadget has at least half as many random bits as shares, so the outputs are few
     and-bits : Met a t.walked.between d w from frame.And sh wk → (d ≤ 2 * sh.randoms) × (outputs + d ≤ 32)
@@ -134,8 +140,12 @@ module _ {room : ℕ} {table shares tape read : List ℕ} {found : ℕ} {sums te
     -- what a frame asks for is there
     pub frame_asks : (fr : FrameCode) → Met a t.walked.between d w from fr sh wk → length sums ≤ wire_limit
         → FrameAsks fr d w used (operands_at table d place) (length sums) (length (drop from shares)) (length tape) outputs
-    frame_asks (frame.Gate g) m wide =
-        (m.early, omega (arith, room_in t.walked same m, t.sums_sized), wide, shares_left g d from used shares (length tape) (m.supplied used (length shares) (length tape) (inputs_in t.walked same m) (draws_in t.walked same m)))
+    frame_asks (frame.Gate g) m wide = (
+      m.early,
+      omega (arith, room_in t.walked same m, t.sums_sized),
+      wide,
+      shares_left g d from used shares (length tape) (m.supplied used (length shares) (length tape) (inputs_in t.walked same m) (draws_in t.walked same m)),
+    )
     frame_asks frame.And m wide = (
       record {
         two = two-shares same;
@@ -162,7 +172,8 @@ module _ {room : ℕ} {table shares tape read : List ℕ} {found : ℕ} {sums te
     }
 
     -- AND
-    module _ (m : Met a t.walked.between d w from frame.And sh wk) {sums' terms' : List ℕ} {r : ℕ} (h : FrameWrites frame.And d w used (operands_at table d place) (drop from shares) tape read found outputs sums terms sums' terms' r) where
+    module _ (m : Met a t.walked.between d w from frame.And sh wk) {sums' terms' : List ℕ} {r : ℕ}
+        (h : FrameWrites frame.And d w used (operands_at table d place) (drop from shares) tape read found outputs sums terms sums' terms' r) where
       abbrev ops : List ℕ
       ops = operands_at table d place
 
@@ -217,7 +228,8 @@ module _ {room : ℕ} {table shares tape read : List ℕ} {found : ℕ} {sums te
 
       below : (x : ℕ) → w ≤ x → x < w + sh.wires → Named x → nth sums' x < 2 ^ (18 + (outputs + d))
       below x l u e = which x l u (λ i. clash x i e)
-          (λ i p z. rw (z, wr.outs.sum_is i p) (xor_lt (18 + (outputs + d)) _ _ (pow-lt {i = 18 + outputs + i} {j = 18 + (outputs + d)} (omega arith)) (more {m = 18 + outputs} (omega arith) (output-term i p).third)))
+          (λ i p z. rw (z, wr.outs.sum_is i p) (xor_lt (18 + (outputs + d)) _ _ (pow-lt {i = 18 + outputs + i} {j = 18 + (outputs + d)} (omega arith))
+          (more {m = 18 + outputs} (omega arith) (output-term i p).third)))
 
       -- words of the variables
       module _ (n : ℕ) (sharings tapes : ℕ → List Bool) (f : Values) (v : Words shares tape n sharings tapes f) (s : Solves terms' (outputs + d) read found (w + sh.wires) f) where
@@ -234,7 +246,8 @@ module _ {room : ℕ} {table shares tape read : List ℕ} {found : ℕ} {sums te
         inner-is x i =
             let z : x ≡ w + (x - w) = omega (arith, i.0) in
             ap value z ∙ inner-right n bit f v.full d w ops sums tape used (holds t same m n sharings tapes f v)
-            (λ j l. known n sharings tapes f v old _ (early_a j l) (m.names.0 j l)) (λ j l. known n sharings tapes f v old _ (early_b j l) (m.names.1 j l)) (x - w) (two-shares same) (omega (arith, i.0, i.1))
+            (λ j l. known n sharings tapes f v old _ (early_a j l) (m.names.0 j l))
+            (λ j l. known n sharings tapes f v old _ (early_b j l) (m.names.1 j l)) (x - w) (two-shares same) (omega (arith, i.0, i.1))
 
         output-is : (i : ℕ) → i < d → value (out_at d w i) ≡ term_value f (output_term d ops wr.mid_sums tape used i)
         output-is = output-right n bit f v.full d w ops wr.mid_sums tape used (holds t same m n sharings tapes f v)
@@ -255,7 +268,8 @@ module _ {room : ℕ} {table shares tape read : List ℕ} {found : ℕ} {sums te
         out x i p z =
             let place : 18 + (outputs + i) ≡ 18 + outputs + i = omega arith in
             ap value z ∙ output-is i p
-            ∙ term-sum f (18 + outputs + i) (output_term d ops wr.mid_sums tape used i) (omega (arith, bits.1)) (ap f (sym place) ∙ s.outs (outputs + i) (omega arith) ∙ ap (product_value f) (wr.outs.term_is i p))
+            ∙ term-sum f (18 + outputs + i) (output_term d ops wr.mid_sums tape used i) (omega (arith, bits.1)) (ap f (sym place)
+            ∙ s.outs (outputs + i) (omega arith) ∙ ap (product_value f) (wr.outs.term_is i p))
             ∙ ap (λ y. added y f) (sym (ap (nth sums') z ∙ wr.outs.sum_is i p))
 
         right : (x : ℕ) → w ≤ x → x < w + sh.wires → Told k read found x → value x ≡ added (nth sums' x) f

@@ -71,7 +71,8 @@ pub record Lowest (n m : ℕ) (f : Values) (s : ℕ) : Type 0 where
   pub inside : s < n
   pub left : added_in n m f ≡ bit_xor (f s) (added_in n (bit_and m (m - 1)) f)
 
-lowest_next : (n m : ℕ) (f : Values) → 0 < m → (0 < m / 2 → Lowest n (m / 2) (λ s. f (suc s)) (count_trailing_zeros n (m / 2))) → (d : ℕ) → m % 2 ≡ d → Lowest (suc n) m f (count_trailing_zeros (suc n) m)
+lowest_next : (n m : ℕ) (f : Values) → 0 < m → (0 < m / 2 → Lowest n (m / 2) (λ s. f (suc s)) (count_trailing_zeros n (m / 2))) → (d : ℕ)
+    → m % 2 ≡ d → Lowest (suc n) m f (count_trailing_zeros (suc n) m)
 unfolding count_trailing_zeros added_in
 lowest_next n m f h ih zero e =
     let rest = ih (omega arith) in
@@ -98,7 +99,10 @@ pub added_start : (m : ℕ) (f : Values) → AddedTo m f 0 m
 added_start m f = record { left = refl }
 
 pub added_next : {m : ℕ} {f : Values} {sum rest s new word : ℕ} → AddedTo m f sum rest → Lowest 64 rest f s → new ≡ bit_xor sum word → word ≡ f s → AddedTo m f new (bit_and rest (rest - 1))
-added_next {f = f} {sum} {rest} {s} a l e at = record { left = a.left ∙ ap (bit_xor sum) l.left ∙ sym (xor_assoc sum (f s) (added_in 64 (bit_and rest (rest - 1)) f)) ∙ ap (λ n. bit_xor n (added_in 64 (bit_and rest (rest - 1)) f)) (sym (e ∙ ap (bit_xor sum) at)) }
+added_next {f = f} {sum} {rest} {s} a l e at = record {
+  left = a.left ∙ ap (bit_xor sum) l.left ∙ sym (xor_assoc sum (f s) (added_in 64 (bit_and rest (rest - 1)) f))
+      ∙ ap (λ n. bit_xor n (added_in 64 (bit_and rest (rest - 1)) f)) (sym (e ∙ ap (bit_xor sum) at));
+}
 
 pub added_end : {m : ℕ} {f : Values} {sum rest : ℕ} → AddedTo m f sum rest → rest ≡ 0 → sum ≡ added_in 64 m f
 added_end {f = f} {sum} a e = sym (a.left ∙ ap (λ n. bit_xor sum (added_in 64 n f)) e ∙ ap (bit_xor sum) (added_none 64 f) ∙ xor_zero_r sum)

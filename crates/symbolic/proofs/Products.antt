@@ -71,7 +71,15 @@ crossed false b false = refl
 
 pub crossing_is : (n : ℕ) (a b r : ℕ → Bool) → crossing (packed n (λ l. true)) (packed n a) (packed n b) (packed n r) ≡ bit_xor (bit_and (packed n a) (packed n b)) (packed n r)
 crossing_is n a b r =
-    rw (← packed-xor n (λ l. true) a, ← packed-and n (λ l. true ⊕ a l) r, ← packed-xor n b r, ← packed-and n a (λ l. b l ⊕ r l), ← packed-and n a b, ← packed-xor n (λ l. (true ⊕ a l) && r l) (λ l. a l && (b l ⊕ r l)), ← packed-xor n (λ l. a l && b l) r)
+    rw (
+      ← packed-xor n (λ l. true) a,
+      ← packed-and n (λ l. true ⊕ a l) r,
+      ← packed-xor n b r,
+      ← packed-and n a (λ l. b l ⊕ r l),
+      ← packed-and n a b,
+      ← packed-xor n (λ l. (true ⊕ a l) && r l) (λ l. a l && (b l ⊕ r l)),
+      ← packed-xor n (λ l. a l && b l) r,
+    )
     (ap (packed n) (fun_ext (λ l. crossed (a l) (b l) (r l))))
 
 -- an output, from words of a(i), b and the random bits

@@ -79,7 +79,8 @@ module _ {d first : ℕ} {ops tape : List ℕ} {used : ℕ} {read sums terms sum
       (λ e. let h = ltb-true (nth read i) first e in rw e (reads_past (λ z. omega arith)))
       (λ e. let h = ltb-false (nth read i) first e in cases (leb (cross_start d d) (nth read i - first))
       (λ f. let k = leb-true (cross_start d d) (nth read i - first) f in rw (e, f) (reads_past (λ z. omega arith)))
-      (λ f. let k = leb-false (cross_start d d) (nth read i - first) f in rw (e, f) (reads_here _ (omega arith, omega arith) room space (inner-same asks sums sums' tape (nth read i - first) k (λ x l. r.sum_kept x (λ z. omega arith))))))
+      (λ f. let k = leb-false (cross_start d d) (nth read i - first) f in
+      rw (e, f) (reads_here _ (omega arith, omega arith) room space (inner-same asks sums sums' tape (nth read i - first) k (λ x l. r.sum_kept x (λ z. omega arith))))))
 
 -- the outputs, up to a share
 module _ (d first : ℕ) (ops tape : List ℕ) (used outputs : ℕ) (sums terms : List ℕ) where
@@ -94,7 +95,8 @@ module _ (d first : ℕ) (ops tape : List ℕ) (used outputs : ℕ) (sums terms 
 module _ {d first : ℕ} {ops tape : List ℕ} {used outputs : ℕ} {sums terms sums' terms' : List ℕ} {i : ℕ} (r : OutputsTo d first ops tape used outputs sums terms sums' terms' i) where
   -- one share more
   pub outputs-next : (w row masks p e : ℕ) → out_at d first i < length sums → 2 * (outputs + i) + 2 ≤ length terms → w < first
-      → (w ≡ word_a ops i) × (row ≡ word_sum (range 0 d) (λ j. nth sums (word_b d ops j))) × (masks ≡ bit_xor 0 (word_sum (others d i) (λ j. nth tape (mask_at d used i j)))) × (p ≡ out_at d first i) × (e ≡ bit_xor (2 ^ (18 + outputs + i)) masks)
+      → (w ≡ word_a ops i) × (row ≡ word_sum (range 0 d) (λ j. nth sums (word_b d ops j))) × (masks ≡ bit_xor 0 (word_sum (others d i) (λ j. nth tape (mask_at d used i j))))
+      × (p ≡ out_at d first i) × (e ≡ bit_xor (2 ^ (18 + outputs + i)) masks)
       → OutputsTo d first ops tape used outputs sums terms (set sums' p e) (with_term terms' (outputs + i) (term (nth sums' w) row masks)) (i + 1)
   outputs-next w row masks p e room space early (wire, all, drawn, at, var) = record {
     term_is = λ j l. cases (eqb j i)

@@ -44,8 +44,10 @@ four old at x y z u f room e = record {
     word : (w : ℕ) → w < 4 → nth (four_at old at x y z u) (at + w) ≡ f w
     word zero l =
         let none : at + 0 ≡ at = omega arith in
-        rw none (get_or-set_other three (at + 3) at u 0 (λ h. omega arith) ∙ get_or-set_other two (at + 2) at z 0 (λ h. omega arith) ∙ get_or-set_other one (at + 1) at y 0 (λ h. omega arith) ∙ get_or-set_same old at x 0 (omega arith) ∙ e.0)
-    word (suc zero) l = get_or-set_other three (at + 3) (at + 1) u 0 (λ h. omega arith) ∙ get_or-set_other two (at + 2) (at + 1) z 0 (λ h. omega arith) ∙ get_or-set_same one (at + 1) y 0 (simp length-set (omega arith)) ∙ e.1
+        rw none (get_or-set_other three (at + 3) at u 0 (λ h. omega arith) ∙ get_or-set_other two (at + 2) at z 0 (λ h. omega arith)
+        ∙ get_or-set_other one (at + 1) at y 0 (λ h. omega arith) ∙ get_or-set_same old at x 0 (omega arith) ∙ e.0)
+    word (suc zero) l = get_or-set_other three (at + 3) (at + 1) u 0 (λ h. omega arith) ∙ get_or-set_other two (at + 2) (at + 1) z 0 (λ h. omega arith)
+        ∙ get_or-set_same one (at + 1) y 0 (simp length-set (omega arith)) ∙ e.1
     word (suc (suc zero)) l = get_or-set_other three (at + 3) (at + 2) u 0 (λ h. omega arith) ∙ get_or-set_same two (at + 2) z 0 (simp length-set (omega arith)) ∙ e.2
     word (suc (suc (suc zero))) l = get_or-set_same three (at + 3) u 0 (simp length-set (omega arith)) ∙ e.3
     word (suc (suc (suc (suc w)))) l = absurd (omega arith)
@@ -88,5 +90,6 @@ pub record ShownTo (sums read words shown : List ℕ) (i : ℕ) : Type 0 where
   pub are : (j w : ℕ) → j < i → w < 4 → nth shown (4 * j + w) ≡ added (nth sums (nth read j)) (words_at w words)
   pub sized : length shown ≡ 32
 
-pub shown-next : {sums read words shown new : List ℕ} {i : ℕ} → ShownTo sums read words shown i → Four shown (4 * i) (λ w. added (nth sums (nth read i)) (words_at w words)) new → ShownTo sums read words new (i + 1)
+pub shown-next : {sums read words shown new : List ℕ} {i : ℕ} → ShownTo sums read words shown i → Four shown (4 * i) (λ w. added (nth sums (nth read i)) (words_at w words)) new
+    → ShownTo sums read words new (i + 1)
 shown-next {sums} {read} {words} s f = record { are = fours_next (λ j w. added (nth sums (nth read j)) (words_at w words)) s.are f; sized = f.sized ∙ s.sized }

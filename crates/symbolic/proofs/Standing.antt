@@ -79,7 +79,8 @@ module _ (n : ℕ) (g : ℕ → ℕ → Bool) (f : Values) (full : f 17 ≡ pack
         ∙ output-is n d i (λ e. g e (a i)) (λ j e. g e (b j)) (λ j e. g e (pair_at d first i j)) l
         ∙ sym (ap₂ bit_xor (ap₂ bit_and (sym (is-a i l))
         (added-sum 64 (λ j. nth sums (b j)) f (range 0 d) ∙ word_sum_ext _ (λ j. v (b j)) (range 0 d) (λ j h. sym (is_b j (label_lt d j h)))))
-        (added-sum 64 (λ j. nth tape (mask_at d used i j)) f (others d i) ∙ word_sum_ext _ (λ j. v (pair_at d first i j)) (others d i) (λ j h. let (k, ne) = apart d i j l h in sym (mask_is i j l k ne))))
+        (added-sum 64 (λ j. nth tape (mask_at d used i j)) f (others d i)
+        ∙ word_sum_ext _ (λ j. v (pair_at d first i j)) (others d i) (λ j h. let (k, ne) = apart d i j l h in sym (mask_is i j l k ne))))
 
     -- r and R
     drawn-right : (o : ℕ) → o < d * (d - 1) → v (first + o) ≡ term_value f (alone (nth tape (used + o / 2)))
@@ -88,7 +89,8 @@ module _ (n : ℕ) (g : ℕ → ℕ → Bool) (f : Values) (full : f 17 ≡ pack
         let h : q < pairs d = omega (arith, pairs_twice d) in
         part (o % 2) refl (w.drawn q h) ∙ words-at f tape (used + q) ∙ sym (alone-value f _)
       where
-        part : (r : ℕ) → o % 2 ≡ r → (v (first + 2 * (o / 2)) ≡ nth (map (λ m. added m f) tape) (used + o / 2)) × (v (first + 2 * (o / 2) + 1) ≡ nth (map (λ m. added m f) tape) (used + o / 2)) → v (first + o) ≡ nth (map (λ m. added m f) tape) (used + o / 2)
+        part : (r : ℕ) → o % 2 ≡ r → (v (first + 2 * (o / 2)) ≡ nth (map (λ m. added m f) tape) (used + o / 2))
+            × (v (first + 2 * (o / 2) + 1) ≡ nth (map (λ m. added m f) tape) (used + o / 2)) → v (first + o) ≡ nth (map (λ m. added m f) tape) (used + o / 2)
         part zero e p = let z : first + o ≡ first + 2 * (o / 2) = omega arith in ap v z ∙ p.0
         part (suc zero) e p = let z : first + o ≡ first + 2 * (o / 2) + 1 = omega arith in ap v z ∙ p.1
         part (suc (suc r)) e p = absurd (omega arith)

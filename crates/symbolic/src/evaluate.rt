@@ -1,7 +1,6 @@
 // The words of variables and of wires, for 256 sharings and tapes at once: four words of 64 bits for each.
-ghost use Rattle.std.specs.Prelude.{◌≡◌, ℕ, ◌+◌, ◌*◌, ◌≤◌, ◌<◌, length};
+ghost use Rattle.std.specs.Prelude.{◌≡◌, ◌+◌, ◌≤◌, ◌<◌, length};
 ghost use Rattle.std.specs.Int.Bits.{bit_and, bit_xor};
-ghost use Rattle.circuit.specs.Lists.{nth};
 ghost use Rattle.symbolic.specs.Internal.Terms.{Listed};
 ghost use Rattle.symbolic.specs.Internal.Sums.{added, words_at, four_at, FourOf, Before, BoundedTerms, Runs, Shows};
 

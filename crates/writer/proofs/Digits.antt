@@ -1,39 +1,19 @@
--- A word's digits: what the table of pairs gives for them, and that words and their digits tell each other.
-use mathlib.Core.Path.{◌≡◌, refl, subst, ◌∙◌}
+-- A word's digits: by its two bytes, and words and their digits tell each other.
+use mathlib.Core.Path.{◌≡◌, refl}
 use mathlib.Core.Bool.{true}
-use mathlib.Core.List.{List, [], ◌∷◌}
-use Prim.Native.Nat.{ℕ, ◌+◌, ◌*◌, ◌-◌, ◌/◌, ◌%◌, ◌≤◌, ◌<◌}
+use mathlib.Core.List.{[], ◌∷◌}
+use Prim.Native.Nat.{ℕ, ◌+◌, ◌-◌, ◌/◌, ◌%◌, ◌≤◌, ◌<◌}
 use native.Mathlib.Omega.{arith}
 use lib.Dec.{leb}
-use lib.ListN.{set, length-set}
-use lib.Seq.{get_or-set_same, get_or-set_other}
 use borrow.Author.Tests.{leb-true, leb-false, le-leb, lt-leb}
-use Rattle.circuit.proofs.Base.{cases, and_left, and_right, below_more}
+use Rattle.circuit.proofs.Base.{cases, and_left, and_right}
 use Rattle.text.specs.Lines.{is_decimal, is_letter, is_digit, digit, are_digits, word}
 use Rattle.text.proofs.Hex.{Digits, digits}
 use Rattle.writer.specs.Writer.{digit_byte, digits_of}
-use Rattle.writer.specs.Internal.Line.{pair_of, PairsTo}
+use Rattle.writer.specs.Internal.Line.{pair_of}
 
 pub byte_small : (n : ℕ) → n < 16 → digit_byte n < 128
 byte_small n h = cases (leb n 9) (λ e. rw e (omega arith)) (λ e. rw e (omega arith))
-
--- the table of pairs up to an equal number, and with one more
-pub pairs_to : {n m : ℕ} {pairs : List ℕ} → n ≡ m → PairsTo n pairs → PairsTo m pairs
-pairs_to {pairs = pairs} = subst (λ (k : ℕ). PairsTo k pairs)
-
-pub pairs_more : {n : ℕ} {pairs : List ℕ} → PairsTo n pairs → n < 256 → {v : ℕ} → v ≡ pair_of n → PairsTo (n + 1) (set pairs n v)
-pairs_more {n} {pairs} p h {v} e =
-    record {
-      size = length-set pairs n v ∙ p.size;
-      entry = below_more n (λ k l. get_or-set_other pairs n k v 0 (λ z. omega arith) ∙ p.entry k l) (get_or-set_same pairs n v 0 (omega (arith, p.size)) ∙ e);
-    }
-
--- a byte by its two digits
-pub pair_of_lem : (i j : ℕ) → j < 16 → pair_of (16 * i + j) ≡ digit_byte i + 256 * digit_byte j
-pair_of_lem i j h =
-    let e : (16 * i + j) / 16 ≡ i = omega arith in
-    let f : (16 * i + j) % 16 ≡ j = omega arith in
-    rw (e, f)
 
 -- the two digits of a byte
 module _ (n : ℕ) (h : n < 256) where

@@ -1,23 +1,18 @@
 -- Each turn passes a frame or answers.
 use mathlib.Core.Path.{◌≡◌, sym, ap, ◌∙◌}
-use native.Mathlib.Omega.{arith}
-use lib.ListN.{length}
 use Rattle.std.specs.Prelude.{Some, Ok, Err}
 use Rattle.std.proofs.lemmas.Result.{err_from_is_err_and}
 use Rattle.circuit.specs.Refusals.{refusal}
 use Rattle.frames.specs.Walk.{step_at}
 use Rattle.checker.proofs.Mapped.{was_ok, was_err}
-use Rattle.checker.proofs.Checking.{headed, start}
-use Rattle.checker.proofs.Ways.{stepped, way_end, way_refused, frame_of, way_broken, turn, less_left, bounded}
+use Rattle.checker.proofs.Checking.{start}
+use Rattle.checker.proofs.Ways.{stepped, way_end, way_refused, frame_of, way_broken, turn, bounded}
 use Rattle.checker.proofs.check_frames.Goals as goal
 use Rattle.checker.proofs.check_frames.Goals.{After-operands-ops}
 
 -- a whole frame stands at the walk's place
 met : (c : After-operands-ops) → Ok (Some c.in-Some.next) ≡ step_at c.args.table.now c.loop-next.walk.d c.loop-next.walk.at
 met c = sym (was_ok _ c.step.result c.map_err.result c.map_err.ensures.cases (c.in_ok-next.was ∙ ap Ok c.in-Some.is)) ∙ stepped c.loop-next.invariant c.random_bits-randoms.ensures.0 c.step.ensures
-
-pub bounds-table-1 : goal.bounds-table-1
-bounds-table-1 c = omega (arith, (headed c.args.table.now (length c.args.notes.now) c.requires).two)
 
 pub loop-next-init : goal.loop-next-init
 loop-next-init c = rw c.head_alone-tally.ensures (start c.args.table.now c.args.notes.now c.requires)
@@ -33,9 +28,6 @@ returns-in_err-next c =
 
 pub add-requires : goal.add-requires
 add-requires c = let w = c.loop-next.invariant in (bounded w, frame_of w (met (goal.at.add-requires c).After-operands-ops) c.operands-ops.result.now c.operands-ops.ensures)
-
-pub loop-next-smaller : goal.loop-next-smaller
-loop-next-smaller c = less_left c.loop-next.invariant (met (goal.at.loop-next-smaller c).After-operands-ops) c.operands-ops.result.now c.operands-ops.ensures
 
 pub loop-next-preserved : goal.loop-next-preserved
 loop-next-preserved c =

@@ -1,11 +1,10 @@
 -- What the parts of a frame do on a clock.
-use Rattle.std.specs.Prelude.{◌≡◌, List, ℕ, ◌+◌, ◌*◌, ◌≤◌, ◌<◌}
+use Rattle.std.specs.Prelude.{◌≡◌, List, ℕ, ◌+◌, ◌-◌, ◌*◌, ◌≤◌, ◌<◌}
 use Rattle.std.specs.Int.Bits.{bit_xor}
-use Rattle.circuit.specs.Lists.{nth}
-use Rattle.circuit.specs.Gadgets.{others}
+use Rattle.circuit.specs.Lists.{nth, range}
 use Rattle.circuit.specs.Wires.{random, reg}
 use Rattle.frames.specs.declared.walk.Frame.{Frame as FrameCode}
-use Rattle.gadgets.specs.Internal.Places.{product_at, cross_start, cross_at, out_at, sum_at, held_at}
+use Rattle.gadgets.specs.Internal.Places.{product_at, cross_at, out_at, sum_at, held_at}
 use Rattle.gadgets.specs.Internal.Gates.{CrossGates, CrossRowGates, CrossAllGates, ProductsGates, OutGates, FrameGates}
 use Rattle.gadgets.specs.Internal.Frames.{frame_wires}
 use Rattle.simulation.specs.Internal.Filling.{Values, word_sum}
@@ -30,11 +29,11 @@ pub record Crosses (at a b r held : ℕ) (values bank new_values new_bank : List
       → Upto k (at + 6) new_values new_bank × (s ≡ crossing k.shows at)
   pub above : (x : ℕ) → at + 6 ≤ x → nth new_values x ≡ nth values x
 
--- those of the share i, whose word of a is given, and every other, added to a word
-pub record CrossesRow (d first i : ℕ) (b : ℕ → ℕ) (a word : ℕ) (values bank new_values new_bank : List ℕ) (s : ℕ) : Type 0 where
-  pub on : (k : Clock) (x : ℕ → ℕ) → out_at d first d ≤ k.size → CrossRowGates d first x b i k.gate → a ≡ k.shows (x i) → Upto k (first + cross_start d i) values bank
-      → Upto k (first + cross_start d (i + 1)) new_values new_bank × (s ≡ bit_xor word (word_sum (others d i) (λ j. crossing k.shows (cross_at d first i j))))
-  pub above : (x : ℕ) → first + cross_start d (i + 1) ≤ x → nth new_values x ≡ nth values x
+-- those of the share i, whose word of a is given, and of others, added to a word
+pub record CrossesRow (d first i : ℕ) (b : ℕ → ℕ) (a word from to : ℕ) (values bank new_values new_bank : List ℕ) (s : ℕ) : Type 0 where
+  pub on : (k : Clock) (x : ℕ → ℕ) → out_at d first d ≤ k.size → CrossRowGates d first x b i k.gate → a ≡ k.shows (x i) → Upto k (cross_at d first i from) values bank
+      → Upto k (cross_at d first i to) new_values new_bank × (s ≡ bit_xor word (word_sum (range from (to - from)) (λ j. crossing k.shows (cross_at d first i j))))
+  pub above : (x : ℕ) → cross_at d first i to ≤ x → nth new_values x ≡ nth values x
 
 -- those of all shares, and the outputs
 abbrev pub Rows : (d first : ℕ) (a b : ℕ → ℕ) → Clock → Type 0

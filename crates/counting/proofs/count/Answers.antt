@@ -16,7 +16,13 @@ returns-in_err-accepted c =
     let a = c.args in
     let e = err_from_is_err_and c.from_residual.result c.from_residual.ensures.1 in
     let h = ends_refused _ _ _ _ _ c.in_err-accepted.ensures in
-    rw (e.1, e.2) (record { answered = h.answered; noted = c.judge.ensures.noted; listed = h.listed; add_up = adds_up a.table.now a.notes.now _; same_columns = same_columns a.table.now a.notes.now _ })
+    rw (e.1, e.2) (record {
+      answered = h.answered;
+      noted = c.judge.ensures.noted;
+      listed = h.listed;
+      add_up = adds_up a.table.now a.notes.now _;
+      same_columns = same_columns a.table.now a.notes.now _;
+    })
 
 pub list_read-requires : goal.list_read-requires
 list_read-requires c = probed _ _ _ _ _ (on (goal.at.list_read-requires c).In_ok-accepted)
@@ -25,7 +31,13 @@ pub returns-in_default : goal.returns-in_default
 returns-in_default c =
     let a = c.args in
     let h = ends_many _ _ _ _ _ (on (goal.at.returns-in_default c).In_ok-accepted) c.in_default.ensures in
-    rw c.of_call.ensures (record { answered = h.answered; noted = c.judge.ensures.noted; listed = h.listed; add_up = adds_up a.table.now a.notes.now _; same_columns = same_columns a.table.now a.notes.now _ })
+    rw c.of_call.ensures (record {
+      answered = h.answered;
+      noted = c.judge.ensures.noted;
+      listed = h.listed;
+      add_up = adds_up a.table.now a.notes.now _;
+      same_columns = same_columns a.table.now a.notes.now _;
+    })
 
 pub list_counts-pairs-requires : goal.list_counts-pairs-requires
 list_counts-pairs-requires c =
@@ -36,4 +48,10 @@ returns c =
     let a = c.args in
     let (pairs, list) = c.list_counts-pairs.ensures in
     let h = ends_counted _ _ _ _ _ (on (goal.at.returns c).In_ok-accepted) (read (goal.at.returns c).After-as_slice-read) c.as_slice-read.ensures.1 c.power.ensures.0 pairs list in
-    record { answered = h.answered; noted = c.judge.ensures.noted; listed = h.listed; add_up = adds_up a.table.now a.notes.now _; same_columns = same_columns a.table.now a.notes.now _ }
+    record {
+      answered = h.answered;
+      noted = c.judge.ensures.noted;
+      listed = h.listed;
+      add_up = adds_up a.table.now a.notes.now _;
+      same_columns = same_columns a.table.now a.notes.now _;
+    }

@@ -1,5 +1,5 @@
 -- Free bits that are only added to what the read wires show: counted without going through their values.
-use Rattle.std.specs.Prelude.{◌≡◌, Bool, true, false, cond, List, map, ℕ, zero, suc, ◌+◌, ◌*◌, ◌^◌, ◌≤◌, ◌<◌, leb, length, set}
+use Rattle.std.specs.Prelude.{◌≡◌, Bool, true, cond, List, map, ℕ, zero, suc, ◌+◌, ◌*◌, ◌^◌, ◌≤◌, ◌<◌, leb, length, set}
 use Rattle.std.specs.Int.Bits.{bit_xor}
 use Rattle.circuit.specs.Lists.{nth, range}
 use Rattle.counting.specs.Internal.Lanes.{lane_bit, shown_by}

@@ -32,7 +32,9 @@ pub fill-requires : goal.fill-requires
 fill-requires c = evaluable _ _ _ _ _ _ (passes (goal.at.fill-requires c).In-Ok) (omega arith)
 
 pub reach_stops-requires : goal.reach_stops-requires
-reach_stops-requires c = let p = passes (goal.at.reach_stops-requires c).In-Ok in record { accepted = p.of.accepted; made = λ x i. omega (arith, p.probed x i, p.wires_are); clear = refl; room = omega (arith, p.few, p.wires_are) }
+reach_stops-requires c =
+    let p = passes (goal.at.reach_stops-requires c).In-Ok in
+    record { accepted = p.of.accepted; made = λ x i. omega (arith, p.probed x i, p.wires_are); clear = refl; room = omega (arith, p.few, p.wires_are) }
 
 pub show-requires : goal.show-requires
 show-requires c =

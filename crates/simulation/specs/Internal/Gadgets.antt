@@ -1,7 +1,7 @@
 -- What the parts of AND and REF fill in.
-use Rattle.std.specs.Prelude.{◌≡◌, List, [], ℕ, ◌+◌, ◌-◌, ◌≤◌, length}
+use Rattle.std.specs.Prelude.{◌≡◌, List, [], ℕ, ◌+◌, ◌≤◌, length}
 use Rattle.std.specs.Int.Bits.{bit_xor}
-use Rattle.circuit.specs.Lists.{nth, range}
+use Rattle.circuit.specs.Lists.{nth}
 use Rattle.circuit.specs.Gadgets.{others}
 use Rattle.circuit.specs.Kinds.{pairs}
 use Rattle.frames.specs.declared.walk.Frame.{Frame as FrameCode}
@@ -37,6 +37,6 @@ pub record CrossesRow (d first i a word : ℕ) (old new : List ℕ) (s : ℕ) : 
   pub fills : Fills (RowCrossed 1 d first i a) (first + cross_start d i) (first + cross_start d (i + 1)) old new
   pub adds : (v : Values) → RowCrossed 1 d first i a v → Known v 0 (first + cross_start d i) old → s ≡ bit_xor word (word_sum (others d i) (crossing_at 1 d first i a v))
 
--- a word and REF's random bits of a share and of some others
-pub record Sums (d first i word from to : ℕ) (values : List ℕ) (s : ℕ) : Type 0 where
-  pub is : (v : Values) → Known v 0 (first + pairs d) values → s ≡ bit_xor word (word_sum (range from (to - from)) (λ j. v (mask_at d first i j)))
+-- a word and REF's random bits of a share and every other, added
+pub record Sums (d first i word : ℕ) (values : List ℕ) (s : ℕ) : Type 0 where
+  pub is : (v : Values) → Known v 0 (first + pairs d) values → s ≡ bit_xor word (word_sum (others d i) (λ j. v (mask_at d first i j)))

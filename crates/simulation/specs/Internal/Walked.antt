@@ -56,4 +56,5 @@ pub record GateWritten (fr : FrameCode) (first : ℕ) (old new : List ℕ) (r : 
 
 -- from a place on such gates are filled in up to another place, whatever the shares and random bits are
 abbrev pub GatesFilled : (table values : List ℕ) (place w : ℕ) (new : List ℕ) (place' w' : ℕ) → Type 0
-GatesFilled table values place w new place' w' = (shares tape old : List ℕ) (from used : ℕ) → FilledTo table shares tape old values place w from used → FilledTo table shares tape old new place' w' from used
+GatesFilled table values place w new place' w' = (shares tape old : List ℕ) (from used : ℕ) → FilledTo table shares tape old values place w from used
+    → FilledTo table shares tape old new place' w' from used

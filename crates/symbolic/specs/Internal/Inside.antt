@@ -26,10 +26,11 @@ unfoldable pub inner_at : (d offset : ℕ) → Inner
 inner_at d o = cond (ltb o (d * (d - 1))) (R (o / 2))
     (cond (ltb o (d * (d - 1) + 3 * d)) (product_wire ((o - d * (d - 1)) / 3) ((o - d * (d - 1)) % 3)) (pair_wire d (o - (d * (d - 1) + 3 * d))))
 
--- one of an AND of d shares
+-- two different shares of d
 abbrev pub TwoOf : (d i j : ℕ) → Type 0
 TwoOf d i j = (i < d) × (j < d) × (j ≡ i → ⊥)
 
+-- a wire inside an AND of d shares
 abbrev pub WireOf : ℕ → Inner → Type 0
 WireOf d (R q) = q < pairs d
 WireOf d (B i) = i < d

@@ -1,14 +1,10 @@
 -- The words of the inner wires, then those of the named ones behind them, are the words of all.
 use mathlib.Core.Path.{ap₂, ◌∙◌}
 use Prim.Native.Nat.{◌+◌, ◌*◌}
-use native.Mathlib.Omega.{arith}
 use lib.Seq.{sets}
 use Rattle.checker.specs.Internal.Notes.{first_word, named_words}
 use Rattle.checker.proofs.Stores.{stores_made}
 use Rattle.checker.proofs.notes.write.Goals as goal
-
-pub write_named-requires : goal.write_named-requires
-write_named-requires c = omega (arith, c.first_word-first.ensures.1)
 
 pub returns : goal.returns
 returns c =

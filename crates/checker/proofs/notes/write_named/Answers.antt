@@ -1,19 +1,10 @@
 -- The loop's invariant: the words still to write, written from here on, give what all words written from the start give.
 use mathlib.Core.Path.{sym, ap, ◌∙◌}
 use Prim.Native.Nat.{◌+◌, ◌*◌}
-use native.Mathlib.Omega.{arith}
-use lib.ListN.{length-set}
 use lib.Seq.{sets}
 use borrow.Author.Rules.{rules}
-use Rattle.checker.specs.Internal.Notes.{named_words}
-use Rattle.checker.proofs.Stores.{store_start, store_turn, named_turn, named_end}
+use Rattle.checker.proofs.Stores.{store_turn, named_turn, named_end}
 use Rattle.checker.proofs.notes.write_named.Goals as goal
-
-pub loop-i-init : goal.loop-i-init
-loop-i-init c = (search rules, search rules, search rules, store_start c.args.notes.now c.args.from c.args.first c.args.count (λ l k. named_words l c.args.stage k))
-
-pub bounds-notes-start-in-loop-i : goal.bounds-notes-start-in-loop-i
-bounds-notes-start-in-loop-i c = let l = c.loop-i in let a = c.args in omega (arith, length-set l.notes (2 * a.from + 2 * l.i) (a.first + l.i))
 
 pub loop-i-preserved : goal.loop-i-preserved
 loop-i-preserved c =

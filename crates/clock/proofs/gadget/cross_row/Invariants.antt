@@ -4,4 +4,4 @@ use Rattle.clock.proofs.Rows.{RowOn}
 use Rattle.clock.proofs.gadget.cross_row.Given as goal
 
 abbrev pub invariant-loop-j : goal.invariant-loop-j
-invariant-loop-j l = RowOn l.g.d l.g.first l.i (word_b l.g.d l.ops) l.a l.word l.initial.values l.initial.bank l.values l.bank l.sum l.j
+invariant-loop-j l = RowOn l.g.d l.g.first l.i (word_b l.g.d l.ops) l.a l.word l.from l.to l.initial.values l.initial.bank l.values l.bank l.sum l.j

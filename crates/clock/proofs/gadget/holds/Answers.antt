@@ -13,5 +13,6 @@ loop-i-preserved c =
     let (is, _) = c.sum_at-sum.ensures in
     let there : c.sum_at-sum.result + c.args.g.d ≡ held_at c.args.g.d c.args.g.first h.i = omega (arith, is) in
     runs_next h.invariant
-    (λ k g u. upto_at (omega (arith, there)) (keep (upto_at (sym there) u) _ (omega (arith, g.0, h.invariant.held_sized)) (ap k.gate there ∙ g.1 h.i c.loop-i-test.true) (u.below _ (omega (arith, is)) ∙ ap k.shows is)))
+    (λ k g u. upto_at (omega (arith, there))
+    (keep (upto_at (sym there) u) _ (omega (arith, g.0, h.invariant.held_sized)) (ap k.gate there ∙ g.1 h.i c.loop-i-test.true) (u.below _ (omega (arith, is)) ∙ ap k.shows is)))
     refl (rw length-set refl)

@@ -13,5 +13,7 @@ loop-i-preserved c =
     let t = c.loop-i-test.true in
     let (is, _) = c.product_at-at.ensures in
     runs_next c.loop-i.invariant
-    (λ k g u. upto_at (omega (arith, is)) (product-on _ _ _ (omega (arith, g.0, is)) (product-gates k.gate is c.word_a.ensures c.word_b.ensures (g.1 i t)) (upto_at (omega (arith, is)) u) (omega (arith, is, c.word_a.ensures, early i t)) (omega (arith, is, c.word_b.ensures, late i t)) _ c.m-m.ensures))
+    (λ k g u. upto_at (omega (arith, is))
+    (product-on _ _ _ (omega (arith, g.0, is)) (product-gates k.gate is c.word_a.ensures c.word_b.ensures (g.1 i t)) (upto_at (omega (arith, is)) u)
+    (omega (arith, is, c.word_a.ensures, early i t)) (omega (arith, is, c.word_b.ensures, late i t)) _ c.m-m.ensures))
     (rw length-set refl) (rw (length-set, length-set) refl)

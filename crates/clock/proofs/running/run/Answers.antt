@@ -9,4 +9,5 @@ pub returns : goal.returns
 returns c =
     let a = c.args in
     let (ready, all) = c.requires in
-    copied_run all (fills_copied a.bank.now 0 0 a.wires a.wires a.wires a.values.now c.copy_from_slice.new.self (omega (arith, ready.0.roomy)) (omega (arith, ready.1)) refl refl c.copy_from_slice.ensures.after) c.run_frames.ensures
+    copied_run all (fills_copied a.bank.now 0 0 a.wires a.wires a.wires a.values.now c.copy_from_slice.new.self (omega (arith, ready.0.roomy))
+    (omega (arith, ready.1)) refl refl c.copy_from_slice.ensures.after) c.run_frames.ensures

@@ -10,7 +10,8 @@ returns-in-Gate-In c =
     let a = c.args in
     let room = rw (c.in-Gate-In.is, is) at c.requires.1 in
     let supplied = rw (c.in-Gate-In.is, is) at c.requires.4 in
-    rw (c.in-Gate-In.is, is) (in_runs (fills_copied a.shares.now a.before.from a.before.first a.d _ _ a.values.now c.copy_from_slice.new.self room supplied (omega arith) (omega arith) c.copy_from_slice.ensures.after))
+    rw (c.in-Gate-In.is, is) (in_runs
+    (fills_copied a.shares.now a.before.from a.before.first a.d _ _ a.values.now c.copy_from_slice.new.self room supplied (omega arith) (omega arith) c.copy_from_slice.ensures.after))
 
 pub returns-in-Gate-Con : goal.returns-in-Gate-Con
 returns-in-Gate-Con c =

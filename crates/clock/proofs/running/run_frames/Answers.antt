@@ -35,8 +35,14 @@ pub run_frame-requires : goal.run_frame-requires
 run_frame-requires c =
     let i = (goal.at.run_frame-requires c).In-Ok-Some in
     let f = c.loop-next.invariant.1 in
-    let m = met i in
-    (m.small, omega (arith, room_in f.walked (same i) m, f.sized), held_room f (same i) m, rw (words (goal.at.run_frame-requires c).After-operands-ops) m.early, m.supplied _ _ _ (inputs_in f.walked (same i) m) (draws_in f.walked (same i) m), given i)
+    let m = met i in (
+      m.small,
+      omega (arith, room_in f.walked (same i) m, f.sized),
+      held_room f (same i) m,
+      rw (words (goal.at.run_frame-requires c).After-operands-ops) m.early,
+      m.supplied _ _ _ (inputs_in f.walked (same i) m) (draws_in f.walked (same i) m),
+      given i,
+    )
 
 pub behind-before-requires : goal.behind-before-requires
 behind-before-requires c =

@@ -1,9 +1,9 @@
 -- Under seven free bits one batch has all pairs; from there on each has 128.
-use mathlib.Core.Path.{sym, subst, ◌∙◌}
+use mathlib.Core.Path.{subst}
 use Prim.Native.Nat.{ℕ}
 use native.Mathlib.Omega.{arith}
 use Rattle.counting.specs.Internal.Pairs.{Divides}
-use Rattle.counting.proofs.Batches.{one_batch, whole_batches}
+use Rattle.counting.proofs.Batches.{whole_batches}
 use Rattle.counting.proofs.Tallying.{varied-most}
 use Rattle.counting.proofs.enumeration.enumerate.Goals as goal
 

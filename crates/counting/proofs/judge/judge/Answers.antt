@@ -1,5 +1,5 @@
 -- At each place the judgement is that of the rules so far.
-use mathlib.Core.Path.{◌≡◌, sym, ap, ◌∙◌}
+use mathlib.Core.Path.{sym, ap, ◌∙◌}
 use native.Mathlib.Omega.{arith}
 use Rattle.std.proofs.lemmas.Result.{err_from_is_err_and}
 use Rattle.circuit.specs.Refusals.{refusal_answer}
@@ -65,5 +65,6 @@ pub returns : goal.returns
 returns c =
     let k = circuit_of c.args.table.now c.args.notes.now in
     let t = tells (goal.at.returns c).In_ok-accepted in
-    let e = at_end _ _ _ _ _ t c.if-secrets-inputs.false c.if-room-lt-SHEET.false c.first_over.ensures c.in_default.is c.first_missing.ensures c.in_default-first_missing.is c.if-table-inputs-gt-FREE_BITS.false in
+    let e = at_end _ _ _ _ _ t c.if-secrets-inputs.false c.if-room-lt-SHEET.false c.first_over.ensures c.in_default.is c.first_missing.ensures c.in_default-first_missing.is
+    c.if-table-inputs-gt-FREE_BITS.false in
     record { answers = c.in_ok-accepted.ensures.answered ∙ ap (answer k) (t.passes ∙ sym e); noted = c.check.ensures.noted; inputs = t.inputs }

@@ -1,5 +1,4 @@
 -- A lane more.
-use native.Mathlib.Omega.{arith}
 use Rattle.counting.proofs.Adding.{added_next}
 use Rattle.counting.proofs.lanes.add.Goals as goal
 

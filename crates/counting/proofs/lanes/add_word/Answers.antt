@@ -1,7 +1,6 @@
 -- Eight pairs more, or those that are left.
 use mathlib.Core.Path.{◌≡◌}
 use mathlib.Core.Bool.{Bool, true, false, cond}
-use mathlib.Core.List.{List}
 use Prim.Native.Nat.{ℕ, ◌+◌, ◌/◌, ◌^◌, min, ◌<◌}
 use native.Mathlib.Omega.{arith}
 use Rattle.counting.specs.Internal.Lanes.{shown_by, column_of, place_of, Adds, tally_of}
@@ -19,7 +18,8 @@ add-requires-in-loop-done c = (omega arith, adds-room (c.loop-done.invariant tru
 
 -- a turn
 turned : (c : After-add-in-loop-done) (second : Bool) → let a = c.args in
-    Adds (shown_by (column_of a.shown.now (place_of second a.word)) a.found) (min (c.loop-done.done + 8) a.lanes) (tally_of second a.tallies.now) (cond second c.add-in-loop-done.new.tally c.add.new.tally)
+    Adds (shown_by (column_of a.shown.now (place_of second a.word)) a.found) (min (c.loop-done.done + 8) a.lanes) (tally_of second a.tallies.now)
+    (cond second c.add-in-loop-done.new.tally c.add.new.tally)
 turned c second =
     let a = c.args in
     let l = c.loop-done in

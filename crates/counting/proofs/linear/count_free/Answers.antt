@@ -1,6 +1,6 @@
 -- A free bit more.
 use mathlib.Core.Path.{sym, ap, ap₂, ◌∙◌}
-use Prim.Native.Nat.{◌+◌, ◌≤◌}
+use Prim.Native.Nat.{◌+◌}
 use native.Mathlib.Omega.{arith}
 use Rattle.semantics.specs.Values.{byte}
 use Rattle.counting.proofs.WordBits.{byte_most}

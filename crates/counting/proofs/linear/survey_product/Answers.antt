@@ -1,5 +1,4 @@
 -- By whether the product is needed.
-use mathlib.Core.Path.{sym, ◌∙◌}
 use native.Mathlib.Omega.{arith}
 use Rattle.counting.proofs.Surveying.{survey_both}
 use Rattle.counting.proofs.linear.survey_product.Goals as goal

@@ -1,6 +1,6 @@
 -- Of the lowest six free bits the word is a pattern, of the others all ones or 0.
 use mathlib.Core.Path.{◌≡◌, sym, ap, ◌∙◌}
-use Prim.Native.Nat.{ℕ, ◌≤◌, ◌<◌}
+use Prim.Native.Nat.{ℕ, ◌<◌}
 use native.Mathlib.Omega.{arith}
 use Rattle.simulation.specs.Internal.Evaluating.{packed}
 use Rattle.counting.specs.Internal.Lanes.{lane_bit}
@@ -12,14 +12,8 @@ use Rattle.counting.proofs.pairs.free_word.Goals.{Start}
 low : (s : Start) {j : ℕ} → s.args.i ≡ j → j < 6 → packed 64 (lane_bit j) ≡ free_word s.args.i s.args.number
 low s e h = sym (ap (λ m. free_word m s.args.number) e ∙ low_word _ s.args.number h)
 
-five : {i : ℕ} → i ≤ 5 → (i ≡ 0 → ⊥) → (i ≡ 1 → ⊥) → (i ≡ 2 → ⊥) → (i ≡ 3 → ⊥) → (i ≡ 4 → ⊥) → i ≡ 5
-five l a b c d e = omega arith
-
 pub returns-then-i-gt5 : goal.returns-then-i-gt5
 returns-then-i-gt5 c = sym (high_word c.args.i c.args.number (omega arith))
-
-pub returns-in-0 : goal.returns-in-0
-returns-in-0 c = low (goal.at.returns-in-0 c).Start c.in-0.is (omega arith)
 
 pub returns-in-1 : goal.returns-in-1
 returns-in-1 c = low (goal.at.returns-in-1 c).Start c.in-1.is (omega arith)
@@ -34,4 +28,4 @@ pub returns-in-4 : goal.returns-in-4
 returns-in-4 c = low (goal.at.returns-in-4 c).Start c.in-4.is (omega arith)
 
 pub returns-in_default : goal.returns-in_default
-returns-in_default c = let r = c.in_default.in_default-own.rest in low (goal.at.returns-in_default c).Start (five c.if-i-gt5.false r.0.0.0.0.1 r.0.0.0.1 r.0.0.1 r.0.1 r.1) (omega arith)
+returns-in_default c = let e : c.args.i ≡ 5 = omega arith in low (goal.at.returns-in_default c).Start e (omega arith)

@@ -45,7 +45,10 @@ pub slice_bounds-complete-end : goal.slice_bounds-complete-end
 slice_bounds-complete-end c = omega (arith, lasts_many c.secret_sums-lasts.ensures)
 
 pub complete-requires : goal.complete-requires
-complete-requires c = let n = numbers (goal.at.complete-requires c).Start in (n.some, omega (arith, ap (λ m. c.args.plan.others * m) (lasts_many c.secret_sums-lasts.ensures), n.starts, n.within, n.few))
+complete-requires c = let n = numbers (goal.at.complete-requires c).Start in (
+  n.some,
+  omega (arith, ap (λ m. c.args.plan.others * m) (lasts_many c.secret_sums-lasts.ensures), n.starts, n.within, n.few),
+)
 
 pub overflow_add-shares : goal.overflow_add-shares
 overflow_add-shares c = omega (arith, (numbers (goal.at.overflow_add-shares c).Start).most)

@@ -20,7 +20,8 @@ prepare-terms-requires c =
     (rw m (set-countable n.numbered a.secrets.now n.sized n.bit false), c.plan_pairs-plan.ensures, n.read_in, m, n.sized, omega (arith, n.wires_are, room), most)
 
 -- what the batches rest on, and the counts of both sets
-prepared : (c : After-tally_both) → let a = c.args in Prepared a.table.now a.secrets.now a.read.now c.prepare-terms.new.sums c.prepare-terms.result.sums c.prepare-terms.result.outputs c.plan_pairs-plan.result
+prepared : (c : After-tally_both) → let a = c.args in
+    Prepared a.table.now a.secrets.now a.read.now c.prepare-terms.new.sums c.prepare-terms.result.sums c.prepare-terms.result.outputs c.plan_pairs-plan.result
 prepared c =
     let a = c.args in
     let (n, room, most) = c.requires in

@@ -1,6 +1,6 @@
 -- A batch more, counted under both sets.
-use mathlib.Core.Path.{◌≡◌, refl, ◌∙◌}
-use Prim.Native.Nat.{ℕ, ◌+◌, ◌*◌, ◌≤◌}
+use mathlib.Core.Path.{refl}
+use Prim.Native.Nat.{◌≤◌}
 use native.Mathlib.Omega.{arith}
 use Rattle.counting.specs.Internal.Linear.{varied_in}
 use Rattle.counting.specs.Internal.Pairs.{count_varied}

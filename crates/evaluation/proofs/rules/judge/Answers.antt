@@ -140,4 +140,5 @@ returns c =
     let at18 = from18 q at17 (omega arith) in
     let at_tape = from_tape q c.first_over.ensures at18 c.in_default-first_over.is in
     let at19 = from19 q c.first_over-2.ensures at_tape c.in_default-first_over-2.is in
-    judged q c.check-answer.ensures.noted (c.check-answer.ensures.answered ∙ ap (answer (circuit_of q.table q.notes)) n.passed) (passes q c.first_missing.ensures wires at19 c.in_default-first_missing.is)
+    let told = c.check-answer.ensures.answered ∙ ap (answer (circuit_of q.table q.notes)) n.passed in
+    judged q c.check-answer.ensures.noted told (passes q c.first_missing.ensures wires at19 c.in_default-first_missing.is)

@@ -22,7 +22,8 @@ found c e =
     let answer = right_step table c.random_bits-randoms.result l.walk.d l.walk.at c.step.ensures given ∙ ap (λ d. step_at table d l.walk.at) l.invariant.0 in
     turn l.invariant.1 c.requires.1 refl (sym answer ∙ e)
 
-met : (c : In-Ok-Some) (s : After-step) → s.step.result ≡ Ok c.in-Ok-Some.field-0 → let n = c.in-Ok-Some.next in Turn s.loop-next.invariant.1 s.requires.1 (nth s.args.table.now 1) n.frame n.shape n.walk
+met : (c : In-Ok-Some) (s : After-step) → s.step.result ≡ Ok c.in-Ok-Some.field-0 → let n = c.in-Ok-Some.next in
+    Turn s.loop-next.invariant.1 s.requires.1 (nth s.args.table.now 1) n.frame n.shape n.walk
 met c s e = found s (e ∙ ap Ok c.in-Ok-Some.field-0-is)
 
 pub loop-next-init : goal.loop-next-init

@@ -4,13 +4,12 @@ use Prim.Native.Nat.{◌+◌, ◌≤◌}
 use native.Mathlib.Omega.{arith}
 use lib.ListN.{length}
 use Rattle.circuit.specs.Wires.{sum, is_stop}
-use Rattle.frames.specs.declared.walk.Gate.{Gate as GateCode}
 use Rattle.frames.specs.declared.walk.Frame.{Frame as FrameCode}
 use Rattle.frames.specs.declared.walk.Frame.TheVariants as frame
 use Rattle.gadgets.specs.Internal.Frames.{frame_wires, FrameEarly}
 use Rattle.reach.proofs.Moved.{moves_none, moves_at, moves_stop, moves_stops, moves_gate, twice_moved}
 use Rattle.reach.proofs.readings.propagate_frame.Goals as goal
-use Rattle.reach.proofs.readings.propagate_frame.Goals.{In-Gate, Start}
+use Rattle.reach.proofs.readings.propagate_frame.Goals.{Start}
 
 -- what the contract asks of a frame
 abbrev Asked : Start → FrameCode → Type 0
@@ -19,14 +18,15 @@ Asked s f = let p = s.args.place in (p.first + frame_wires f p.d ≤ length s.ar
 asked : (s : Start) {f : FrameCode} → s.args.frame ≡ f → Asked s f
 asked s e = subst (Asked s) e s.requires
 
-asked_gate : (c : In-Gate) {g : GateCode} → c.in-Gate.gate ≡ g → Asked c.before.before.before.before (frame.Gate g)
-asked_gate c e = asked c.before.before.before.before (c.in-Gate.is ∙ ap frame.Gate e)
-
 pub propagate-requires : goal.propagate-requires
-propagate-requires c = let q = asked_gate (goal.at.propagate-requires c).In-Gate c.in-Xor.is in (omega (arith, q.0), omega (arith, q.0, q.1.0), omega (arith, q.0, q.1.1))
+propagate-requires c =
+    let q = asked (goal.at.propagate-requires c).Start (c.in-Gate.is ∙ ap frame.Gate c.in-Xor.is) in
+    (omega (arith, q.0), omega (arith, q.0, q.1.0), omega (arith, q.0, q.1.1))
 
 pub propagate-requires-in-Not : goal.propagate-requires-in-Not
-propagate-requires-in-Not c = let q = asked_gate (goal.at.propagate-requires-in-Not c).In-Gate c.in-Not.is in (omega (arith, q.0), omega (arith, q.0, q.1), omega (arith, q.0, q.1))
+propagate-requires-in-Not c =
+    let q = asked (goal.at.propagate-requires-in-Not c).Start (c.in-Gate.is ∙ ap frame.Gate c.in-Not.is) in
+    (omega (arith, q.0), omega (arith, q.0, q.1), omega (arith, q.0, q.1))
 
 pub propagate_and-requires : goal.propagate_and-requires
 propagate_and-requires c = asked (goal.at.propagate_and-requires c).Start c.in-And.is

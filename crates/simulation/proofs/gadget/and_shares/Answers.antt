@@ -6,4 +6,5 @@ use Rattle.simulation.proofs.gadget.and_shares.Goals as goal
 pub returns : goal.returns
 returns g c =
     let a = c.args in
-    and-filled a.gadget.d a.gadget.first (word_a a.ops.now) (word_b a.gadget.d a.ops.now) a.tape.now a.gadget.used _ a.gadget.paired (rw c.of_shares-g.ensures at c.draws.ensures) (rw c.of_shares-g.ensures at c.share_products.ensures) (rw c.of_shares-g.ensures at c.cross_all.ensures)
+    and-filled a.gadget.d a.gadget.first (word_a a.ops.now) (word_b a.gadget.d a.ops.now) a.tape.now a.gadget.used _ a.gadget.paired
+    (rw c.of_shares-g.ensures at c.draws.ensures) (rw c.of_shares-g.ensures at c.share_products.ensures) (rw c.of_shares-g.ensures at c.cross_all.ensures)

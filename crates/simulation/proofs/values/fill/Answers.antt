@@ -68,8 +68,15 @@ words c = c.operands-ops.ensures ∙ ap (λ n. operands_at c.args.table.now n c.
 pub write_frame-requires : goal.write_frame-requires
 write_frame-requires c =
     let i = (goal.at.write_frame-requires c).In-Ok-Some in
-    let m = met i in
-    (m.small, omega (arith, room i, c.write_gate.auto.values), rw (words (goal.at.write_frame-requires c).After-operands-ops) m.early, m.supplied _ _ _ (inputs i) (draws i), given i, c.write_gate.ensures.other c.if-write_gate.false)
+    let m = met i in (
+      m.small,
+      omega (arith, room i, c.write_gate.auto.values),
+      rw (words (goal.at.write_frame-requires c).After-operands-ops) m.early,
+      m.supplied _ _ _
+          (inputs i) (draws i),
+      given i,
+      c.write_gate.ensures.other c.if-write_gate.false,
+    )
 
 pub behind-before-requires : goal.behind-before-requires
 behind-before-requires c =
