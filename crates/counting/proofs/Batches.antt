@@ -1,7 +1,7 @@
--- All pairs in batches of 128, or in one of fewer; and the numbers of a table and its plan.
+-- All pairs in batches of 128; and the numbers of a table and its plan.
 use mathlib.Core.Path.{◌≡◌, sym, ap, ◌∙◌}
 use mathlib.Core.List.{List}
-use Prim.Native.Nat.{ℕ, ◌+◌, ◌*◌, ◌-◌, ◌^◌, ◌≤◌, ◌<◌}
+use Prim.Native.Nat.{ℕ, ◌+◌, ◌*◌, ◌-◌, ◌^◌, ◌≤◌}
 use native.Mathlib.Nat.{mul-le-mul_right}
 use native.Mathlib.Omega.{arith}
 use lib.ListN.{length}
@@ -15,7 +15,6 @@ use Rattle.counting.specs.Counting.{pair_count}
 use Rattle.counting.specs.Internal.Pairs.{Divides}
 use Rattle.counting.specs.Internal.Tallying.{Countable, Planned}
 use Rattle.counting.specs.declared.plan.Plan.{Plan}
-use Rattle.counting.proofs.Numbered.{pow_mono}
 
 pub whole_batches : (free count : ℕ) → 7 ≤ free → count ≡ 2 ^ (free - 7) → Divides free count 128
 whole_batches free count h e =

@@ -5,7 +5,7 @@ use Prim.Native.Nat.{ℕ, ◌+◌, ◌/◌, ◌^◌, min, ◌<◌}
 use native.Mathlib.Omega.{arith}
 use Rattle.counting.specs.Internal.Lanes.{shown_by, column_of, place_of, Adds, tally_of}
 use Rattle.counting.proofs.Gathering.{shown-small}
-use Rattle.counting.proofs.Adding.{adds-room, adds-all}
+use Rattle.counting.proofs.Adding.{adds-room}
 use Rattle.counting.proofs.Columns.{word_next}
 use Rattle.counting.proofs.lanes.add_word.Goals as goal
 use Rattle.counting.proofs.lanes.add_word.Goals.{After-add-in-loop-done}
@@ -39,9 +39,6 @@ turned c second =
 
 pub loop-done-preserved : goal.loop-done-preserved
 loop-done-preserved c = turned (goal.at.loop-done-preserved c).After-add-in-loop-done
-
-pub returns : goal.returns
-returns c = λ second. adds-all (c.loop-done.invariant second) (omega arith) (omega arith)
 
 pub returns-2 : goal.returns-2
 returns-2 c = let last : min (c.loop-done.done + 8) c.args.lanes ≡ c.args.lanes = omega arith in rw last at (turned (goal.at.returns-2 c).After-add-in-loop-done)

@@ -12,13 +12,6 @@ use Rattle.counting.proofs.Counts.{set-countable, lists}
 use Rattle.counting.proofs.tally.list_on.Goals as goal
 use Rattle.counting.proofs.tally.list_on.Goals.{After-tally_both}
 
-pub prepare-terms-requires : goal.prepare-terms-requires
-prepare-terms-requires c =
-    let a = c.args in
-    let (n, room, most) = c.requires in
-    let m = n.numbered.inputs_are in
-    (rw m (set-countable n.numbered a.secrets.now n.sized n.bit false), c.plan_pairs-plan.ensures, n.read_in, m, n.sized, omega (arith, n.wires_are, room), most)
-
 -- what the batches rest on, and the counts of both sets
 prepared : (c : After-tally_both) → let a = c.args in
     Prepared a.table.now a.secrets.now a.read.now c.prepare-terms.new.sums c.prepare-terms.result.sums c.prepare-terms.result.outputs c.plan_pairs-plan.result
