@@ -17,7 +17,7 @@ const REGISTERED: u16 = 8;
 
 // A wire that words may name, as the notes show it.
 #[derive(Clone, Copy)]
-pub struct Named {
+pub(crate) struct Named {
     pub label: u16,
     pub stage: u16,
     pub registered: bool,
@@ -25,7 +25,7 @@ pub struct Named {
 
 // What is asked of a named wire beside its label: to stand so many stages before another, and, if so told, to be registered.
 #[derive(Clone, Copy)]
-pub struct Wanted {
+pub(crate) struct Wanted {
     pub stage: u16,
     pub ahead: u16,
     pub registered: bool,
@@ -75,7 +75,7 @@ pub(crate) fn look_up(notes: &[u16], wires: usize, wire: u16) -> Result<Named, R
     })
 }
 
-// The label that the notes give a wire, where it is a named one; 0 past their end.
+// The label that the notes give a wire, where it is a named one; 0 past their end, as the promise has it (`label_noted`).
 pub fn label(notes: &[u16], wire: u16) -> u16
     ensures { result ≡ label_noted notes.now wire }
 {

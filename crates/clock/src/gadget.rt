@@ -1,6 +1,6 @@
 // AND and REF on one clock. The buffer of values holds what every register shows; the bank gets what each shows on the next clock, which is
-// what its operand shows on this one. Capital letters are registers, as in document 01. (One code with simulation's AND was tried and is
-// slower: an evaluation has at hand what R, B and V show, and a clock reads it.)
+// what its operand shows on this one. Capital letters are registers, as in document 01. (`simulation` has AND's loops too, for
+// values alone: an evaluation has at hand what R, B and V show, and a clock reads it.)
 ghost use Rattle.std.specs.Prelude.{◌≡◌, List, ℕ, ◌+◌, ◌-◌, ◌*◌, ◌≤◌, ◌<◌, length};
 ghost use Rattle.gadgets.specs.Internal.Places.{word_a, word_b, product_at, cross_start, out_at, held_at};
 ghost use Rattle.gadgets.specs.Internal.Frames.{FrameEarly, Roomy, frame_wires};

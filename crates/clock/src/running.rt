@@ -83,6 +83,7 @@ fn run_frames(table: &[u16], shares: &[u8], tape: &[u8], values: &mut [u8], bank
         from: 0,
         used: 0,
     };
+    // an accepted table has a frame at each place of the walk, up to its end
     while let Ok(Some(next)) = walk.step(table, randoms) {
         let ops = walk.operands(table);
         run_frame(
@@ -109,7 +110,7 @@ pub(crate) fn run(
     run_frames(table, shares, tape, values, bank);
 }
 
-// A byte of the bank, where the mark is a bit; else 0.
+// A byte of the bank, where the mark is a bit; else 0, which is no byte over 1.
 fn register_byte(mark: u8, byte: u8) -> u8
     ensures { result ≡ cond (leb mark 1) byte 0 }
 {

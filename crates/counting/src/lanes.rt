@@ -35,7 +35,7 @@ fn add(tally: &mut [u32; 256], numbers: u64, lanes: usize)
     let mut rest = numbers;
     for _lane in 0..lanes {
         tally[(rest % 256) as usize] += 1;
-        rest = rest / 256;
+        rest /= 256;
     }
 }
 

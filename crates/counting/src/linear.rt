@@ -25,7 +25,7 @@ fn variables_read(sums: &[u64], read: &[u16]) -> u64
 {
     let mut all = 0;
     for wire in read {
-        all = all | sums[*wire as usize];
+        all |= sums[*wire as usize];
     }
     all
 }

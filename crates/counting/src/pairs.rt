@@ -32,7 +32,7 @@ fn complete_one(words: &[u64], whole: u64, shares: &mut [u64])
     let mut last = whole;
     for (i, word) in words.iter().enumerate() {
         shares[i] = *word;
-        last = last ^ *word;
+        last ^= *word;
     }
     shares[words.len()] = last;
 }

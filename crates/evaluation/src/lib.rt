@@ -31,8 +31,7 @@ pub fn evaluate(
         → Computes table.now (values_of (circuit_of table.now notes.old).wires (bits shares.now) (bits tape.now)) }
 {
     let room = values.len();
-    let none = &table[0..0];
-    let answer = rules::judge(table, notes, shares, tape, none, room);
+    let answer = rules::judge(table, notes, shares, tape, &[], room);
     let Ok(_) = answer else {
         return answer;
     };

@@ -27,7 +27,7 @@ pub enum Form {
     Constant,
     // two wires of one label and stage
     Sum,
-    // one wire, so many stages before the one that is made: 0, or 1 for a register
+    // one wire, so many stages before the one that is made: 0, or 1 for a register (a number, since it is added to a stage)
     Copy { after: u16 },
     // the first random, d wires a, and d wires b one stage before them
     Product,
@@ -71,7 +71,8 @@ fn kind_line(
 }
 
 // The frame that a kind word begins, where a gadget of d shares takes so many random bits; how many words follow the kind does
-// not depend on them. A word past 8 is no kind and is answered as HEAD. The kinds stand in three groups, so that a processor
+// not depend on them. A word past 8 is no kind and is answered as HEAD (`shaped` says so): rule 5 is asked before, and an option would
+// be asked again. The kinds stand in three groups, so that a processor
 // foresees each by its own branches: one jump for all of them cost some tables of gates twice the time. Between NOT and REG, which
 // have as many words, there is no branch, so that tables of gates in any order are not slowed by it.
 pub fn decide(word: u16, d: u16, randoms: u16) -> Shape

@@ -9,7 +9,8 @@ fn random_numbers() -> [u16; 7]
     [1, 3, 6, 10, 15, 21, 28]
 }
 
-// The random bits of a gadget of d shares: d(d−1)/2 up to 8 shares. The list ends there: for more shares the answer is 0.
+// The random bits of a gadget of d shares: d(d−1)/2 up to 8 shares. The list ends there: for more shares the answer is 0, as
+// `listed_pairs` has it; no option, since each caller has an answer's number of shares at hand.
 pub fn random_bits(d: u16) -> u16
     ensures { (result ≡ listed_pairs d) × (result ≤ 28) }
 {

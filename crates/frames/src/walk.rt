@@ -42,7 +42,8 @@ pub struct Next {
     pub walk: Walk,
 }
 
-// The word at a place of a part of the table; 0 past its end.
+// The word at a place of a part of the table; 0 past its end, as the definition's `nth` has it. (Whether the words are there is asked
+// once, of the whole frame.)
 fn word_at(words: &[u16], i: usize) -> u16
     ensures { result ≡ nth words.now i }
 {
@@ -143,10 +144,7 @@ impl Walk {
             return Ok(None);
         }
         let word = table[at];
-        if word < 1 {
-            return Err(Rule::Kind);
-        }
-        if 8 < word {
+        if word == 0 || 8 < word {
             return Err(Rule::Kind);
         }
         let start = at + 1;

@@ -56,7 +56,7 @@ pub fn cross_start(d: usize, i: usize) -> usize
     d * (d - 1) + 3 * d + 6 * (i * (d - 1))
 }
 
-// Where a random bit of the shares i and j stands, behind those before its gadget.
+// Where a random bit of the shares i and j stands, behind those before its gadget; of i and i there is none, and the first is told.
 pub fn mask_at(d: usize, first: usize, i: usize, j: usize) -> usize
     requires { Small first d × (i < d) × (j < d) }
     ensures { (result ≡ mask_at d first i j) × (result ≤ first + 40) }
@@ -99,19 +99,6 @@ pub struct Gadget {
 }
 
 impl Gadget {
-    // One of d shares, behind so many wires and random bits.
-    pub fn new(d: usize, first: usize, used: usize) -> Self
-        requires { Small first d }
-        ensures { (result.d ≡ d) × (result.first ≡ first) × (result.used ≡ used) }
-    {
-        Gadget {
-            d,
-            pairs: pairs(d),
-            first,
-            used,
-        }
-    }
-
     // AND's wire r of the shares i and j; R stands behind it.
     pub fn pair_at(self, i: usize, j: usize) -> usize
         requires { (i < self.d) × (j < self.d) × (j ≡ i → ⊥) }

@@ -112,6 +112,7 @@ pub(crate) fn judge(table: &[u16], notes: &[u16]) -> Result<(), Refusal>
     let randoms = random_bits(d);
     let mut walk = Walk { d, at: 2 };
     let mut number = 1;
+    // an accepted table has a frame at each place of the walk, up to its end
     while let Ok(Some(next)) = walk.step(table, randoms) {
         let further = frames_further(next.shape.wires, n);
         let last = number + further;

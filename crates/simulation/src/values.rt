@@ -146,6 +146,7 @@ fn fill_gates(
 {
     let mut walk = start;
     let mut first = wires;
+    // an accepted table has a frame at each place of the walk, up to its end
     while let Ok(Some(next)) = walk.step(table, randoms) {
         if !write_gate(values, next.frame, first) {
             break;
@@ -170,6 +171,7 @@ pub fn fill(table: &[u16], shares: &[u8], tape: &[u8], values: &mut [u8])
         from: 0,
         used: 0,
     };
+    // an accepted table has a frame at each place of the walk, up to its end
     while let Ok(Some(next)) = walk.step(table, randoms) {
         let shape = next.shape;
         if write_gate(values, next.frame, before.first) {

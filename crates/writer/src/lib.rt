@@ -26,6 +26,7 @@ fn write_frames(pairs: &Pairs, table: &[u16], text: &mut [u8])
     let d = table[1];
     let randoms = random_bits(d);
     let mut walk = Walk { d, at: 2 };
+    // an accepted table has a frame at each place of the walk, up to its end
     while let Ok(Some(next)) = walk.step(table, randoms) {
         pairs.write_words(table, walk.at, next.walk.at, text);
         line::end_line(next.walk.at, text);
