@@ -1,5 +1,6 @@
 // The words of each form, judged in their order. Where they break no rule, and the wires that they make keep 13 and 14, these
-// are written into the notes; otherwise the notes are as found.
+// are written into the notes; otherwise the notes are as found. (The notes and the number of wires in them go side by side: a struct
+// that held the lent notes would read as its state at entry and at exit in every clause.)
 ghost use Rattle.std.specs.Prelude.{◌≡◌, ◌+◌, ◌-◌, ◌≤◌, ◌<◌, true, false, Ok, eqb, length};
 ghost use Rattle.circuit.specs.Limits.{most_shares};
 ghost use Rattle.circuit.specs.Lists.{nth};

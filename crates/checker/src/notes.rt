@@ -1,5 +1,5 @@
 // The notes: two words for each wire, its label, plus 8 where it is registered, and its stage; or FFFF twice for an inner
-// wire. Only this module knows it.
+// wire. Only this module knows it. The notes are read and written by index, as the scope document has it.
 ghost use Rattle.std.specs.Prelude.{◌≡◌, ◌+◌, ◌*◌, ◌≤◌, ◌<◌, false, length};
 ghost use Rattle.std.proofs.lemmas.List.Edits.{sets};
 ghost use Rattle.circuit.specs.Limits.{most_shares};

@@ -2,7 +2,7 @@
 ghost use Rattle.std.specs.Prelude.{◌≡◌, ◌++◌, [], ◌∷◌, ◌≤◌, length, take, MatchOption};
 ghost use Rattle.circuit.specs.Limits.{wire_limit};
 
-// At most eight wires, in order.
+// At most eight wires, in order, in an array with a count: nothing here is on a heap.
 #[derive(Clone, Copy)]
 pub struct ReadWires {
     pub wires: [u16; 8],

@@ -25,11 +25,11 @@ fn put_number(n: usize, out: &mut [u8]) -> usize
     ensures { Written (decimal n) out.old result out.new }
 {
     if n < BASE {
-        out[0] = 48 + n as u8;
+        out[0] = b'0' + n as u8;
         return 1;
     }
     let next = put_number(n / BASE, out);
-    out[next] = 48 + (n % BASE) as u8;
+    out[next] = b'0' + (n % BASE) as u8;
     next + 1
 }
 

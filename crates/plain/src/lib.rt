@@ -14,8 +14,8 @@ use circuit::Refusal;
 
 mod sharing;
 
-// Checks a table, then its sharings: 26, which is the no, at the first frame, or the first frame of a run, that fits none. The last promise says
-// what a yes is good for: the added shares are the plain circuit's bits, for all shares and tapes.
+// Checks a table, then its sharings: 26, which is the no, at the first frame, or the first frame of a run, that fits none. The last
+// promise says what a yes is good for: the added shares are the plain circuit's bits, for all shares and tapes.
 pub fn check_sharings(table: &[u16], notes: &mut [u16]) -> Result<Accepted, Refusal>
     ensures answered { answer_of result ≡ sharings_answer table.now notes.old }
     ensures noted { notes.new ≡ notes_after (checked table.now (length notes.old)).circuit notes.old }

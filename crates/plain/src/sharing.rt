@@ -1,5 +1,5 @@
-// The sharings of an accepted table. The d wires of a sharing have numbers in a row, and where all frames so far are in sharings, every wire
-// of label 0 is the first of one. So a row of wires is a sharing where its numbers rise by one from a wire of label 0.
+// The sharings of an accepted table. The d wires of a sharing have numbers in a row, and where all frames so far are in sharings,
+// every wire of label 0 is the first of one. So a row of wires is a sharing where its numbers rise by one from a wire of label 0.
 ghost use Rattle.std.specs.Prelude.{◌≡◌, cond, ◌&&◌, ◌+◌, ◌-◌, ◌*◌, ◌≤◌, ◌<◌, eqb, length};
 ghost use Rattle.gadgets.specs.Internal.Accepting.{AcceptedTable, circuit_in};
 ghost use Rattle.plain.specs.Sharings.{whole_of};

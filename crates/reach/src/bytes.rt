@@ -1,7 +1,7 @@
 // Bytes looked at together.
 ghost use Rattle.reach.specs.Internal.Bytes.{Most};
 
-// The largest of some bytes; 0 of none.
+// The largest of some bytes; 0 of none. (A loop, of which the compiler takes many bytes at once.)
 pub fn largest(bytes: &[u8]) -> u8
     ensures { Most bytes.now result }
 {

@@ -160,7 +160,7 @@ pub fn reach_stops(table: &[u16], probes: &[u16], marks: &mut [u8])
     }
 }
 
-// A wire's byte of the reading: its value where it is marked, 2 elsewhere.
+// A wire's byte of the reading, a sheet of the C interface: its value where it is marked, 2 elsewhere.
 #[tactic(auto, using(std::proofs::lemmas::Bool::Decides::nat_tests))]
 fn shown(mark: u8, value: u8) -> u8
     ensures { result ≡ shown_at mark value }

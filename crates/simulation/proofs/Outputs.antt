@@ -4,16 +4,13 @@ use mathlib.Core.List.{List}
 use Prim.Native.Nat.{ℕ, ◌+◌, ◌≤◌, ◌<◌}
 use native.Mathlib.Omega.{arith}
 use lib.Bits.{bit_xor}
-use lib.Dec.{ltb}
 use lib.ListN.{length, set, length-set}
-use borrow.Author.Tests.{ltb-true, ltb-false}
 use Rattle.circuit.specs.Lists.{nth}
 use Rattle.circuit.specs.Gadgets.{others}
-use Rattle.circuit.proofs.Base.{cases}
 use Rattle.gadgets.specs.Internal.Places.{cross_start, product_at, out_at}
 use Rattle.gadgets.proofs.Stored.{nth-set}
 use Rattle.gadgets.proofs.Slots.{product-early, row_room}
-use Rattle.simulation.specs.Internal.Filling.{Values, word_sum, Known, Fills, RowCrossed, crossing_at, Multiplied}
+use Rattle.simulation.specs.Internal.Filling.{Values, word_sum, Known, RowCrossed, crossing_at, Multiplied}
 use Rattle.simulation.specs.Internal.Gadgets.{CrossesRow}
 use Rattle.simulation.proofs.Filled.{known-all}
 

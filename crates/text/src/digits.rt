@@ -2,7 +2,7 @@
 ghost use Rattle.std.specs.Prelude.{◌≡◌, true, List, ℕ, ◌+◌, ◌*◌, ◌≤◌, length};
 ghost use Rattle.text.specs.Internal.Scan.{digit_code, mark_code, code_table, pair_code, most_codes, Coded, is_word, value_in};
 
-// What a byte counts that is not of the form.
+// What a byte counts that is not of the form: more than the codes of a word have together, so that one test of their sum finds it.
 const NO_CODE: u16 = 4096;
 
 // What stands at a place of the text, by codes: two digits, two more, and the byte behind them.
@@ -47,8 +47,8 @@ impl Codes {
         for (value, digit) in b"0123456789ABCDEF".iter().enumerate() {
             table[*digit as usize] = value as u16;
         }
-        table[256 + 32] = 0;
-        table[256 + 10] = 1;
+        table[256 + b' ' as usize] = 0;
+        table[256 + b'\n' as usize] = 1;
         Codes { table }
     }
 

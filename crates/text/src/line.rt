@@ -27,7 +27,7 @@ pub(crate) fn count(codes: &Codes, text: &[u8]) -> Option<usize>
     None
 }
 
-// Some words of a text, and the whole lines among them.
+// Some words of a text, and the whole lines among them, in arrays with a count: nothing here is on a heap.
 #[derive(Drop)]
 pub(crate) struct Block {
     words: [u16; BLOCK],

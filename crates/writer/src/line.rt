@@ -54,7 +54,7 @@ impl Pairs {
         text[at + 1] = (high / 256) as u8;
         text[at + 2] = (low % 256) as u8;
         text[at + 3] = (low / 256) as u8;
-        text[at + 4] = 32;
+        text[at + 4] = b' ';
     }
 
     // The words from one place of the table to another, each with a space behind it, at their place in the text: five bytes a word.
@@ -83,5 +83,5 @@ pub(crate) fn end_line(to: usize, text: &mut [u8])
     requires { (0 < to) × (5 * to ≤ length text.old) }
     ensures { text.new ≡ set text.old (5 * to - 1) line_feed }
 {
-    text[5 * to - 1] = 10;
+    text[5 * to - 1] = b'\n';
 }
