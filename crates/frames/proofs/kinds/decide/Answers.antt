@@ -1,5 +1,4 @@
 -- Each arm is the kind table's line of its word; d(d−1) as the code computes it is the table's.
-use mathlib.Core.Logic.{⊎_elim}
 use mathlib.Core.Path.{◌≡◌, refl, sym, ap, ap₂, ◌∙◌}
 use Prim.Native.Nat.{ℕ, ◌+◌, ◌*◌, ◌<◌}
 use native.Mathlib.Omega.{arith}
@@ -12,7 +11,7 @@ use Rattle.frames.specs.declared.kinds.Kind.TheVariants.{And, Ref, Out}
 use Rattle.circuit.proofs.Sizes.{words-AND, words-REF, words-OUT}
 use Rattle.frames.proofs.KindTable.{ordered, square_least, square_most, no_kind, same_line, decided}
 use Rattle.frames.proofs.kinds.decide.Goals as goal
-use Rattle.frames.proofs.kinds.decide.Goals.{Start}
+use Rattle.frames.proofs.kinds.decide.Goals.{Start, then-word-eq4, else-word-eq4}
 
 -- d·d is small
 square : (s : Start) → s.args.d * s.args.d < 4294967296
@@ -30,57 +29,43 @@ pub overflow_sub-ordered : goal.overflow_sub-ordered
 unfolding kind_of shape
 overflow_sub-ordered c = square_least c.args.d
 
-pub returns-in-1-clause-shaped : goal.returns-in-1-clause-shaped
+pub returns-in-1 : goal.returns-in-1
 unfolding kind_of shape
-returns-in-1-clause-shaped c = rw c.in-1.is ((decided {d = c.args.d} IN c.kind_line.ensures refl)).0
+returns-in-1 c = let h = decided {d = c.args.d} IN c.kind_line.ensures refl in rw c.in-1.is record { shaped = h.0; formed = h.1 }
 
-pub returns-in-1-clause-formed : goal.returns-in-1-clause-formed
+pub returns-in-2 : goal.returns-in-2
 unfolding kind_of shape
-returns-in-1-clause-formed c = rw c.in-1.is ((decided {d = c.args.d} IN c.kind_line.ensures refl)).1
+returns-in-2 c = let h = decided {d = c.args.d} CON c.kind_line-in-2.ensures refl in rw c.in-2.is record { shaped = h.0; formed = h.1 }
 
-pub returns-in-2-clause-shaped : goal.returns-in-2-clause-shaped
+pub returns-in_default : goal.returns-in_default
 unfolding kind_of shape
-returns-in-2-clause-shaped c = rw c.in-2.is ((decided {d = c.args.d} CON c.kind_line-in-2.ensures refl)).0
+returns-in_default c =
+    let e : c.args.word ≡ 0 = omega arith in
+    let h = decided {d = c.args.d} HEAD c.kind_line-in_default.ensures refl in
+    rw e record { shaped = h.0; formed = h.1 }
 
-pub returns-in-2-clause-formed : goal.returns-in-2-clause-formed
+pub returns-then-word-eq3 : goal.returns-then-word-eq3
 unfolding kind_of shape
-returns-in-2-clause-formed c = rw c.in-2.is ((decided {d = c.args.d} CON c.kind_line-in-2.ensures refl)).1
-
-pub returns-in_default-clause-shaped : goal.returns-in_default-clause-shaped
-unfolding kind_of shape
-returns-in_default-clause-shaped c = let h = c.in_default.in_default-own.rest in let e : c.args.word ≡ 0 = omega (arith, c.if-word-lt3.true, h.0, h.1) in rw e ((decided {d = c.args.d} HEAD c.kind_line-in_default.ensures refl)).0
-
-pub returns-in_default-clause-formed : goal.returns-in_default-clause-formed
-unfolding kind_of shape
-returns-in_default-clause-formed c = let h = c.in_default.in_default-own.rest in let e : c.args.word ≡ 0 = omega (arith, c.if-word-lt3.true, h.0, h.1) in rw e ((decided {d = c.args.d} HEAD c.kind_line-in_default.ensures refl)).1
-
-pub returns-then-word-eq3-clause-shaped : goal.returns-then-word-eq3-clause-shaped
-unfolding kind_of shape
-returns-then-word-eq3-clause-shaped c = rw c.if-word-eq3.true ((decided {d = c.args.d} XOR c.kind_line-then-word-eq3.ensures refl)).0
-
-pub returns-then-word-eq3-clause-formed : goal.returns-then-word-eq3-clause-formed
-unfolding kind_of shape
-returns-then-word-eq3-clause-formed c = rw c.if-word-eq3.true ((decided {d = c.args.d} XOR c.kind_line-then-word-eq3.ensures refl)).1
+returns-then-word-eq3 c =
+    let h = decided {d = c.args.d} XOR c.kind_line-then-word-eq3.ensures refl in
+    rw c.if-word-eq3.true record { shaped = h.0; formed = h.1 }
 
 pub overflow_sub-word : goal.overflow_sub-word
 unfolding kind_of shape
 overflow_sub-word c = omega (arith, c.if-word-eq3.false, c.if-word-lt3.false)
 
-pub returns-then-word-lt6-clause-shaped : goal.returns-then-word-lt6-clause-shaped
+pub returns-then-word-lt6 : goal.returns-then-word-lt6
 unfolding kind_of shape
-returns-then-word-lt6-clause-shaped c = ⊎_elim
-    (λ p. rw p.if-word-eq4.true ((decided {d = c.args.d} NOT (copied c.kind_line-then-word-lt6.ensures p.kind-is (omega (arith, p.if-word-eq4.true))) refl).0))
-    (λ p. let e : c.args.word ≡ 5 = omega (arith, p.if-word-eq4.false, c.if-word-eq3.false, c.if-word-lt6.true, c.if-word-lt3.false) in
-    rw e ((decided {d = c.args.d} REG (copied c.kind_line-then-word-lt6.ensures p.kind-is (omega (arith, e))) refl).0))
-    c.if-word-eq4.branch-raw
-
-pub returns-then-word-lt6-clause-formed : goal.returns-then-word-lt6-clause-formed
-unfolding kind_of shape
-returns-then-word-lt6-clause-formed c = ⊎_elim
-    (λ p. rw p.if-word-eq4.true ((decided {d = c.args.d} NOT (copied c.kind_line-then-word-lt6.ensures p.kind-is (omega (arith, p.if-word-eq4.true))) refl).1))
-    (λ p. let e : c.args.word ≡ 5 = omega (arith, p.if-word-eq4.false, c.if-word-eq3.false, c.if-word-lt6.true, c.if-word-lt3.false) in
-    rw e ((decided {d = c.args.d} REG (copied c.kind_line-then-word-lt6.ensures p.kind-is (omega (arith, e))) refl).1))
-    c.if-word-eq4.branch-raw
+returns-then-word-lt6 c =
+    elim c.if-word-eq4.branch [
+      | then-word-eq4 p ↦
+          let h = decided {d = c.args.d} NOT (copied c.kind_line-then-word-lt6.ensures p.kind-is (omega (arith, p.if-word-eq4.true))) refl in
+          rw p.if-word-eq4.true record { shaped = h.0; formed = h.1 }
+      | else-word-eq4 p ↦
+          let e : c.args.word ≡ 5 = omega arith in
+          let h = decided {d = c.args.d} REG (copied c.kind_line-then-word-lt6.ensures p.kind-is (omega (arith, e))) refl in
+          rw e record { shaped = h.0; formed = h.1 }
+    ]
 
 pub overflow_mul-ordered-in-6 : goal.overflow_mul-ordered-in-6
 unfolding kind_of shape
@@ -90,34 +75,27 @@ pub overflow_add-ordered : goal.overflow_add-ordered
 unfolding kind_of shape
 overflow_add-ordered c = omega (arith, square (goal.at.overflow_add-ordered c).Start)
 
-pub returns-in-6-clause-shaped : goal.returns-in-6-clause-shaped
+pub returns-in-6 : goal.returns-in-6
 unfolding kind_of shape
-returns-in-6-clause-shaped c = let d = c.args.d in let e = ordered d in rw c.in-6.is ((decided {d = c.args.d} AND (c.kind_line-in-6.ensures ∙ same_line And Product (sym (words-AND d)) (ap (λ n. 7 * n + 4 * d) e) refl) refl)).0
+returns-in-6 c =
+    let d = c.args.d in
+    let h = decided {d = c.args.d} AND (c.kind_line-in-6.ensures ∙ same_line And Product (sym (words-AND d)) (ap (λ n. 7 * n + 4 * d) (ordered d)) refl) refl in
+    rw c.in-6.is record { shaped = h.0; formed = h.1 }
 
-pub returns-in-6-clause-formed : goal.returns-in-6-clause-formed
+pub returns-in-7 : goal.returns-in-7
 unfolding kind_of shape
-returns-in-6-clause-formed c = let d = c.args.d in let e = ordered d in rw c.in-6.is ((decided {d = c.args.d} AND (c.kind_line-in-6.ensures ∙ same_line And Product (sym (words-AND d)) (ap (λ n. 7 * n + 4 * d) e) refl) refl)).1
+returns-in-7 c =
+    let h = decided {d = c.args.d} REF (c.kind_line-in-7.ensures ∙ same_line Ref Refresh (sym (words-REF c.args.d)) refl refl) refl in
+    rw c.in-7.is record { shaped = h.0; formed = h.1 }
 
-pub returns-in-7-clause-shaped : goal.returns-in-7-clause-shaped
+pub returns-in-8 : goal.returns-in-8
 unfolding kind_of shape
-returns-in-7-clause-shaped c = let d = c.args.d in rw c.in-7.is ((decided {d = c.args.d} REF (c.kind_line-in-7.ensures ∙ same_line Ref Refresh (sym (words-REF d)) refl refl) refl)).0
+returns-in-8 c =
+    let h = decided {d = c.args.d} OUT (c.kind_line-in-8.ensures ∙ same_line Out Row (sym (words-OUT c.args.d)) refl refl) refl in
+    rw c.in-8.is record { shaped = h.0; formed = h.1 }
 
-pub returns-in-7-clause-formed : goal.returns-in-7-clause-formed
+pub returns-in_default-word : goal.returns-in_default-word
 unfolding kind_of shape
-returns-in-7-clause-formed c = let d = c.args.d in rw c.in-7.is ((decided {d = c.args.d} REF (c.kind_line-in-7.ensures ∙ same_line Ref Refresh (sym (words-REF d)) refl refl) refl)).1
-
-pub returns-in-8-clause-shaped : goal.returns-in-8-clause-shaped
-unfolding kind_of shape
-returns-in-8-clause-shaped c = rw c.in-8.is ((decided {d = c.args.d} OUT (c.kind_line-in-8.ensures ∙ same_line Out Row (sym (words-OUT c.args.d)) refl refl) refl)).0
-
-pub returns-in-8-clause-formed : goal.returns-in-8-clause-formed
-unfolding kind_of shape
-returns-in-8-clause-formed c = rw c.in-8.is ((decided {d = c.args.d} OUT (c.kind_line-in-8.ensures ∙ same_line Out Row (sym (words-OUT c.args.d)) refl refl) refl)).1
-
-pub returns-in_default-word-clause-shaped : goal.returns-in_default-word-clause-shaped
-unfolding kind_of shape
-returns-in_default-word-clause-shaped c = let h = c.in_default-word.in_default-word-own.rest in rw (no_kind c.args.word (omega (arith, c.if-word-lt6.false, h.0.0, h.0.1, h.1))) ((decided {d = c.args.d} HEAD c.kind_line-in_default-word.ensures refl)).0
-
-pub returns-in_default-word-clause-formed : goal.returns-in_default-word-clause-formed
-unfolding kind_of shape
-returns-in_default-word-clause-formed c = let h = c.in_default-word.in_default-word-own.rest in rw (no_kind c.args.word (omega (arith, c.if-word-lt6.false, h.0.0, h.0.1, h.1))) ((decided {d = c.args.d} HEAD c.kind_line-in_default-word.ensures refl)).1
+returns-in_default-word c =
+    let h = decided {d = c.args.d} HEAD c.kind_line-in_default-word.ensures refl in
+    rw (no_kind c.args.word (omega arith)) record { shaped = h.0; formed = h.1 }
