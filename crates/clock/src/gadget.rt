@@ -111,7 +111,7 @@ pub(crate) fn and(values: &mut [u8], bank: &mut [u8], g: Gadget, ops: &[u16], ta
     cross_all(values, bank, g, ops);
 }
 
-// What REF's outputs show next.
+// What REF's outputs show next. (The same short loop as in `simulation`, into the bank.)
 fn holds(values: &[u8], bank: &mut [u8], g: Gadget)
     requires { (held_at g.d g.first g.d ≤ length values.now) × (held_at g.d g.first g.d ≤ length bank.old) }
     ensures { Runs (Holds g.d g.first) (held_at g.d g.first 0) (held_at g.d g.first g.d) values.now bank.old values.now bank.new }

@@ -14,7 +14,7 @@ fn spread(bits: u64) -> u64
 }
 
 // The numbers of the combinations that eight pairs show, from one of 64 on, each in a byte: the wires' words are at one of the four
-// places that each wire has.
+// places that each wire has, told by its number.
 fn gather(shown: &[u64; 32], word: usize, from: usize, found: usize) -> u64
     requires { (word < 4) × (from < 64) × (found ≤ 8) }
     ensures { result ≡ gathered 8 (shown_by (λ i. column_of shown.now word i / 2 ^ from) found) }

@@ -1,4 +1,4 @@
-// The list of counts, four numbers a combination.
+// The list of counts, four numbers a combination, as the C interface lends the sheet.
 ghost use Rattle.std.specs.Prelude.{◌≡◌, Bool, ℕ, ◌+◌, ◌*◌, ◌^◌, ◌≤◌, length};
 ghost use Rattle.std.proofs.lemmas.List.Edits.{sets};
 ghost use Rattle.circuit.specs.Lists.{nth};

@@ -11,7 +11,7 @@ pub struct Factors {
     pub other: u64,
 }
 
-// m = a·B
+// m = a·B (w multiplies alike: they are two gates of AND, by their names)
 pub fn m(a: u64, b: u64) -> Factors
     ensures { result ≡ factors a b }
 {

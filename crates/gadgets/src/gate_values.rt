@@ -1,4 +1,4 @@
-// The gates inside AND of bits, each in a byte of its own.
+// The gates inside AND of bits, each in a byte of its own: what `equations` says is multiplied, multiplied.
 ghost use Rattle.std.specs.Prelude.{◌≡◌, ◌%◌};
 ghost use Rattle.std.specs.Int.Bits.{bit_and, bit_xor};
 

@@ -70,7 +70,7 @@ pub fn mask_at(d: usize, first: usize, i: usize, j: usize) -> usize
     first
 }
 
-// The wires a and b of the share i, among a gadget's words.
+// The wires a and b of the share i, among a gadget's words: two rows, by document 01's names.
 pub fn word_a(ops: &[u16], i: usize) -> usize
     requires { 1 + i < length ops.now }
     ensures { result ≡ word_a ops.now i }

@@ -1,4 +1,5 @@
-// What the marks on a frame's wires reach: from a wire to those it takes, the last wire first.
+// What the marks on a frame's wires reach: from a wire to those it takes, the last wire first. (A mark is a byte, 1 where it is set:
+// many are looked at together, and they stand beside the bytes of values.)
 ghost use Rattle.std.specs.Prelude.{◌≡◌, [], ◌∷◌, map, ℕ, ◌+◌, ◌-◌, ◌*◌, ◌≤◌, ◌<◌, length};
 ghost use Rattle.circuit.specs.Limits.{wire_limit};
 ghost use Rattle.circuit.specs.Lists.{range};

@@ -27,8 +27,8 @@ const FEW_FRAMES: usize = FEW_WORDS / 2;
 // Frames that are passed over together where no wire of theirs is marked.
 const FRAME_BLOCK: usize = 16;
 
-// One past the highest probed wire, 0 without probes. A search of the marks, which reads many at once, would wait for those that were
-// just written one by one; and a loop that also marks would go slowly.
+// One past the highest probed wire: so many marks have to be looked at, 0 without probes. A search of the marks, which reads many at
+// once, would wait for those that were just written one by one; and a loop that also marks would go slowly.
 fn marks_end(probes: &[u16]) -> usize
     ensures { ((x : ℕ) → In x probes.now → x < result) × ((wires : ℕ) → ((x : ℕ) → In x probes.now → x < wires) → result ≤ wires) }
 {

@@ -52,7 +52,7 @@ fn add(one: Four, other: Four) -> Four
     }
 }
 
-// Products of words.
+// Products of words, another operation than sums.
 fn multiply(one: Four, other: Four) -> Four
     ensures { (result.a ≡ bit_and one.a other.a) × (result.b ≡ bit_and one.b other.b) × (result.c ≡ bit_and one.c other.c) × (result.d ≡ bit_and one.d other.d) }
 {

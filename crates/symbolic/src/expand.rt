@@ -24,7 +24,8 @@ fn constant(value: u16) -> u64
     if value < 1 { 0 } else { ONE }
 }
 
-// The wires of a gate, from the first of them on; `shares` begins with those that an IN takes.
+// The wires of a gate, from the first of them on; `shares` begins with those that an IN takes. (Single expressions, as those of bytes in
+// `simulation`: one generic function for both would be no plainer.)
 fn write_gate(sums: &mut [u64], gate: Gate, first: usize, d: usize, shares: &[u64])
     requires { GateAsks gate d first (length sums.old) (length shares.now) }
     ensures { GateWrites gate d first 0 shares.now sums.old sums.new }

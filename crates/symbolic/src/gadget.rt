@@ -56,7 +56,7 @@ fn variable(n: usize) -> u64
     1 << n
 }
 
-// The sums that the wires a and b of a share are, by a gadget's words.
+// The sums that the wires a and b of a share are, by a gadget's words: two rows, by document 01's names.
 fn share_a(sums: &[u64], ops: &[u16], i: usize) -> u64
     requires { (1 + i < length ops.now) × (word_a ops.now i < length sums.now) }
     ensures { result ≡ nth sums.now (word_a ops.now i) }

@@ -65,7 +65,7 @@ impl Block {
         self.lines = lines;
     }
 
-    // How many of the lines come before the first that breaks one of rules 5, 6 and 21.
+    // How many of the lines come before the first that breaks one of rules 5, 6 and 21: a count, 0 where the first breaks one.
     pub(crate) fn taken(&self, lengths: &Lengths, room: usize) -> usize
         ensures { Taken lengths.now.d self.now.words self.now.ends self.now.lines room result }
     {

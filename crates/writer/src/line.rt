@@ -6,7 +6,8 @@ ghost use Rattle.text.specs.Lines.{line_feed, space};
 ghost use Rattle.writer.specs.Writer.{digit_byte, digits_of};
 ghost use Rattle.writer.specs.Internal.Line.{spaced_of, PairsTo};
 
-// The byte of a digit: 0 is the byte 48, and the letters come 7 later than right behind 9.
+// The byte of a digit: 0 is the byte 48, and the letters come 7 later than right behind 9. (Hexadecimal, for the table of pairs;
+// the program's line has decimal numbers.)
 fn digit_byte(n: u16) -> u16
     requires { n < 16 }
     ensures { (result ≡ digit_byte n) × (result < 128) }
