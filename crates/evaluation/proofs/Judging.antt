@@ -65,20 +65,32 @@ module _ (q : Call) where
   pub breaks15 : Comes left15 → (length q.shares ≡ k.inputs * k.d → ⊥) → Comes (refuse 15 0 0)
   breaks15 h ne sheets s = broken _ 15 _ (h sheets s) (ne_eqb _ _ ne)
 
-  pub from16 : Comes left15 → length q.shares ≡ k.inputs * k.d → Comes left16
+  from16 : Comes left15 → length q.shares ≡ k.inputs * k.d → Comes left16
   from16 h e sheets s = kept _ 15 _ (h sheets s) (eq-eqb _ _ e)
 
   pub breaks16 : Comes left16 → (length q.tape ≡ k.randoms → ⊥) → Comes (refuse 16 0 0)
   breaks16 h ne sheets s = broken _ 16 _ (h sheets s) (ne_eqb _ _ ne)
 
-  pub from17 : Comes left16 → length q.tape ≡ k.randoms → Comes left17
+  from17 : Comes left16 → length q.tape ≡ k.randoms → Comes left17
   from17 h e sheets s = kept _ 16 _ (h sheets s) (eq-eqb _ _ e)
 
   pub breaks17 : Comes left17 → q.room < wire_limit → Comes (refuse 17 0 0)
   breaks17 h l sheets s = broken _ 17 _ (h sheets s) (lt-leb _ _ l)
 
-  pub from18 : Comes left17 → wire_limit ≤ q.room → Comes left18
+  from18 : Comes left17 → wire_limit ≤ q.room → Comes left18
   from18 h l sheets s = kept _ 17 _ (h sheets s) (le-leb _ _ l)
+
+  -- the same from the checker's pass on, by what the tests before have asked
+  module _ (p : (checked q.table (length q.notes)).judgement ≡ pass) (shares : length q.shares ≡ k.inputs * k.d) where
+    pub at16 : Comes left16
+    at16 = from16 (from15 p) shares
+
+    module _ (tape : length q.tape ≡ k.randoms) where
+      pub at17 : Comes left17
+      at17 = from17 at16 tape
+
+      pub at18 : wire_limit ≤ q.room → Comes left18
+      at18 room = from18 at17 room
 
   at_word : {rule : ℕ} (w x : ℕ) → w ≡ x → refuse rule 0 w ≡ refuse rule 0 x
   at_word {rule} w x e = ap (refuse rule 0) e

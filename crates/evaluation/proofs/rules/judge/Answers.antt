@@ -17,12 +17,12 @@ use Rattle.checker.specs.declared.Accepted.{Accepted}
 use Rattle.checker.specs.Answers.{answer_of, InputsAre}
 use Rattle.gadgets.proofs.Walking.{headed}
 use Rattle.evaluation.proofs.Answering.{Taken, taken, refused-first}
-use Rattle.evaluation.proofs.Judging.{Call, judged, from15, breaks15, from16, breaks16, from17, breaks17, from18, breaks_share, from_tape, breaks_tape, from19, breaks19, passes}
+use Rattle.evaluation.proofs.Judging.{Call, judged, from15, breaks15, breaks16, breaks17, at16, at17, at18, breaks_share, from_tape, breaks_tape, from19, breaks19, passes}
 use Rattle.evaluation.proofs.rules.judge.Goals as goal
-use Rattle.evaluation.proofs.rules.judge.Goals.{Start, In-Ok}
+use Rattle.evaluation.proofs.rules.judge.Goals.{In-Ok}
 
-abbrev call : Start → Call
-call s = let a = s.args in record { table = a.table.now; notes = a.notes.now; shares = a.shares.now; tape = a.tape.now; probes = a.probes.now; room = a.room }
+abbrev call : In-Ok → Call
+call v = let a = v.args in record { table = a.table.now; notes = a.notes.now; shares = a.shares.now; tape = a.tape.now; probes = a.probes.now; room = a.room }
 
 -- what the checker tells of a table that it accepts
 record Numbers (table notes : List ℕ) (a : Accepted) : Type 0 where
@@ -42,6 +42,17 @@ numbers v =
     let t = taken table notes p in
     record { passed = p; of = t; wires_are = sym wires; randoms_are = randoms; shares_are = ap₂ (λ x y. x * y) inputs t.d_is }
 
+-- the same of the numbers that the code takes from the answer
+module _ (v : In-Ok) {a : Accepted} (same : a ≡ v.in-Ok.field-0) where
+  shares : a.inputs * nth v.args.table.now 1 ≡ (circuit_of v.args.table.now v.args.notes.now).inputs * (circuit_of v.args.table.now v.args.notes.now).d
+  shares = ap (λ (x : Accepted). x.inputs * nth v.args.table.now 1) same ∙ (numbers v).shares_are
+
+  randoms : a.randoms ≡ (circuit_of v.args.table.now v.args.notes.now).randoms
+  randoms = ap (λ (x : Accepted). x.randoms) same ∙ (numbers v).randoms_are
+
+  wires : size (circuit_of v.args.table.now v.args.notes.now) ≡ a.wires
+  wires = (numbers v).wires_are ∙ sym (ap (λ (x : Accepted). x.wires) same)
+
 pub returns-in_default : goal.returns-in_default
 returns-in_default c =
     let a = c.args in
@@ -52,93 +63,52 @@ pub bounds-table-1 : goal.bounds-table-1
 bounds-table-1 c = omega (arith, headed (numbers (goal.at.bounds-table-1 c).In-Ok).of.accepted)
 
 pub overflow_mul-inputs : goal.overflow_mul-inputs
-overflow_mul-inputs c =
-    let n = numbers (goal.at.overflow_mul-inputs c).In-Ok in
-    let shares = ap (λ (x : Accepted). x.inputs * nth c.args.table.now 1) c.in-Ok.field-0-is ∙ n.shares_are in
-    omega (arith, shares, n.of.shares_few)
+overflow_mul-inputs c = let v = (goal.at.overflow_mul-inputs c).In-Ok in omega (arith, shares v c.in-Ok.field-0-is, (numbers v).of.shares_few)
 
 -- a refusal, or the answer, by the judgement that the call comes to
 pub returns-then-shares-inputs : goal.returns-then-shares-inputs
 returns-then-shares-inputs c =
-    let q = call (goal.at.returns-then-shares-inputs c).Start in
-    let n = numbers (goal.at.returns-then-shares-inputs c).In-Ok in
-    let shares = ap (λ (x : Accepted). x.inputs * nth q.table 1) c.in-Ok.field-0-is ∙ n.shares_are in
-    let at15 = from15 q n.passed in
-    judged q c.check-answer.ensures.noted (ap refusal_answer c.of_call.ensures) (breaks15 q at15 (λ e. omega (arith, shares)))
+    let v = (goal.at.returns-then-shares-inputs c).In-Ok in
+    judged (call v) c.check-answer.ensures.noted (ap refusal_answer c.of_call.ensures)
+    (breaks15 (call v) (from15 (call v) (numbers v).passed) (λ e. omega (arith, shares v c.in-Ok.field-0-is)))
 
 pub returns-then-tape-randoms : goal.returns-then-tape-randoms
 returns-then-tape-randoms c =
-    let q = call (goal.at.returns-then-tape-randoms c).Start in
-    let n = numbers (goal.at.returns-then-tape-randoms c).In-Ok in
-    let shares = ap (λ (x : Accepted). x.inputs * nth q.table 1) c.in-Ok.field-0-is ∙ n.shares_are in
-    let randoms = ap (λ (x : Accepted). x.randoms) c.in-Ok.field-0-is ∙ n.randoms_are in
-    let at15 = from15 q n.passed in
-    let at16 = from16 q at15 (omega (arith, shares)) in
-    judged q c.check-answer.ensures.noted (ap refusal_answer c.of_call-then-tape-randoms.ensures) (breaks16 q at16 (λ e. omega (arith, randoms)))
+    let v = (goal.at.returns-then-tape-randoms c).In-Ok in
+    judged (call v) c.check-answer.ensures.noted (ap refusal_answer c.of_call-then-tape-randoms.ensures)
+    (breaks16 (call v) (at16 (call v) (numbers v).passed (omega (arith, shares v c.in-Ok.field-0-is))) (λ e. omega (arith, randoms v c.in-Ok.field-0-is)))
 
 pub returns-then-room-lt-WIRES : goal.returns-then-room-lt-WIRES
 returns-then-room-lt-WIRES c =
-    let q = call (goal.at.returns-then-room-lt-WIRES c).Start in
-    let n = numbers (goal.at.returns-then-room-lt-WIRES c).In-Ok in
-    let shares = ap (λ (x : Accepted). x.inputs * nth q.table 1) c.in-Ok.field-0-is ∙ n.shares_are in
-    let randoms = ap (λ (x : Accepted). x.randoms) c.in-Ok.field-0-is ∙ n.randoms_are in
-    let at15 = from15 q n.passed in
-    let at16 = from16 q at15 (omega (arith, shares)) in
-    let at17 = from17 q at16 (omega (arith, randoms)) in
-    judged q c.check-answer.ensures.noted (ap refusal_answer c.of_call-then-room-lt-WIRES.ensures) (breaks17 q at17 (omega arith))
+    let v = (goal.at.returns-then-room-lt-WIRES c).In-Ok in
+    judged (call v) c.check-answer.ensures.noted (ap refusal_answer c.of_call-then-room-lt-WIRES.ensures)
+    (breaks17 (call v) (at17 (call v) (numbers v).passed (omega (arith, shares v c.in-Ok.field-0-is)) (omega (arith, randoms v c.in-Ok.field-0-is))) (omega arith))
 
 pub returns-in-Some : goal.returns-in-Some
 returns-in-Some c =
-    let q = call (goal.at.returns-in-Some c).Start in
-    let n = numbers (goal.at.returns-in-Some c).In-Ok in
-    let shares = ap (λ (x : Accepted). x.inputs * nth q.table 1) c.in-Ok.field-0-is ∙ n.shares_are in
-    let randoms = ap (λ (x : Accepted). x.randoms) c.in-Ok.field-0-is ∙ n.randoms_are in
-    let at15 = from15 q n.passed in
-    let at16 = from16 q at15 (omega (arith, shares)) in
-    let at17 = from17 q at16 (omega (arith, randoms)) in
-    let at18 = from18 q at17 (omega arith) in
-    judged q c.check-answer.ensures.noted (ap refusal_answer c.of_call-in-Some.ensures) (breaks_share q c.first_over.ensures at18 c.in-Some.is)
+    let v = (goal.at.returns-in-Some c).In-Ok in
+    judged (call v) c.check-answer.ensures.noted (ap refusal_answer c.of_call-in-Some.ensures)
+    (breaks_share (call v) c.first_over.ensures (at18 (call v) (numbers v).passed (omega (arith, shares v c.in-Ok.field-0-is)) (omega (arith, randoms v c.in-Ok.field-0-is)) (omega arith)) c.in-Some.is)
 
 pub returns-in-Some-first_over : goal.returns-in-Some-first_over
 returns-in-Some-first_over c =
-    let q = call (goal.at.returns-in-Some-first_over c).Start in
-    let n = numbers (goal.at.returns-in-Some-first_over c).In-Ok in
-    let shares = ap (λ (x : Accepted). x.inputs * nth q.table 1) c.in-Ok.field-0-is ∙ n.shares_are in
-    let randoms = ap (λ (x : Accepted). x.randoms) c.in-Ok.field-0-is ∙ n.randoms_are in
-    let at15 = from15 q n.passed in
-    let at16 = from16 q at15 (omega (arith, shares)) in
-    let at17 = from17 q at16 (omega (arith, randoms)) in
-    let at18 = from18 q at17 (omega arith) in
-    let at_tape = from_tape q c.first_over.ensures at18 c.in_default-first_over.is in
-    judged q c.check-answer.ensures.noted (ap refusal_answer c.of_call-in-Some-first_over.ensures) (breaks_tape q c.first_over-2.ensures at_tape c.in-Some-first_over.is)
+    let v = (goal.at.returns-in-Some-first_over c).In-Ok in
+    let tape = from_tape (call v) c.first_over.ensures (at18 (call v) (numbers v).passed (omega (arith, shares v c.in-Ok.field-0-is)) (omega (arith, randoms v c.in-Ok.field-0-is)) (omega arith)) c.in_default-first_over.is in
+    judged (call v) c.check-answer.ensures.noted (ap refusal_answer c.of_call-in-Some-first_over.ensures)
+    (breaks_tape (call v) c.first_over-2.ensures tape c.in-Some-first_over.is)
 
 pub returns-in-Some-first_missing : goal.returns-in-Some-first_missing
 returns-in-Some-first_missing c =
-    let q = call (goal.at.returns-in-Some-first_missing c).Start in
-    let n = numbers (goal.at.returns-in-Some-first_missing c).In-Ok in
-    let shares = ap (λ (x : Accepted). x.inputs * nth q.table 1) c.in-Ok.field-0-is ∙ n.shares_are in
-    let randoms = ap (λ (x : Accepted). x.randoms) c.in-Ok.field-0-is ∙ n.randoms_are in
-    let wires = n.wires_are ∙ sym (ap (λ (x : Accepted). x.wires) c.in-Ok.field-0-is) in
-    let at15 = from15 q n.passed in
-    let at16 = from16 q at15 (omega (arith, shares)) in
-    let at17 = from17 q at16 (omega (arith, randoms)) in
-    let at18 = from18 q at17 (omega arith) in
-    let at_tape = from_tape q c.first_over.ensures at18 c.in_default-first_over.is in
-    let at19 = from19 q c.first_over-2.ensures at_tape c.in_default-first_over-2.is in
-    judged q c.check-answer.ensures.noted (ap refusal_answer c.of_call-in-Some-first_missing.ensures) (breaks19 q c.first_missing.ensures wires at19 c.in-Some-first_missing.is)
+    let v = (goal.at.returns-in-Some-first_missing c).In-Ok in
+    let tape = from_tape (call v) c.first_over.ensures (at18 (call v) (numbers v).passed (omega (arith, shares v c.in-Ok.field-0-is)) (omega (arith, randoms v c.in-Ok.field-0-is)) (omega arith)) c.in_default-first_over.is in
+    let probes = from19 (call v) c.first_over-2.ensures tape c.in_default-first_over-2.is in
+    judged (call v) c.check-answer.ensures.noted (ap refusal_answer c.of_call-in-Some-first_missing.ensures)
+    (breaks19 (call v) c.first_missing.ensures (wires v c.in-Ok.field-0-is) probes c.in-Some-first_missing.is)
 
 pub returns : goal.returns
 returns c =
-    let q = call (goal.at.returns c).Start in
-    let n = numbers (goal.at.returns c).In-Ok in
-    let shares = ap (λ (x : Accepted). x.inputs * nth q.table 1) c.in-Ok.field-0-is ∙ n.shares_are in
-    let randoms = ap (λ (x : Accepted). x.randoms) c.in-Ok.field-0-is ∙ n.randoms_are in
-    let wires = n.wires_are ∙ sym (ap (λ (x : Accepted). x.wires) c.in-Ok.field-0-is) in
-    let at15 = from15 q n.passed in
-    let at16 = from16 q at15 (omega (arith, shares)) in
-    let at17 = from17 q at16 (omega (arith, randoms)) in
-    let at18 = from18 q at17 (omega arith) in
-    let at_tape = from_tape q c.first_over.ensures at18 c.in_default-first_over.is in
-    let at19 = from19 q c.first_over-2.ensures at_tape c.in_default-first_over-2.is in
-    let told = c.check-answer.ensures.answered ∙ ap (answer (circuit_of q.table q.notes)) n.passed in
-    judged q c.check-answer.ensures.noted told (passes q c.first_missing.ensures wires at19 c.in_default-first_missing.is)
+    let v = (goal.at.returns c).In-Ok in
+    let tape = from_tape (call v) c.first_over.ensures (at18 (call v) (numbers v).passed (omega (arith, shares v c.in-Ok.field-0-is)) (omega (arith, randoms v c.in-Ok.field-0-is)) (omega arith)) c.in_default-first_over.is in
+    let probes = from19 (call v) c.first_over-2.ensures tape c.in_default-first_over-2.is in
+    let told = c.check-answer.ensures.answered ∙ ap (answer (circuit_of c.args.table.now c.args.notes.now)) (numbers v).passed in
+    judged (call v) c.check-answer.ensures.noted told (passes (call v) c.first_missing.ensures (wires v c.in-Ok.field-0-is) probes c.in_default-first_missing.is)
