@@ -17,6 +17,7 @@ use frames::randoms::random_bits;
 use frames::walk::{Frame, Gate, Walk};
 use gadgets::places::Gadget;
 use reach::bytes::largest;
+use simulation::gadget::copy;
 use simulation::values;
 use simulation::values::Before;
 
@@ -51,9 +52,7 @@ fn run_frame(
         used,
     };
     match frame {
-        Frame::Gate(Gate::In { .. }) => {
-            values[first..first + d].copy_from_slice(&shares[from..from + d]);
-        }
+        Frame::Gate(Gate::In { .. }) => copy(values, first, shares, from, d),
         Frame::Gate(Gate::Con { value, .. }) => values::constant(values, first, value),
         Frame::Gate(
             Gate::Xor {
@@ -106,7 +105,7 @@ pub(crate) fn run(
     requires { Ready table.now shares.now tape.now values.old bank.old × (wires ≡ size (circuit_in table.now)) }
     ensures { Clocked table.now shares.now tape.now bank.old values.old bank.old values.new bank.new }
 {
-    values[..wires].copy_from_slice(&bank[..wires]);
+    copy(values, 0, bank, 0, wires);
     run_frames(table, shares, tape, values, bank);
 }
 

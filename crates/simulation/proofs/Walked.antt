@@ -16,7 +16,7 @@ use Rattle.frames.specs.declared.walk.Walk.{Walk}
 use Rattle.frames.specs.declared.kinds.Shape.{Shape as ShapeCode}
 use Rattle.frames.specs.declared.walk.Next.{Next}
 use Rattle.circuit.specs.declared.rules.Rule.{Rule}
-use Rattle.std.specs.Prelude.{Option, Result}
+use Rattle.std.specs.Prelude.{Option, Some, None, Result, Ok, Err}
 use Rattle.frames.specs.Walk.{shape_taking, step_with, step_at}
 use Rattle.frames.proofs.KindTable.{right_step}
 use Rattle.circuit.specs.Kinds.{pairs}
@@ -49,6 +49,12 @@ module _ {table shares tape : List ℕ} {room place w from used : ℕ} (f : Walk
   -- what the step says at the place
   pub walked-answers : {s : Result (Option Next) Rule} → step_at table (nth table 1) place ≡ s → Answers a f.between (nth table 1) w from s
   walked-answers = step_answers a f.between (second_word a) f.wires_are f.from_are
+
+  -- a step without a frame: none is left
+  pub walked_end : (s : Result (Option Next) Rule) → step_at table (nth table 1) place ≡ s → ((n : Next) → s ≡ Ok (Some n) → ⊥) → f.between.after ≡ []
+  walked_end (Ok (Some n)) e k = absurd (k n refl)
+  walked_end (Ok None) e k = walked-answers e
+  walked_end (Err rule) e k = absurd (walked-answers e)
 
   -- the same, with the walk's number of shares and the random bits that the step is given
   pub walked-step : {s : Result (Option Next) Rule} {randoms d : ℕ} → s ≡ step_with (shape_taking randoms d) table d place → d ≡ nth table 1

@@ -3,11 +3,21 @@ ghost use Rattle.std.specs.Prelude.{◌≡◌, ℕ, ◌+◌, ◌-◌, ◌*◌, �
 ghost use Rattle.gadgets.specs.Internal.Places.{word_a, word_b, product_at, cross_start, out_at, sum_at, held_at};
 ghost use Rattle.gadgets.specs.Internal.Frames.{FrameEarly, Roomy};
 ghost use Rattle.frames.specs.declared.walk.Frame.TheVariants as frame;
-ghost use Rattle.simulation.specs.Internal.Filling.{Fills, Drawn, ShareProducts, Multiplied, Masked, DrawnMasked, Held};
+ghost use Rattle.simulation.specs.Internal.Filling.{Fills, Copied, Drawn, ShareProducts, Multiplied, Masked, DrawnMasked, Held};
 ghost use Rattle.simulation.specs.Internal.Gadgets.{Crosses, CrossesOther, CrossesRow, Sums, Takes, Writes, TakesMasks};
 
 use gadgets::places::Gadget;
 use gadgets::{gate_values, places};
+
+// So many bytes, from a place of another buffer on. (A loop: with `copy_from_slice` the archive for C would ask for `memmove`.)
+pub fn copy(values: &mut [u8], at: usize, source: &[u8], from: usize, count: usize)
+    requires { (at + count ≤ length values.old) × (from + count ≤ length source.now) }
+    ensures { Fills (Copied source.now from at count) at (at + count) values.old values.new }
+{
+    for q in 0..count {
+        values[at + q] = source[from + q];
+    }
+}
 
 // AND's wires r and R of every pair.
 fn draws(values: &mut [u8], g: Gadget, tape: &[u8])

@@ -122,9 +122,7 @@ fn write_frame(
         used,
     };
     match frame {
-        Frame::Gate(Gate::In { .. }) => {
-            values[first..first + d].copy_from_slice(&shares[from..from + d]);
-        }
+        Frame::Gate(Gate::In { .. }) => gadget::copy(values, first, shares, from, d),
         Frame::Gate(Gate::Con { value, .. }) => constant(values, first, value),
         Frame::Gate(_) => {}
         Frame::And => gadget::and(values, g, ops, tape),

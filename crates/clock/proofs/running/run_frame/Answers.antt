@@ -1,17 +1,11 @@
 -- Each arm's callee ensures what the contract says of its frame.
-use native.Mathlib.Omega.{arith}
-use Rattle.simulation.proofs.Filled.{fills_copied}
 use Rattle.clock.proofs.Frames.{in_runs, con_runs, xor_runs, not_runs, out_runs, reg_runs}
 use Rattle.clock.proofs.running.run_frame.Goals as goal
 
 pub returns-in-Gate-In : goal.returns-in-Gate-In
 returns-in-Gate-In c =
     let is = rw c.in-Gate-In.is at c.in-Gate-In.field-0-is in
-    let a = c.args in
-    let room = rw (c.in-Gate-In.is, is) at c.requires.1 in
-    let supplied = rw (c.in-Gate-In.is, is) at c.requires.4 in
-    rw (c.in-Gate-In.is, is) (in_runs
-    (fills_copied a.shares.now a.before.from a.before.first a.d _ _ a.values.now c.copy_from_slice.new.self room supplied (omega arith) (omega arith) c.copy_from_slice.ensures.after))
+    rw (c.in-Gate-In.is, is) (in_runs c.copy.ensures)
 
 pub returns-in-Gate-Con : goal.returns-in-Gate-Con
 returns-in-Gate-Con c =
