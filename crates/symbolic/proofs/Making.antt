@@ -3,13 +3,12 @@ use mathlib.Core.Path.{◌≡◌, refl, sym, ap, subst, ◌∙◌}
 use mathlib.Core.Bool.{Bool, true, true≢false}
 use mathlib.Core.List.{List}
 use Prim.Native.Nat.{ℕ, ◌+◌, ◌*◌, ◌-◌, ◌^◌, ◌≤◌, ◌<◌}
-use native.Mathlib.Nat.{zero-add, mul-le-mul_right}
+use native.Mathlib.Nat.{mul-le-mul_right}
 use native.Mathlib.Omega.{arith}
 use lib.Bits.{xor_lt}
 use lib.Dec.{ltb}
-use lib.ListN.{length, drop, length-drop}
+use lib.ListN.{length}
 use lib.Pow.{pow-lt}
-use lib.Seq.{get_or-drop}
 use borrow.Author.Tests.{ltb-true, ltb-false}
 use Rattle.circuit.specs.Limits.{wire_limit}
 use Rattle.circuit.specs.Lists.{nth}
@@ -36,7 +35,7 @@ use Rattle.simulation.proofs.Walked.{room_in, inputs_in, draws_in}
 use Rattle.symbolic.specs.declared.gadget.Term.{Term}
 use Rattle.symbolic.specs.Internal.Sums.{added, Before}
 use Rattle.symbolic.specs.Internal.Terms.{Inside, product, sum_with, term_at, inner_term, output_term}
-use Rattle.symbolic.specs.Internal.Expanding.{GateWrites, AndWrites, FrameAsks, FrameWrites, Words, Solves}
+use Rattle.symbolic.specs.Internal.Expanding.{AndWrites, FrameAsks, FrameWrites, Words, Solves}
 use Rattle.symbolic.proofs.Standing.{term_value, product_value, term-sum, inner-right, output-right}
 use Rattle.symbolic.proofs.Bounded.{more, Below, below_more, inner_below, output-below}
 use Rattle.symbolic.proofs.Linear.{gate-below, gate_kept, gate-sized, gate-right, ref_below, ref_right}
@@ -51,23 +50,14 @@ names_are (gate.Not x) w P Q h e p = h x e p
 names_are (gate.Reg x) w P Q h e p = h x e p
 names_are gate.Out w P Q h e p = tt
 
--- a gate takes no random bits, and its shares are the first of those from a place on
-shares_left : (g : GateCode) (d from used : ℕ) (shares : List ℕ) (tape : ℕ) → FrameSupplied (frame.Gate g) d from used (length shares) tape
-    → FrameSupplied (frame.Gate g) d 0 0 (length (drop from shares)) 0
-shares_left (gate.In t) d from used shares tape h = omega (arith, length-drop from shares)
-shares_left (gate.Con l b t) d from used shares tape h = tt
-shares_left (gate.Xor x y) d from used shares tape h = tt
-shares_left (gate.Not x) d from used shares tape h = tt
-shares_left (gate.Reg x) d from used shares tape h = tt
-shares_left gate.Out d from used shares tape h = tt
-
-shares_taken : (g : GateCode) (d w from : ℕ) (shares sums sums' : List ℕ) → GateWrites g d w 0 (drop from shares) sums sums' → GateWrites g d w from shares sums sums'
-shares_taken (gate.In t) d w from shares sums sums' h = record { are = λ q l. h.are q l ∙ simp (zero-add, get_or-drop); below = h.below; sized = h.sized }
-shares_taken (gate.Con l b t) d w from shares sums sums' h = h
-shares_taken (gate.Xor x y) d w from shares sums sums' h = h
-shares_taken (gate.Not x) d w from shares sums sums' h = h
-shares_taken (gate.Reg x) d w from shares sums sums' h = h
-shares_taken gate.Out d w from shares sums sums' h = h
+-- a gate takes no random bits
+any_bits : (g : GateCode) (d from used shares tape : ℕ) → FrameSupplied (frame.Gate g) d from used shares tape → FrameSupplied (frame.Gate g) d from 0 shares 0
+any_bits (gate.In t) d from used shares tape h = h
+any_bits (gate.Con l b t) d from used shares tape h = tt
+any_bits (gate.Xor x y) d from used shares tape h = tt
+any_bits (gate.Not x) d from used shares tape h = tt
+any_bits (gate.Reg x) d from used shares tape h = tt
+any_bits gate.Out d from used shares tape h = tt
 
 module _ {room : ℕ} {table shares tape read : List ℕ} {found : ℕ} {sums terms : List ℕ} {place w from used outputs : ℕ}
     (t : ExpandedTo room table shares tape read found sums terms place w from used outputs)
@@ -111,19 +101,18 @@ module _ {room : ℕ} {table shares tape read : List ℕ} {found : ℕ} {sums te
     }
 
     gate-made : (g : GateCode) (m : Met a t.walked.between d w from (frame.Gate g) sh wk) {sums' terms' : List ℕ} {r : ℕ}
-        → FrameWrites (frame.Gate g) d w used (operands_at table d place) (drop from shares) tape read found outputs sums terms sums' terms' r → Made t same m sums' terms' r
+        → FrameWrites (frame.Gate g) d w from used (operands_at table d place) shares tape read found outputs sums terms sums' terms' r → Made t same m sums' terms' r
     gate-made g m {sums'} h =
         let here = room_in t.walked same m in
-        let made = shares_taken g d w from shares sums sums' h.0 in
-        rw (h.1, h.2) (plain m (gate_kept g d w from shares sums sums' made) (gate-sized g d w from shares sums sums' made)
-        (λ x l u. gate-below {m = 18 + outputs} (omega arith) g d w from shares sums sums' made (omega (arith, here, t.sums_sized))
+        rw (h.1, h.2) (plain m (gate_kept g d w from shares sums sums' h.0) (gate-sized g d w from shares sums sums' h.0)
+        (λ x l u. gate-below {m = 18 + outputs} (omega arith) g d w from shares sums sums' h.0 (omega (arith, here, t.sums_sized))
         (λ y. more {m = 18} (omega arith) (shares-below y)) (names_are g w Named _ (λ y z e. t.below y z e) m.early m.names) x l (omega (arith, m.as_many)))
-        (λ n sharings tapes f v s x l u. gate-right (values_at k.wires n sharings tapes) f (packed n (λ e. true)) v.full g d w from shares sums sums' made
+        (λ n sharings tapes f v s x l u. gate-right (values_at k.wires n sharings tapes) f (packed n (λ e. true)) v.full g d w from shares sums sums' h.0
         (omega (arith, here, t.sums_sized)) (holds t same m n sharings tapes f v)
         (names_are g w Named _ (λ y z e. known n sharings tapes f v s y z e) m.early m.names) x l (omega (arith, m.as_many))))
 
     ref_made : (m : Met a t.walked.between d w from frame.Ref sh wk) {sums' terms' : List ℕ} {r : ℕ}
-        → FrameWrites frame.Ref d w used (operands_at table d place) (drop from shares) tape read found outputs sums terms sums' terms' r → Made t same m sums' terms' r
+        → FrameWrites frame.Ref d w from used (operands_at table d place) shares tape read found outputs sums terms sums' terms' r → Made t same m sums' terms' r
     ref_made m h = rw (h.1, h.2) (plain m h.0.below h.0.sized
         (λ x l u. ref_below h.0 (18 + outputs) (λ y. more {m = 18} (omega arith) (tape-below y)) (λ i z. t.below _ (m.early.1 i z) (m.names i z)) x l (omega (arith, m.as_many)))
         (λ n sharings tapes f v s x l u. ref_right h.0 (values_at k.wires n sharings tapes) f (holds t same m n sharings tapes f v)
@@ -139,12 +128,12 @@ module _ {room : ℕ} {table shares tape read : List ℕ} {found : ℕ} {sums te
 
     -- what a frame asks for is there
     pub frame_asks : (fr : FrameCode) → Met a t.walked.between d w from fr sh wk → length sums ≤ wire_limit
-        → FrameAsks fr d w used (operands_at table d place) (length sums) (length (drop from shares)) (length tape) outputs
+        → FrameAsks fr d w from used (operands_at table d place) (length sums) (length shares) (length tape) outputs
     frame_asks (frame.Gate g) m wide = (
       m.early,
       omega (arith, room_in t.walked same m, t.sums_sized),
       wide,
-      shares_left g d from used shares (length tape) (m.supplied used (length shares) (length tape) (inputs_in t.walked same m) (draws_in t.walked same m)),
+      any_bits g d from used (length shares) (length tape) (m.supplied used (length shares) (length tape) (inputs_in t.walked same m) (draws_in t.walked same m)),
     )
     frame_asks frame.And m wide = (
       record {
@@ -173,7 +162,7 @@ module _ {room : ℕ} {table shares tape read : List ℕ} {found : ℕ} {sums te
 
     -- AND
     module _ (m : Met a t.walked.between d w from frame.And sh wk) {sums' terms' : List ℕ} {r : ℕ}
-        (h : FrameWrites frame.And d w used (operands_at table d place) (drop from shares) tape read found outputs sums terms sums' terms' r) where
+        (h : FrameWrites frame.And d w from used (operands_at table d place) shares tape read found outputs sums terms sums' terms' r) where
       abbrev ops : List ℕ
       ops = operands_at table d place
 
@@ -310,7 +299,7 @@ module _ {room : ℕ} {table shares tape read : List ℕ} {found : ℕ} {sums te
       })
 
     pub frame_made : (fr : FrameCode) (m : Met a t.walked.between d w from fr sh wk) {sums' terms' : List ℕ} {r : ℕ}
-        → FrameWrites fr d w used (operands_at table d place) (drop from shares) tape read found outputs sums terms sums' terms' r → Made t same m sums' terms' r
+        → FrameWrites fr d w from used (operands_at table d place) shares tape read found outputs sums terms sums' terms' r → Made t same m sums' terms' r
     frame_made (frame.Gate g) m h = gate-made g m h
     frame_made frame.And m h = and-made m h
     frame_made frame.Ref m h = ref_made m h

@@ -6,13 +6,12 @@ ghost use Rattle.circuit.specs.Circuit.{is_set, size};
 ghost use Rattle.gadgets.specs.Internal.Accepting.{circuit_in};
 ghost use Rattle.simulation.specs.Internal.Evaluating.{Evaluable};
 ghost use Rattle.symbolic.specs.Internal.Terms.{one, AndTakes, Listed};
-ghost use Rattle.symbolic.specs.Internal.Expanding.{GateAsks, GateWrites, AndWrites, FrameAsks, FrameWrites, Expanded};
+ghost use Rattle.symbolic.specs.Internal.Expanding.{AndWrites, FrameAsks, FrameWrites, Expanded};
 
 use super::gadget;
 use frames::randoms::random_bits;
 use frames::walk::{Frame, Gate, Walk};
 use gadgets::places::Gadget;
-use simulation::values::Before;
 
 // The sum that is 1.
 pub const ONE: u64 = 0x2_0000;
@@ -22,29 +21,6 @@ fn constant(value: u16) -> u64
     ensures { result ≡ cond (is_set value) one 0 }
 {
     if value < 1 { 0 } else { ONE }
-}
-
-// The wires of a gate, from the first of them on; `shares` begins with those that an IN takes. (Single expressions, as those of bytes in
-// `simulation`: one generic function for both would be no plainer.)
-fn write_gate(sums: &mut [u64], gate: Gate, first: usize, d: usize, shares: &[u64])
-    requires { GateAsks gate d first (length sums.old) (length shares.now) }
-    ensures { GateWrites gate d first 0 shares.now sums.old sums.new }
-{
-    match gate {
-        Gate::In { stage: _ } => sums[first..first + d].copy_from_slice(&shares[..d]),
-        Gate::Con {
-            label: _,
-            value,
-            stage: _,
-        } => sums[first] = constant(value),
-        Gate::Xor {
-            first: one,
-            second: other,
-        } => sums[first] = sums[one as usize] ^ sums[other as usize],
-        Gate::Not { wire } => sums[first] = ONE ^ sums[wire as usize],
-        Gate::Reg { wire } => sums[first] = sums[wire as usize],
-        Gate::Out => {}
-    }
 }
 
 // AND: the wires inside it that are read, then its outputs.
@@ -64,36 +40,45 @@ fn write_and(
     gadget::write_outputs(sums, terms, gadget, ops, tape, outputs);
 }
 
-// The wires of a frame at a place, behind so many outputs of ANDs; `shares` begins with those that an IN takes. The answer is how many
-// outputs there are then.
+// The wires of a frame at a place, behind so many shares and outputs of ANDs. (Gates are single expressions, as those of bytes in
+// `simulation`: one generic function for both would be no plainer.) The answer is how many outputs there are then.
 fn write_frame(
     sums: &mut [u64],
     terms: &mut [u64; 80],
     frame: Frame,
     place: Gadget,
+    from: usize,
     ops: &[u16],
     shares: &[u64],
     tape: &[u64],
     read: &[u16],
     outputs: usize,
 ) -> usize
-    requires { FrameAsks frame place.d place.first place.used ops.now (length sums.old) (length shares.now) (length tape.now) outputs × Listed read.now (length sums.old) }
-    ensures { FrameWrites frame place.d place.first place.used ops.now shares.now tape.now read.now (length read.now) outputs sums.old terms.old sums.new terms.new result }
+    requires { FrameAsks frame place.d place.first from place.used ops.now (length sums.old) (length shares.now) (length tape.now) outputs × Listed read.now (length sums.old) }
+    ensures { FrameWrites frame place.d place.first from place.used ops.now shares.now tape.now read.now (length read.now) outputs sums.old terms.old sums.new terms.new result }
 {
+    let (first, d) = (place.first, place.d);
     match frame {
-        Frame::Gate(gate) => {
-            write_gate(sums, gate, place.first, place.d, shares);
-            outputs
+        Frame::Gate(Gate::In { .. }) => {
+            sums[first..first + d].copy_from_slice(&shares[from..from + d]);
         }
+        Frame::Gate(Gate::Con { value, .. }) => sums[first] = constant(value),
+        Frame::Gate(
+            Gate::Xor {
+                first: one,
+                second: other,
+            },
+        ) => sums[first] = sums[one as usize] ^ sums[other as usize],
+        Frame::Gate(Gate::Not { wire }) => sums[first] = ONE ^ sums[wire as usize],
+        Frame::Gate(Gate::Reg { wire }) => sums[first] = sums[wire as usize],
+        Frame::Gate(Gate::Out) => {}
         Frame::And => {
             write_and(sums, terms, place, ops, tape, read, outputs);
-            outputs + place.d
+            return outputs + d;
         }
-        Frame::Ref => {
-            gadget::refresh(sums, place, ops, tape);
-            outputs
-        }
+        Frame::Ref => gadget::refresh(sums, place, ops, tape),
     }
+    outputs
 }
 
 // The wires of an accepted table, from the sums of the first 18 variables that its shares and its random bits are. The answer is how
@@ -114,11 +99,9 @@ pub fn expand(
     let n = d as usize;
     let randoms = random_bits(d);
     let mut walk = Walk { d, at: 2 };
-    let mut before = Before {
-        first: 0,
-        from: 0,
-        used: 0,
-    };
+    let mut first = 0;
+    let mut from = 0;
+    let mut used = 0;
     let mut outputs = 0;
     // a walk's step goes over as many words as the frame has
     while let Ok(Some(next)) = walk.step(table, randoms) {
@@ -126,14 +109,15 @@ pub fn expand(
         let place = Gadget {
             d: n,
             pairs: randoms as usize,
-            first: before.first,
-            used: before.used,
+            first,
+            used,
         };
-        let given = &shares[before.from..];
         outputs = write_frame(
-            sums, terms, next.frame, place, ops, given, tape, read, outputs,
+            sums, terms, next.frame, place, from, ops, shares, tape, read, outputs,
         );
-        before = before.behind(next.shape, n);
+        first += next.shape.wires;
+        from += n * next.shape.inputs;
+        used += next.shape.randoms;
         walk = next.walk;
     }
     outputs

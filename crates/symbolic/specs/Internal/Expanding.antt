@@ -25,10 +25,6 @@ GateWrites (gate.Not x) d first from shares old new = new ≡ set old first (bit
 GateWrites (gate.Reg x) d first from shares old new = new ≡ set old first (nth old x)
 GateWrites gate.Out d first from shares old new = new ≡ old
 
--- what a gate asks for: earlier wires, room for its own, and the shares that it takes
-abbrev pub GateAsks : GateCode → (d first room shares : ℕ) → Type 0
-GateAsks g d first room shares = GateEarly g first × (first + gate_wires g d ≤ room) × (room ≤ wire_limit) × FrameSupplied (frame.Gate g) d 0 0 shares 0
-
 -- AND: the wires inside it that are read, then its outputs
 pub record AndWrites (d first : ℕ) (ops tape : List ℕ) (used : ℕ) (read : List ℕ) (found outputs : ℕ) (sums terms sums' terms' : List ℕ) : Type 0 where
   pub mid_sums : List ℕ
@@ -36,16 +32,16 @@ pub record AndWrites (d first : ℕ) (ops tape : List ℕ) (used : ℕ) (read : 
   pub reads : ReadsInside d first ops tape used read found sums terms mid_sums mid_terms
   pub outs : WritesOutputs d first ops tape used outputs mid_sums mid_terms sums' terms'
 
--- a frame, whose shares are the first of a list: what it asks for, and what is written; the answer is the number of outputs so far
-abbrev pub FrameAsks : FrameCode → (d first used : ℕ) (ops : List ℕ) (room shares drawn outputs : ℕ) → Type 0
-FrameAsks (frame.Gate g) d first used ops room shares drawn outputs = GateAsks g d first room shares
-FrameAsks frame.And d first used ops room shares drawn outputs = AndAsks d first ops room drawn used × (outputs + d ≤ 32)
-FrameAsks frame.Ref d first used ops room shares drawn outputs = RefAsks d first ops room drawn used
+-- a frame: what it asks for, and what is written; the answer is the number of outputs so far
+abbrev pub FrameAsks : FrameCode → (d first from used : ℕ) (ops : List ℕ) (room shares drawn outputs : ℕ) → Type 0
+FrameAsks (frame.Gate g) d first from used ops room shares drawn outputs = GateEarly g first × (first + gate_wires g d ≤ room) × (room ≤ wire_limit) × FrameSupplied (frame.Gate g) d from 0 shares 0
+FrameAsks frame.And d first from used ops room shares drawn outputs = AndAsks d first ops room drawn used × (outputs + d ≤ 32)
+FrameAsks frame.Ref d first from used ops room shares drawn outputs = RefAsks d first ops room drawn used
 
-abbrev pub FrameWrites : FrameCode → (d first used : ℕ) (ops shares tape read : List ℕ) (found outputs : ℕ) (sums terms sums' terms' : List ℕ) (r : ℕ) → Type 0
-FrameWrites (frame.Gate g) d first used ops shares tape read found outputs sums terms sums' terms' r = GateWrites g d first 0 shares sums sums' × (terms' ≡ terms) × (r ≡ outputs)
-FrameWrites frame.And d first used ops shares tape read found outputs sums terms sums' terms' r = AndWrites d first ops tape used read found outputs sums terms sums' terms' × (r ≡ outputs + d)
-FrameWrites frame.Ref d first used ops shares tape read found outputs sums terms sums' terms' r = Refreshes d first ops tape used sums sums' × (terms' ≡ terms) × (r ≡ outputs)
+abbrev pub FrameWrites : FrameCode → (d first from used : ℕ) (ops shares tape read : List ℕ) (found outputs : ℕ) (sums terms sums' terms' : List ℕ) (r : ℕ) → Type 0
+FrameWrites (frame.Gate g) d first from used ops shares tape read found outputs sums terms sums' terms' r = GateWrites g d first from shares sums sums' × (terms' ≡ terms) × (r ≡ outputs)
+FrameWrites frame.And d first from used ops shares tape read found outputs sums terms sums' terms' r = AndWrites d first ops tape used read found outputs sums terms sums' terms' × (r ≡ outputs + d)
+FrameWrites frame.Ref d first from used ops shares tape read found outputs sums terms sums' terms' r = Refreshes d first ops tape used sums sums' × (terms' ≡ terms) × (r ≡ outputs)
 
 -- words of the variables: the shares and the random bits of n evaluations are sums of them
 pub record Words (shares tape : List ℕ) (n : ℕ) (sharings tapes : ℕ → List Bool) (f : Values) : Type 0 where

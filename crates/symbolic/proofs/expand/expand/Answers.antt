@@ -4,7 +4,6 @@ use Prim.Native.Nat.{◌+◌, ◌*◌, ◌≤◌}
 use native.Mathlib.Omega.{arith}
 use lib.ListN.{length}
 use Rattle.std.specs.Prelude.{Some, Ok}
-use Rattle.std.proofs.lemmas.List.{take_rest}
 use Rattle.circuit.specs.Limits.{wire_limit}
 use Rattle.circuit.specs.Lists.{nth}
 use Rattle.frames.specs.declared.walk.Next.{Next}
@@ -19,7 +18,7 @@ use Rattle.symbolic.proofs.expand.expand.Goals.{After-operands-ops, After-step, 
 
 -- the frame that is met
 met : (c : In-Ok-Some) → let l = c.loop-next in let t = l.invariant.here.walked in let n = c.in-Ok-Some.next in
-    Met t.evaluable.accepted t.between (nth c.args.table.now 1) l.before.first l.before.from n.frame n.shape n.walk
+    Met t.evaluable.accepted t.between (nth c.args.table.now 1) l.first l.from n.frame n.shape n.walk
 met c =
     let i = c.loop-next.invariant in
     let f = c.in-Ok-Some in
@@ -30,9 +29,9 @@ words c = c.operands-ops.ensures ∙ ap (λ n. operands_at c.args.table.now n c.
 
 -- the counts behind it
 record Counts (c : In-Ok-Some) : Type 0 where
-  wires : c.loop-next.before.first + c.in-Ok-Some.next.shape.wires ≤ wire_limit
-  shares : c.loop-next.before.from + nth c.args.table.now 1 * c.in-Ok-Some.next.shape.inputs ≤ length c.args.shares.now
-  randoms : c.loop-next.before.used + c.in-Ok-Some.next.shape.randoms ≤ length c.args.tape.now
+  wires : c.loop-next.first + c.in-Ok-Some.next.shape.wires ≤ wire_limit
+  shares : c.loop-next.from + nth c.args.table.now 1 * c.in-Ok-Some.next.shape.inputs ≤ length c.args.shares.now
+  randoms : c.loop-next.used + c.in-Ok-Some.next.shape.randoms ≤ length c.args.tape.now
 
 counts : (c : In-Ok-Some) → Counts c
 counts c =
@@ -50,15 +49,6 @@ ended c none =
 pub loop-next-init : goal.loop-next-init
 loop-next-init c = let p = c.requires in record { same = refl; here = rw p.7 (expanded_start p.0) }
 
-pub offset_bounds-shares-before : goal.offset_bounds-shares-before
-offset_bounds-shares-before c = omega (arith, (counts (goal.at.offset_bounds-shares-before c).In-Ok-Some).shares, c.well_formed)
-
-pub slice_bounds-given-count : goal.slice_bounds-given-count
-slice_bounds-given-count c = omega (arith, (counts (goal.at.slice_bounds-given-count c).In-Ok-Some).shares)
-
-pub slice_bounds-given-start : goal.slice_bounds-given-start
-slice_bounds-given-start c = omega (arith, (counts (goal.at.slice_bounds-given-start c).In-Ok-Some).shares)
-
 pub invariant_of-place : goal.invariant_of-place
 invariant_of-place c = record {
   small = (met (goal.at.invariant_of-place c).In-Ok-Some).small;
@@ -71,15 +61,21 @@ write_frame-outputs-requires c =
     let t = c.loop-next.invariant.here in
     let p = c.requires in
     let a = t.walked.evaluable.accepted in (
-      rw (take_rest, words h.After-operands-ops) (frame_asks t p.2 p.3 p.1 p.5 (second_word a) _ (met h.In-Ok-Some) (omega (arith, t.sums_sized, p.4))),
+      rw (words h.After-operands-ops) (frame_asks t p.2 p.3 p.1 p.5 (second_word a) _ (met h.In-Ok-Some) (omega (arith, t.sums_sized, p.4))),
       (p.5, (λ i l. omega (arith, p.6 i l, p.0.roomy, t.sums_sized))),
     )
 
-pub behind-before-requires : goal.behind-before-requires
-behind-before-requires c =
-    let h = goal.at.behind-before-requires c in
-    let s = counts h.In-Ok-Some in
-    (omega (arith, s.wires), omega (arith, s.shares, c.well_formed), omega (arith, s.randoms, c.requires.1), (met h.In-Ok-Some).few_takes)
+pub overflow_add-first : goal.overflow_add-first
+overflow_add-first c = omega (arith, (counts (goal.at.overflow_add-first c).In-Ok-Some).wires)
+
+pub overflow_mul-from : goal.overflow_mul-from
+overflow_mul-from c = omega (arith, (counts (goal.at.overflow_mul-from c).In-Ok-Some).shares, c.well_formed)
+
+pub overflow_add-from : goal.overflow_add-from
+overflow_add-from c = omega (arith, (counts (goal.at.overflow_add-from c).In-Ok-Some).shares, c.well_formed)
+
+pub overflow_add-used : goal.overflow_add-used
+overflow_add-used c = omega (arith, (counts (goal.at.overflow_add-used c).In-Ok-Some).randoms, c.requires.1)
 
 pub loop-next-preserved : goal.loop-next-preserved
 loop-next-preserved c =
@@ -88,11 +84,7 @@ loop-next-preserved c =
     let p = c.requires in
     let s = second_word t.walked.evaluable.accepted in
     let m = met h.In-Ok-Some in
-    let e = c.behind-before.ensures in
-    record {
-      same = m.same;
-      here = rw (e.0, e.1, e.2) (expanded-next t s m (frame_made t p.2 p.3 p.1 p.5 s _ m (rw (take_rest, words h.After-operands-ops) at c.write_frame-outputs.ensures)));
-    }
+    record { same = m.same; here = expanded-next t s m (frame_made t p.2 p.3 p.1 p.5 s _ m (rw (words h.After-operands-ops) at c.write_frame-outputs.ensures)) }
 
 pub returns-in_default : goal.returns-in_default
 returns-in_default c = ended (goal.at.returns-in_default c).After-step (λ n e. cc)

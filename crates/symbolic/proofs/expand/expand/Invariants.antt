@@ -9,7 +9,7 @@ use Rattle.symbolic.proofs.expand.expand.Given as goal
 abbrev pub invariant-loop-next : goal.invariant-loop-next
 invariant-loop-next l = record {
   same : l.walk.d ≡ nth l.table 1;
-  here : ExpandedTo (length l.initial.sums) l.table l.shares l.tape l.read (length l.read) l.sums l.terms l.walk.at l.before.first l.before.from l.before.used l.outputs;
+  here : ExpandedTo (length l.initial.sums) l.table l.shares l.tape l.read (length l.read) l.sums l.terms l.walk.at l.first l.from l.used l.outputs;
 }
 
 abbrev pub decreases-loop-next : goal.decreases-loop-next
