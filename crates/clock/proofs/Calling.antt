@@ -19,7 +19,8 @@ use Rattle.semantics.proofs.Solving.{gate_at}
 use Rattle.semantics.proofs.Clocked.{register_length, register_at}
 use Rattle.gadgets.specs.Internal.Accepting.{circuit_in}
 use Rattle.evaluation.proofs.Answering.{Passed, answer-refuse, untouched, bits-pass}
-use Rattle.evaluation.proofs.Refusals.{refusal, over_first, first_within, none_over}
+use Rattle.evaluation.specs.Internal.Refusing.{refusal}
+use Rattle.evaluation.proofs.Refusals.{over_first, first_within, none_over}
 use Rattle.clock.specs.Internal.Whole.{wires_of, AllBits, Clocked}
 
 -- where no byte of a wire is over 1, none of a register is
@@ -57,7 +58,7 @@ module _ (table notes shares tape values bank : List ℕ) where
 
     left18 : rule ≡ refusal 18 start r
     unfolding clock_rule
-    left18 = ap₂ (λ j c. j then bytes_rule start (register_bytes c.wires bank)) p.passes p.of.circuit_is ∙ over_first (register_bytes (wires_of table) bank) first start
+    left18 = ap₂ (λ j c. j then bytes_rule start (register_bytes c.wires bank)) p.passes p.of.circuit_is ∙ (over_first (register_bytes (wires_of table) bank) first).is start
 
     pub over_at : {x : ℕ} → r ≡ Some x → rule ≡ refuse 18 0 (start + x)
     over_at h = left18 ∙ ap (refusal 18 start) h
@@ -76,7 +77,7 @@ module _ (table notes shares tape values bank : List ℕ) where
         tape_bits = p.tape_bits;
         shown_bits = λ y m q.
             let ws = wires_of table in
-            let bits = bits-pass start (register_bytes ws bank) (over_first (register_bytes ws bank) first start ∙ ap (refusal 18 start) none) in
+            let bits = bits-pass start (register_bytes ws bank) ((over_first (register_bytes ws bank) first).is start ∙ ap (refusal 18 start) none) in
             subst (λ (n : ℕ). n ≤ 1) (register_at ws bank y m ∙ ap (λ b. cond b (nth bank y) 0) q) (bits y);
       }
 

@@ -32,13 +32,13 @@ pub fn step(
     ensures is_clock { IsClock table.now notes.old values.old }
     ensures bank_stays { BankStays table.now notes.old shares.now tape.now values.old bank.old }
 {
-    let room = values.len().min(bank.len());
+    let room = rules::smaller(values.len(), bank.len());
     let answer = rules::judge(table, notes, shares, tape, &[], room);
     let Ok(Accepted { wires, .. }) = answer else {
         return answer;
     };
     if let Some(register) = running::first_register_over(table, wires, shares, tape, bank) {
-        return Err(Refusal::of_call(Rule::Bit, shares.len() + tape.len() + register));
+        return rules::refusal(Rule::Bit, shares.len() + tape.len() + register);
     }
     running::run(table, wires, shares, tape, values, bank);
     answer

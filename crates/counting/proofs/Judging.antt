@@ -21,12 +21,13 @@ use Rattle.circuit.proofs.Judging.{then_pass, need-pass, need_then}
 use Rattle.semantics.specs.Values.{is_random}
 use Rattle.semantics.proofs.Randoms.{randoms_in, build-randoms}
 use Rattle.semantics.specs.Calls.{bytes_rule, probes_rule, circuit_of}
-use Rattle.std.specs.Prelude.{Option, Some, None, Err, position, nat_lt, nat_le}
+use Rattle.std.specs.Prelude.{Option, Some, None, Result, Ok, Err}
 use Rattle.circuit.specs.declared.rules.Refusal.{Refusal}
 use Rattle.checker.specs.declared.Accepted.{Accepted}
+use Rattle.checker.specs.Answers.{answer_of, InputsAre}
 use Rattle.gadgets.proofs.Walking.{second_word, whole, whole-few}
 use Rattle.circuit.proofs.Answers.{answer-pass}
-use Rattle.evaluation.proofs.Refusals.{refusal, over_first, missing_first}
+use Rattle.evaluation.specs.Internal.Refusing.{refusal, OverFirst, MissingFirst}
 use Rattle.evaluation.proofs.Answering.{Taken, taken, answer-refuse, then_assoc, bits-pass, probes_pass, kept, broken, none_found, first_found}
 use Rattle.counting.specs.Counting.{read_wires, count_rule}
 use Rattle.counting.specs.Internal.Judging.{first_rules, Judged}
@@ -35,6 +36,11 @@ use Rattle.counting.specs.Internal.Judging.{first_rules, Judged}
 randoms-most : (ws : List Wire) → randoms_in ws ≤ length ws
 randoms-most [] = omega arith
 randoms-most (w ∷ ws) = cases (is_random w.gate) (λ e. rw e (omega (arith, randoms-most ws))) (λ e. rw e (omega (arith, randoms-most ws)))
+
+-- a refusal tells no number of INs
+inputs-refused : (r : Result Accepted Refusal) {a b c : ℕ} (n : ℕ) → answer_of r ≡ refused a b c → InputsAre r n
+inputs-refused (Ok a) n h = cc
+inputs-refused (Err r) n h = tt
 
 module _ (table notes secrets probes : List ℕ) where
   abbrev k : Circuit
@@ -83,9 +89,9 @@ module _ (table notes secrets probes : List ℕ) where
     left15 = need (eqb (length secrets) (2 * k.inputs)) 15 0 0 then left17
 
     -- a refusal by one of them, and the checker's
-    pub refuses : {new : List ℕ} {r : Refusal} {rule word : ℕ} → new ≡ notes_after k notes → refusal_answer r ≡ refused rule 0 word → rules ≡ refuse rule 0 word
-        → Judged table notes secrets probes room new (Err r)
-    refuses noted e h = record { answers = e ∙ sym (ap (answer k) h); noted = noted; inputs = tt }
+    pub refuses : {new : List ℕ} {r : Result Accepted Refusal} {rule word : ℕ} → new ≡ notes_after k notes → answer_of r ≡ refused rule 0 word → rules ≡ refuse rule 0 word
+        → Judged table notes secrets probes room new r
+    refuses {r = r} noted e h = record { answers = e ∙ sym (ap (answer k) h); noted = noted; inputs = inputs-refused r k.inputs e }
 
     pub checker_refuses : {new : List ℕ} {r : Refusal} → new ≡ notes_after k notes → refusal_answer r ≡ verdict_of table (length notes) → Judged table notes secrets probes room new (Err r)
     unfolding first_rules
@@ -136,16 +142,16 @@ module _ (table notes secrets probes : List ℕ) where
         pub at17 : room < 1024 → rules ≡ refuse 17 0 0
         at17 h = broken _ 17 left18 from17 (lt-leb _ _ h)
 
-        module _ (roomy : 1024 ≤ room) {byte : Option ℕ} (o : byte ≡ position (λ b. nat_lt 1 b) secrets) where
+        module _ (roomy : 1024 ≤ room) {byte : Option ℕ} (o : OverFirst secrets byte) where
           from18 : rules ≡ (refusal 18 0 byte then left19)
-          from18 = kept _ 17 left18 from17 (le-leb _ _ roomy) ∙ ap (λ j. j then left19) (over_first secrets o 0)
+          from18 = kept _ 17 left18 from17 (le-leb _ _ roomy) ∙ ap (λ j. j then left19) (o.is 0)
 
           pub at18 : {x : ℕ} → byte ≡ Some x → rules ≡ refuse 18 0 x
           at18 {x} e = first_found 18 0 left19 from18 e ∙ ap (refuse 18 0) (zero-add x)
 
-          module _ (none : byte ≡ None) {probe : Option ℕ} (m : probe ≡ position (λ w. nat_le a.wires w) probes) where
+          module _ (none : byte ≡ None) {probe : Option ℕ} (m : MissingFirst probes a.wires probe) where
             from19 : rules ≡ (refusal 19 0 probe then left24)
-            from19 = none_found 18 0 left19 from18 none ∙ ap (λ j. j then left24) (missing_first probes a.wires m k (sym t.wires) 0)
+            from19 = none_found 18 0 left19 from18 none ∙ ap (λ j. j then left24) (m.is k (sym t.wires) 0)
 
             pub at19 : {x : ℕ} → probe ≡ Some x → rules ≡ refuse 19 0 x
             at19 {x} e = first_found 19 0 left24 from19 e ∙ ap (refuse 19 0) (zero-add x)

@@ -2,11 +2,11 @@
 use mathlib.Core.Path.{◌≡◌, refl, sym, ap, subst, ◌∙◌}
 use mathlib.Core.Bool.{Bool, cond}
 use mathlib.Core.List.{List, [], ◌∷◌, ◌++◌, append-nil}
-use Prim.Native.Nat.{ℕ, zero, suc, ◌+◌, ◌-◌, ◌≤◌, ◌<◌}
+use Prim.Native.Nat.{ℕ, zero, suc, ◌+◌, ◌-◌, ◌≤◌, ◌<◌, min}
 use native.Mathlib.Nat.{zero-add}
 use native.Mathlib.Omega.{arith}
-use lib.ListN.{length, length-append}
-use Rattle.std.specs.Prelude.{Option, None, Some}
+use lib.ListN.{length, take, length-append, length-take}
+use lib.Seq.{get_or-take, take_all}
 use Rattle.circuit.specs.Limits.{wire_limit}
 use Rattle.circuit.specs.Lists.{nth, range, filter}
 use Rattle.circuit.specs.Circuit.{Circuit, size, is_set}
@@ -19,7 +19,12 @@ use Rattle.reach.specs.Internal.Marks.{Unmarked}
 use Rattle.reach.specs.Internal.Reading.{OnStops}
 use Rattle.counting.specs.declared.read_wires.ReadWires.{ReadWires}
 use Rattle.counting.specs.Counting.{is_read, read_wires}
-use Rattle.counting.specs.Internal.Reading.{marked_below, Probed, ReadBy, Lists, ListsRead}
+use Rattle.counting.specs.Internal.Reading.{marked_below, Probed, listed, Lists, ListsRead, ReadBy}
+
+-- no more pass a filter than there are
+filter_few : (p : ℕ → Bool) (n c : ℕ) → length (filter p (range n c)) ≤ c
+filter_few p n zero = omega arith
+filter_few p n (suc c) = cases (p n) (λ e. rw e (omega (arith, filter_few p (suc n) c))) (λ e. rw e (omega (arith, filter_few p (suc n) c)))
 
 module _ (marks : List ℕ) where
   -- the marked wires below a number, from those below a lower one
@@ -27,7 +32,7 @@ module _ (marks : List ℕ) where
   marked_more x n = ap (filter (λ y. is_set (nth marks y))) (range_split 0 x n) ∙ filter-append (λ y. is_set (nth marks y)) (range 0 x) (range (0 + x) n)
 
   -- wires with no mark
-  pub unmarked : {x to : ℕ} → x ≤ to → Unmarked marks x to → marked_below marks to ≡ marked_below marks x
+  unmarked : {x to : ℕ} → x ≤ to → Unmarked marks x to → marked_below marks to ≡ marked_below marks x
   unmarked {x} {to} h none =
       let e : to ≡ x + (to - x) = omega arith in
       ap (marked_below marks) e ∙ marked_more x (to - x)
@@ -35,22 +40,35 @@ module _ (marks : List ℕ) where
       ∙ append-nil (marked_below marks x)
 
   -- one wire, marked or not
-  pub one_marked : (x : ℕ) → 1 ≤ nth marks x → marked_below marks (x + 1) ≡ marked_below marks x ++ x ∷ []
+  one_marked : (x : ℕ) → 1 ≤ nth marks x → marked_below marks (x + 1) ≡ marked_below marks x ++ x ∷ []
   one_marked x h = marked_more x 1 ∙ simp zero-add (rw (set_high (nth marks x) h))
 
   pub none_marked : (x : ℕ) → nth marks x ≡ 0 → marked_below marks (x + 1) ≡ marked_below marks x
   none_marked x h = unmarked (omega arith) (λ y k u. let e : x ≡ y = omega arith in subst (λ (n : ℕ). nth marks n < 1) e (omega arith))
 
-  -- no fewer are below a higher number
-  pub as_many : (x to : ℕ) → x ≤ to → length (marked_below marks x) ≤ length (marked_below marks to)
-  as_many x to h =
-      let rest = filter (λ y. is_set (nth marks y)) (range (0 + x) (to - x)) in
-      let e : to ≡ x + (to - x) = omega arith in
-      omega (arith, ap length (ap (marked_below marks) e ∙ marked_more x (to - x)), length-append (marked_below marks x) rest)
+  -- no more are below a number than it says
+  pub marked_few : (x : ℕ) → length (marked_below marks x) ≤ x
+  marked_few x = filter_few (λ y. is_set (nth marks y)) 0 x
 
-  -- a ninth is one too many
-  pub too_many : (x to : ℕ) → length (marked_below marks x) ≡ 8 → 1 ≤ nth marks x → x < to → 8 < length (marked_below marks to)
-  too_many x to n h l = omega (arith, ap length (one_marked x h), length-append (marked_below marks x) (x ∷ []), as_many (x + 1) to (omega arith))
+-- the first n of a list that goes on behind its first n
+take_again : (n : ℕ) (xs ys : List ℕ) → take n (take n xs ++ ys) ≡ take n (xs ++ ys)
+take_again zero xs ys = refl
+take_again (suc n) [] ys = refl
+take_again (suc n) (x ∷ xs) ys = ap (λ zs. x ∷ zs) (take_again n xs ys)
+
+-- the code's list with a wire more, and with wires that have no mark
+module _ (marks : List ℕ) (x : ℕ) {l : ReadWires} (h : Lists (marked_below marks x) l) where
+  abbrev before : List ℕ
+  before = marked_below marks x
+
+  pub lists_more : {more : ReadWires} → 1 ≤ nth marks x → more.count ≡ l.count + 1 → listed more ≡ take 8 (listed l ++ x ∷ []) → Lists (marked_below marks (x + 1)) more
+  lists_more {more} m n e = subst (λ (ws : List ℕ). Lists ws more) (sym (one_marked marks x m)) (record {
+    all = omega (arith, n, h.all, length-append before (x ∷ []));
+    first = e ∙ ap (λ ws. take 8 (ws ++ x ∷ [])) h.first ∙ take_again 8 before (x ∷ []);
+  })
+
+  pub lists_same : (to : ℕ) → x ≤ to → Unmarked marks x to → Lists (marked_below marks to) l
+  lists_same to u none = subst (λ (ws : List ℕ). Lists ws l) (sym (unmarked marks u none)) h
 
 -- the marks stand on the stops that are read
 filter_same : (p q : ℕ → Bool) (xs : List ℕ) → ((x : ℕ) → p x ≡ q x) → filter p xs ≡ filter q xs
@@ -82,22 +100,22 @@ module _ (k : Circuit) {probes marks : List ℕ} (on : OnStops k.wires probes ma
 
 -- of an accepted table
 module _ {table probes marks : List ℕ} {wires : ℕ} (p : Probed table wires probes) (on : OnStops (circuit_in table).wires probes marks) where
-  below : marked_below marks wires ≡ read_wires (circuit_in table) probes
-  below = ap (marked_below marks) p.wires_are ∙ sym (read_marked (circuit_in table) on (accepted-size p.accepted))
+  abbrev ws : List ℕ
+  ws = marked_below marks (size (circuit_in table))
 
-  read_by : {read : List ℕ} → read ≡ marked_below marks wires → ReadBy table probes read
-  read_by {read} e =
+  pub lists_read : {l : ReadWires} → Lists (marked_below marks wires) l → ListsRead table probes l
+  lists_read {l} h =
       let few = accepted-size p.accepted in
-      let same : read ≡ marked_below marks (size (circuit_in table)) = e ∙ ap (marked_below marks) p.wires_are in
+      let same : marked_below marks wires ≡ ws = ap (marked_below marks) p.wires_are in
+      let e : listed l ≡ take 8 ws = h.first ∙ ap (take 8) same in
       record {
-        are = e ∙ below;
-        made = λ i l. rw same (marked_made (circuit_in table) on few i (omega (arith, ap length same)));
+        lists = subst (λ (xs : List ℕ). Lists xs l) (same ∙ sym (read_marked (circuit_in table) on few)) h;
+        made = λ i u.
+            let n : length (listed l) ≡ min 8 (length ws) = ap length e ∙ length-take 8 ws in
+            let is : nth (listed l) i ≡ nth ws i = ap (λ xs. nth xs i) e ∙ get_or-take 8 ws i 0 (omega arith) in
+            omega (arith, marked_made (circuit_in table) on few i (omega arith));
       }
 
-  more_read : 8 < length (marked_below marks wires) → 8 < length (read_wires (circuit_in table) probes)
-  more_read h = rw (← below) h
-
-  -- of what is found with the marks
-  pub read_found : (found : Option ReadWires) → Lists (marked_below marks wires) found → ListsRead table probes found
-  read_found None h = more_read h
-  read_found (Some list) h = read_by h
+-- where they are not too many, all are listed
+pub read_by : {table probes : List ℕ} {l : ReadWires} → ListsRead table probes l → l.count ≤ 8 → ReadBy table probes (listed l)
+read_by {table} {probes} h few = record { are = h.lists.first ∙ take_all 8 (read_wires (circuit_in table) probes) (omega (arith, h.lists.all)); made = h.made }

@@ -24,19 +24,19 @@ pub(crate) fn judge(
     let accepted = checker::check(table, notes)?;
     let inputs = accepted.inputs;
     if secrets.len() != 2 * inputs {
-        return Err(Refusal::of_call(Rule::ShareLength, 0));
+        return rules::refusal(Rule::ShareLength, 0);
     }
     if room < SHEET {
-        return Err(Refusal::of_call(Rule::SheetLength, 0));
+        return rules::refusal(Rule::SheetLength, 0);
     }
     if let Some(byte) = rules::first_over(secrets) {
-        return Err(Refusal::of_call(Rule::Bit, byte));
+        return rules::refusal(Rule::Bit, byte);
     }
     if let Some(probe) = rules::first_missing(probes, accepted.wires) {
-        return Err(Refusal::of_call(Rule::Probe, probe));
+        return rules::refusal(Rule::Probe, probe);
     }
     if FREE_BITS < (table[1] as usize - 1) * inputs + accepted.randoms {
-        return Err(Refusal::of_call(Rule::FreeBits, 0));
+        return rules::refusal(Rule::FreeBits, 0);
     }
     Ok(accepted)
 }

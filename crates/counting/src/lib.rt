@@ -51,10 +51,10 @@ pub fn count(
 {
     let room = counts.len();
     let accepted = judge::judge(table, notes, secrets, probes, room)?;
-    let Some(list) = read::list_read(table, accepted.wires, probes) else {
+    let list = read::list_read(table, accepted.wires, probes);
+    let Some(read) = list.as_slice() else {
         return Err(Refusal::of_call(Rule::ReadWires, 0));
     };
-    let read = list.as_slice();
     let pairs = tally::list_counts(table, secrets, accepted, read, counts);
     Ok(Counted {
         read: read.len(),

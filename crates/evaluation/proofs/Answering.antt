@@ -29,7 +29,7 @@ use Rattle.gadgets.proofs.Framing.{inputs_few}
 use Rattle.gadgets.proofs.Walking.{least-notes, same-circuit}
 use Rattle.simulation.specs.Internal.Evaluating.{Evaluable, Bits, Evaluates}
 use Rattle.simulation.proofs.Single.{single}
-use Rattle.evaluation.proofs.Refusals.{refusal}
+use Rattle.evaluation.specs.Internal.Refusing.{refusal}
 use Rattle.evaluation.specs.Internal.Calling.{Shortest, Judged}
 
 -- a refusal is that of the rules behind it too, and leaves a buffer as found

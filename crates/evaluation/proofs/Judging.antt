@@ -3,10 +3,10 @@ use mathlib.Core.Path.{◌≡◌, sym, ap, ◌∙◌}
 use mathlib.Core.List.{List}
 use Prim.Native.Nat.{ℕ, ◌+◌, ◌*◌, ◌≤◌, ◌<◌}
 use native.Mathlib.Omega.{arith}
-use lib.Dec.{leb, ltb, eqb}
+use lib.Dec.{leb, eqb}
 use lib.ListN.{length}
 use borrow.Author.Tests.{eq-eqb, ne_eqb, le-leb, lt-leb}
-use Rattle.std.specs.Prelude.{position, Option, Some, None, Result}
+use Rattle.std.specs.Prelude.{Option, Some, None, Result}
 use Rattle.circuit.specs.Limits.{wire_limit}
 use Rattle.circuit.specs.Circuit.{Circuit, size}
 use Rattle.circuit.specs.Rules.{Judgement, pass, refuse, need, ◌then◌, checked}
@@ -15,8 +15,8 @@ use Rattle.circuit.specs.declared.rules.Refusal.{Refusal}
 use Rattle.semantics.specs.Calls.{bytes_rule, probes_rule, circuit_of, call_rule, call_notes}
 use Rattle.checker.specs.declared.Accepted.{Accepted}
 use Rattle.checker.specs.Answers.{answer_of}
+use Rattle.evaluation.specs.Internal.Refusing.{refusal, OverFirst, MissingFirst}
 use Rattle.evaluation.specs.Internal.Calling.{Shortest, Judged}
-use Rattle.evaluation.proofs.Refusals.{refusal, over_first, missing_first}
 use Rattle.evaluation.proofs.Answering.{then_none, rules-left, kept, broken, none_found, first_found}
 
 -- a call: its table, the notes lent with it, its lists, and the room of its shortest buffer
@@ -96,9 +96,9 @@ module _ (q : Call) where
   at_word {rule} w x e = ap (refuse rule 0) e
 
   -- rules 18 and 19 by the first place where they are broken
-  module _ {r : Option ℕ} (e : r ≡ position (λ b. ltb 1 b) q.shares) (h : Comes left18) where
+  module _ {r : Option ℕ} (e : OverFirst q.shares r) (h : Comes left18) where
     by_share : Comes (refusal 18 0 r then left_tape)
-    by_share sheets s = h sheets s ∙ ap (λ j. j then left_tape) (over_first q.shares e 0)
+    by_share sheets s = h sheets s ∙ ap (λ j. j then left_tape) (e.is 0)
 
     pub breaks_share : {x : ℕ} → r ≡ Some x → Comes (refuse 18 0 x)
     breaks_share {x} f sheets s = first_found 18 0 left_tape (by_share sheets s) f ∙ at_word (0 + x) x (omega arith)
@@ -106,9 +106,9 @@ module _ (q : Call) where
     pub from_tape : r ≡ None → Comes left_tape
     from_tape f sheets s = none_found 18 0 left_tape (by_share sheets s) f
 
-  module _ {r : Option ℕ} (e : r ≡ position (λ b. ltb 1 b) q.tape) (h : Comes left_tape) where
+  module _ {r : Option ℕ} (e : OverFirst q.tape r) (h : Comes left_tape) where
     by_tape : Comes (refusal 18 (0 + length q.shares) r then left19)
-    by_tape sheets s = h sheets s ∙ ap (λ j. j then left19) (over_first q.tape e (0 + length q.shares))
+    by_tape sheets s = h sheets s ∙ ap (λ j. j then left19) (e.is (0 + length q.shares))
 
     pub breaks_tape : {x : ℕ} → r ≡ Some x → Comes (refuse 18 0 (length q.shares + x))
     breaks_tape {x} f sheets s = first_found 18 (0 + length q.shares) left19 (by_tape sheets s) f ∙ at_word (0 + length q.shares + x) (length q.shares + x) (omega arith)
@@ -116,9 +116,9 @@ module _ (q : Call) where
     pub from19 : r ≡ None → Comes left19
     from19 f sheets s = none_found 18 (0 + length q.shares) left19 (by_tape sheets s) f
 
-  module _ {wires : ℕ} {r : Option ℕ} (e : r ≡ position (λ p. leb wires p) q.probes) (same : size k ≡ wires) (h : Comes left19) where
+  module _ {wires : ℕ} {r : Option ℕ} (e : MissingFirst q.probes wires r) (same : size k ≡ wires) (h : Comes left19) where
     by_probe : Comes (refusal 19 0 r then pass)
-    by_probe sheets s = h sheets s ∙ missing_first q.probes wires e k same 0 ∙ sym (then_none (refusal 19 0 r))
+    by_probe sheets s = h sheets s ∙ e.is k same 0 ∙ sym (then_none (refusal 19 0 r))
 
     pub breaks19 : {x : ℕ} → r ≡ Some x → Comes (refuse 19 0 x)
     breaks19 {x} f sheets s = first_found 19 0 pass (by_probe sheets s) f ∙ at_word (0 + x) x (omega arith)

@@ -11,17 +11,13 @@ use lib.ListN.{length, drop}
 use borrow.Author.Tests.{lt-ltb, le-ltb, lt-leb, le-leb, ltb-true, ltb-false, leb-true, leb-false}
 use Rattle.circuit.specs.Lists.{nth}
 use Rattle.circuit.specs.Circuit.{Circuit, size}
-use Rattle.circuit.specs.Rules.{Judgement, pass, refuse, need, ◌then◌}
+use Rattle.circuit.specs.Rules.{Judgement, pass, need, ◌then◌}
 use Rattle.semantics.specs.Calls.{bytes_rule, probes_rule}
 use Rattle.std.specs.Prelude.{position, not, Option, Some, None}
 use Rattle.std.specs.List.{position_from, position_or_len}
 use Rattle.std.proofs.lemmas.Iterator.Adapters.{position_from-zero}
 use Rattle.std.proofs.lemmas.List.Sums.{passes_at_first}
-
--- the judgement of a place on a list, counted from i on: no place, no refusal
-abbrev pub refusal : (rule i : ℕ) → Option ℕ → Judgement
-refusal rule i None = pass
-refusal rule i (Some r) = refuse rule 0 (i + r)
+use Rattle.evaluation.specs.Internal.Refusing.{refusal, OverFirst, MissingFirst}
 
 -- a rule of lists that goes on behind a place
 abbrev pub Passed : (ℕ → List ℕ → Judgement) → List ℕ → ℕ → Type 0
@@ -63,11 +59,11 @@ missing : (n p : ℕ) → ltb p n ≡ not (leb n p)
 missing n p = cases (leb n p) (λ h. rw h (le-ltb p n (leb-true n p h))) (λ h. rw h (lt-ltb p n (leb-false n p h)))
 
 -- the first place where rule 18 is broken, and 19
-pub over_first : (bytes : List ℕ) {r : Option ℕ} → r ≡ position (λ b. ltb 1 b) bytes → (i : ℕ) → bytes_rule i bytes ≡ refusal 18 i r
-over_first bytes e i = ask_first bytes_ask (λ b. ltb 1 b) over bytes i ∙ sym (ap (refusal 18 i) e)
+pub over_first : (bytes : List ℕ) {r : Option ℕ} → r ≡ position (λ b. ltb 1 b) bytes → OverFirst bytes r
+over_first bytes e = record { is = λ i. ask_first bytes_ask (λ b. ltb 1 b) over bytes i ∙ sym (ap (refusal 18 i) e) }
 
-pub missing_first : (probes : List ℕ) (wires : ℕ) {r : Option ℕ} → r ≡ position (λ p. leb wires p) probes → (k : Circuit) → size k ≡ wires → (i : ℕ) → probes_rule k i probes ≡ refusal 19 i r
-missing_first probes wires e k s i = ask_first (probes_ask k) (λ p. leb wires p) (λ p. rw s (missing wires p)) probes i ∙ sym (ap (refusal 19 i) e)
+pub missing_first : (probes : List ℕ) (wires : ℕ) {r : Option ℕ} → r ≡ position (λ p. leb wires p) probes → MissingFirst probes wires r
+missing_first probes wires e = record { is = λ k s i. ask_first (probes_ask k) (λ p. leb wires p) (λ p. rw s (missing wires p)) probes i ∙ sym (ap (refusal 19 i) e) }
 
 -- a place that is answered is on the list
 Under : ℕ → Option ℕ → Type 0

@@ -1,2 +1,3 @@
 -- For the contracts of the crate's own functions.
+pub mod Refusing
 pub mod Calling

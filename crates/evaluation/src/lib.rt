@@ -58,7 +58,7 @@ pub fn read_probes(
     ensures secret { Accepts table.now notes.old
         → EqualCounts (circuit_of table.now notes.old) probes.now }
 {
-    let room = values.len().min(reading.len());
+    let room = rules::smaller(values.len(), reading.len());
     let answer = rules::judge(table, notes, shares, tape, probes, room);
     let Ok(Accepted { wires, .. }) = answer else {
         return answer;

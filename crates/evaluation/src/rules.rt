@@ -1,14 +1,26 @@
-// Rules 15 to 19: a call judged by them, 18 and 19 each by the first place where it is broken.
-ghost use Rattle.std.specs.Prelude.{◌≡◌, position, nat_lt, nat_le};
+// Rules 15 to 19: a call judged by them, 18 and 19 each by the first place where it is broken, and how a call's own refusals are answered.
+ghost use Rattle.std.specs.Prelude.{◌≡◌, min, position, nat_lt, nat_le};
+ghost use Rattle.circuit.specs.Answer.{refused};
+ghost use Rattle.circuit.specs.Refusals.{number_of};
+ghost use Rattle.checker.specs.Answers.{answer_of};
+ghost use Rattle.evaluation.specs.Internal.Refusing.{OverFirst, MissingFirst};
 ghost use Rattle.evaluation.specs.Internal.Calling.{Judged};
 
 use checker::Accepted;
 use circuit::{Refusal, Rule, WIRES};
 use reach::bytes::largest;
 
+// A refusal of the call, at a word.
+pub fn refusal(rule: Rule, word: usize) -> Result<Accepted, Refusal>
+    ensures { answer_of result ≡ refused (number_of rule) 0 word }
+{
+    Err(Refusal::of_call(rule, word))
+}
+
 // The first byte over 1. The largest is looked at first, many bytes at once: mostly there is none.
 pub fn first_over(bytes: &[u8]) -> Option<usize>
-    ensures { result ≡ position (λ byte. nat_lt 1 byte) bytes.now }
+    ensures found { result ≡ position (λ byte. nat_lt 1 byte) bytes.now }
+    ensures judged { OverFirst bytes.now result }
 {
     if largest(bytes) <= 1 {
         return None;
@@ -18,9 +30,17 @@ pub fn first_over(bytes: &[u8]) -> Option<usize>
 
 // The first probe on no wire, of so many.
 pub fn first_missing(probes: &[u16], wires: usize) -> Option<usize>
-    ensures { result ≡ position (λ wire. nat_le wires wire) probes.now }
+    ensures found { result ≡ position (λ wire. nat_le wires wire) probes.now }
+    ensures judged { MissingFirst probes.now wires result }
 {
     probes.iter().position(|wire| wires <= *wire as usize)
+}
+
+// The smaller of two numbers.
+pub fn smaller(one: usize, other: usize) -> usize
+    ensures { result ≡ min one other }
+{
+    one.min(other)
 }
 
 // A call judged: by the checker, then by rules 15 to 19, the shortest buffer having so many bytes.
@@ -47,22 +67,22 @@ pub fn judge(
         return answer;
     };
     if shares.len() != inputs * table[1] as usize {
-        return Err(Refusal::of_call(Rule::ShareLength, 0));
+        return refusal(Rule::ShareLength, 0);
     }
     if tape.len() != randoms {
-        return Err(Refusal::of_call(Rule::TapeLength, 0));
+        return refusal(Rule::TapeLength, 0);
     }
     if room < WIRES {
-        return Err(Refusal::of_call(Rule::SheetLength, 0));
+        return refusal(Rule::SheetLength, 0);
     }
     if let Some(share) = first_over(shares) {
-        return Err(Refusal::of_call(Rule::Bit, share));
+        return refusal(Rule::Bit, share);
     }
     if let Some(drawn) = first_over(tape) {
-        return Err(Refusal::of_call(Rule::Bit, shares.len() + drawn));
+        return refusal(Rule::Bit, shares.len() + drawn);
     }
     if let Some(probe) = first_missing(probes, wires) {
-        return Err(Refusal::of_call(Rule::Probe, probe));
+        return refusal(Rule::Probe, probe);
     }
     answer
 }

@@ -9,7 +9,6 @@ use lib.ListN.{length}
 use Rattle.circuit.specs.Limits.{wire_limit}
 use Rattle.circuit.specs.Circuit.{Circuit}
 use Rattle.circuit.specs.Answer.{answer}
-use Rattle.circuit.specs.Refusals.{refusal_answer}
 use Rattle.semantics.specs.Calls.{circuit_of}
 use Rattle.semantics.proofs.Pipeline.{pipelined}
 use Rattle.semantics.proofs.Banks.{registers-alone, is_clock, bank_stays}
@@ -20,14 +19,14 @@ use Rattle.clock.proofs.step.Goals as goal
 use Rattle.clock.proofs.step.Goals.{In-Ok}
 
 passes : (v : In-Ok) → let a = v.args in
-    Passed a.table.now a.notes.now a.shares.now a.tape.now (a.values.now ∷ a.bank.now ∷ []) [] v.min-room.result v.in-Ok.field-0.wires
-passes v = passed v.judge-answer.ensures (v.args.values.now ∷ v.args.bank.now ∷ []) (two_sheets _ _ _ v.min-room.ensures) v.in-Ok.is
+    Passed a.table.now a.notes.now a.shares.now a.tape.now (a.values.now ∷ a.bank.now ∷ []) [] v.smaller-room.result v.in-Ok.field-0.wires
+passes v = passed v.judge-answer.ensures (v.args.values.now ∷ v.args.bank.now ∷ []) (two_sheets _ _ _ v.smaller-room.ensures) v.in-Ok.is
 
 pub returns-in_default : goal.returns-in_default
 returns-in_default c =
     let a = c.args in
     let j = c.judge-answer.ensures in
-    let e = refused-before _ _ _ _ a.values.now a.bank.now (sym (ap answer_of c.in_default.is) ∙ j.answers (a.values.now ∷ a.bank.now ∷ []) (two_sheets _ _ _ c.min-room.ensures)) in
+    let e = refused-before _ _ _ _ a.values.now a.bank.now (sym (ap answer_of c.in_default.is) ∙ j.answers (a.values.now ∷ a.bank.now ∷ []) (two_sheets _ _ _ c.smaller-room.ensures)) in
     let same = left _ _ _ _ a.values.now a.bank.now e in
     record {
       answered = ap answer_of c.in_default.is ∙ e;
@@ -64,7 +63,7 @@ returns-in-Some c =
     let e = sym (ap (answer (circuit_of a.table.now a.notes.now)) over) in
     let same = left _ _ _ _ a.values.now a.bank.now e in
     record {
-      answered = ap refusal_answer c.of_call.ensures ∙ e;
+      answered = c.refusal.ensures ∙ e;
       noted = c.judge-answer.ensures.noted;
       valued = same _ _;
       banked = same _ _;
@@ -87,7 +86,7 @@ returns c =
     let none : c.first_register_over.result ≡ None = search rules in
     let all = passes_all _ _ _ _ a.values.now a.bank.now p c.first_register_over.ensures none in
     record {
-      answered = j.answers (a.values.now ∷ a.bank.now ∷ []) (two_sheets _ _ _ c.min-room.ensures) ∙ ap (answer (circuit_of a.table.now a.notes.now)) (p.passes ∙ sym all);
+      answered = j.answers (a.values.now ∷ a.bank.now ∷ []) (two_sheets _ _ _ c.smaller-room.ensures) ∙ ap (answer (circuit_of a.table.now a.notes.now)) (p.passes ∙ sym all);
       noted = j.noted;
       valued = valued _ _ _ _ _ _ p c.first_register_over.ensures none c.run.ensures;
       banked = banked _ _ _ _ _ _ p c.first_register_over.ensures none c.run.ensures;

@@ -1,5 +1,5 @@
 -- The marked wires as a list.
-use Rattle.std.specs.Prelude.{◌≡◌, List, ℕ, ◌<◌, length, take, Option, MatchOption}
+use Rattle.std.specs.Prelude.{◌≡◌, List, ℕ, ◌<◌, length, take}
 use Rattle.circuit.specs.Lists.{nth, range, filter}
 use Rattle.circuit.specs.Circuit.{size, is_set}
 use Rattle.circuit.proofs.Base.{In}
@@ -17,17 +17,20 @@ pub record Probed (table : List ℕ) (wires : ℕ) (probes : List ℕ) : Type 0 
   pub wires_are : wires ≡ size (circuit_in table)
   pub made : (x : ℕ) → In x probes → x < wires
 
--- a list in the code; and an answer of the code that lists these wires, where they are not too many
+-- a list in the code; and one of these wires: their number, and the first eight
 abbrev pub listed : ReadWires → List ℕ
 listed l = take l.count l.wires
 
-abbrev pub Lists : (wires : List ℕ) → Option ReadWires → Type 0
-Lists wires r = MatchOption r (8 < length wires) (λ l. listed l ≡ wires)
+pub record Lists (wires : List ℕ) (l : ReadWires) : Type 0 where
+  pub all : l.count ≡ length wires
+  pub first : listed l ≡ take 8 wires
 
--- the wires that probes read, and an answer of the code that lists them
+-- the list of the wires that probes read, each a wire of the circuit
+pub record ListsRead (table probes : List ℕ) (l : ReadWires) : Type 0 where
+  pub lists : Lists (read_wires (circuit_in table) probes) l
+  pub made : (i : ℕ) → i < length (listed l) → nth (listed l) i < size (circuit_in table)
+
+-- the wires that probes read, all of them
 pub record ReadBy (table probes read : List ℕ) : Type 0 where
   pub are : read ≡ read_wires (circuit_in table) probes
   pub made : (i : ℕ) → i < length read → nth read i < size (circuit_in table)
-
-abbrev pub ListsRead : (table probes : List ℕ) → Option ReadWires → Type 0
-ListsRead table probes r = MatchOption r (8 < length (read_wires (circuit_in table) probes)) (λ l. ReadBy table probes (listed l))

@@ -12,13 +12,13 @@ use Rattle.evaluation.proofs.read_probes.Goals as goal
 use Rattle.evaluation.proofs.read_probes.Goals.{In-Ok}
 
 passes : (v : In-Ok) → let a = v.args in
-    Passed a.table.now a.notes.now a.shares.now a.tape.now (a.values.now ∷ a.reading.now ∷ []) a.probes.now v.min-room.result v.in-Ok.field-0.wires
-passes v = let a = v.args in passed v.judge-answer.ensures (a.values.now ∷ a.reading.now ∷ []) (two_sheets a.values.now a.reading.now _ v.min-room.ensures) v.in-Ok.is
+    Passed a.table.now a.notes.now a.shares.now a.tape.now (a.values.now ∷ a.reading.now ∷ []) a.probes.now v.smaller-room.result v.in-Ok.field-0.wires
+passes v = let a = v.args in passed v.judge-answer.ensures (a.values.now ∷ a.reading.now ∷ []) (two_sheets a.values.now a.reading.now _ v.smaller-room.ensures) v.in-Ok.is
 
 pub returns-in_default : goal.returns-in_default
 returns-in_default c =
     let j = c.judge-answer.ensures in
-    let shorter = two_sheets c.args.values.now c.args.reading.now _ c.min-room.ensures in
+    let shorter = two_sheets c.args.values.now c.args.reading.now _ c.smaller-room.ensures in
     let same = left j _ shorter c.in_default.is in
     record {
       answered = j.answers _ shorter;
@@ -50,7 +50,7 @@ returns c =
     let new = evaluated _ _ _ _ _ _ p c.fill.ensures (omega arith) in
     let read = c.show.ensures.is _ _ (bits a.shares.now) (bits a.tape.now) _ c.reach_stops.ensures new in
     record {
-      answered = j.answers _ (two_sheets a.values.now a.reading.now _ c.min-room.ensures);
+      answered = j.answers _ (two_sheets a.values.now a.reading.now _ c.smaller-room.ensures);
       noted = j.noted;
       valued = holds _ _ _ _ _ _ p (λ (k : Circuit). bytes (values_of k.wires (bits a.shares.now) (bits a.tape.now))) a.values.now new;
       shown = holds _ _ _ _ _ _ p (λ (k : Circuit). reading_of k.wires a.probes.now (bits a.shares.now) (bits a.tape.now)) a.reading.now read;

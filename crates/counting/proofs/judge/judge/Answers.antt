@@ -2,7 +2,6 @@
 use mathlib.Core.Path.{sym, ap, ◌∙◌}
 use native.Mathlib.Omega.{arith}
 use Rattle.std.proofs.lemmas.Result.{err_from_is_err_and}
-use Rattle.circuit.specs.Refusals.{refusal_answer}
 use Rattle.circuit.specs.Answer.{answer}
 use Rattle.semantics.specs.Calls.{circuit_of}
 use Rattle.gadgets.proofs.Walking.{headed}
@@ -24,24 +23,24 @@ overflow_mul-inputs c = let t = tells (goal.at.overflow_mul-inputs c).In_ok-acce
 
 pub returns-then-secrets-inputs : goal.returns-then-secrets-inputs
 returns-then-secrets-inputs c =
-    refuses _ _ _ _ _ c.check.ensures.noted (ap refusal_answer c.of_call.ensures) (at15 _ _ _ _ _ (tells (goal.at.returns-then-secrets-inputs c).In_ok-accepted) c.if-secrets-inputs.true)
+    refuses _ _ _ _ _ c.check.ensures.noted c.refusal.ensures (at15 _ _ _ _ _ (tells (goal.at.returns-then-secrets-inputs c).In_ok-accepted) c.if-secrets-inputs.true)
 
 pub returns-then-room-lt-SHEET : goal.returns-then-room-lt-SHEET
 returns-then-room-lt-SHEET c =
     let t = tells (goal.at.returns-then-room-lt-SHEET c).In_ok-accepted in
-    refuses _ _ _ _ _ c.check.ensures.noted (ap refusal_answer c.of_call-then-room-lt-SHEET.ensures) (at17 _ _ _ _ _ t c.if-secrets-inputs.false c.if-room-lt-SHEET.true)
+    refuses _ _ _ _ _ c.check.ensures.noted c.refusal-then-room-lt-SHEET.ensures (at17 _ _ _ _ _ t c.if-secrets-inputs.false c.if-room-lt-SHEET.true)
 
 pub returns-in-Some : goal.returns-in-Some
 returns-in-Some c =
     let t = tells (goal.at.returns-in-Some c).In_ok-accepted in
-    refuses _ _ _ _ _ c.check.ensures.noted (ap refusal_answer c.of_call-in-Some.ensures)
-    (at18 _ _ _ _ _ t c.if-secrets-inputs.false c.if-room-lt-SHEET.false c.first_over.ensures c.in-Some.is)
+    refuses _ _ _ _ _ c.check.ensures.noted c.refusal-in-Some.ensures
+    (at18 _ _ _ _ _ t c.if-secrets-inputs.false c.if-room-lt-SHEET.false c.first_over.ensures.judged c.in-Some.is)
 
 pub returns-in-Some-first_missing : goal.returns-in-Some-first_missing
 returns-in-Some-first_missing c =
     let t = tells (goal.at.returns-in-Some-first_missing c).In_ok-accepted in
-    refuses _ _ _ _ _ c.check.ensures.noted (ap refusal_answer c.of_call-in-Some-first_missing.ensures)
-    (at19 _ _ _ _ _ t c.if-secrets-inputs.false c.if-room-lt-SHEET.false c.first_over.ensures c.in_default.is c.first_missing.ensures c.in-Some-first_missing.is)
+    refuses _ _ _ _ _ c.check.ensures.noted c.refusal-in-Some-first_missing.ensures
+    (at19 _ _ _ _ _ t c.if-secrets-inputs.false c.if-room-lt-SHEET.false c.first_over.ensures.judged c.in_default.is c.first_missing.ensures.judged c.in-Some-first_missing.is)
 
 pub bounds-table-1 : goal.bounds-table-1
 bounds-table-1 c = omega (arith, headed (tells (goal.at.bounds-table-1 c).In_ok-accepted).of.accepted)
@@ -58,13 +57,13 @@ overflow_add-table c = let t = tells (goal.at.overflow_add-table c).In_ok-accept
 pub returns-then-table-inputs-gt-FREE_BITS : goal.returns-then-table-inputs-gt-FREE_BITS
 returns-then-table-inputs-gt-FREE_BITS c =
     let t = tells (goal.at.returns-then-table-inputs-gt-FREE_BITS c).In_ok-accepted in
-    refuses _ _ _ _ _ c.check.ensures.noted (ap refusal_answer c.of_call-then-table-inputs-gt-FREE_BITS.ensures)
-    (at24 _ _ _ _ _ t c.if-secrets-inputs.false c.if-room-lt-SHEET.false c.first_over.ensures c.in_default.is c.first_missing.ensures c.in_default-first_missing.is c.if-table-inputs-gt-FREE_BITS.true)
+    refuses _ _ _ _ _ c.check.ensures.noted c.refusal-then-table-inputs-gt-FREE_BITS.ensures
+    (at24 _ _ _ _ _ t c.if-secrets-inputs.false c.if-room-lt-SHEET.false c.first_over.ensures.judged c.in_default.is c.first_missing.ensures.judged c.in_default-first_missing.is c.if-table-inputs-gt-FREE_BITS.true)
 
 pub returns : goal.returns
 returns c =
     let k = circuit_of c.args.table.now c.args.notes.now in
     let t = tells (goal.at.returns c).In_ok-accepted in
-    let e = at_end _ _ _ _ _ t c.if-secrets-inputs.false c.if-room-lt-SHEET.false c.first_over.ensures c.in_default.is c.first_missing.ensures c.in_default-first_missing.is
+    let e = at_end _ _ _ _ _ t c.if-secrets-inputs.false c.if-room-lt-SHEET.false c.first_over.ensures.judged c.in_default.is c.first_missing.ensures.judged c.in_default-first_missing.is
     c.if-table-inputs-gt-FREE_BITS.false in
     record { answers = c.in_ok-accepted.ensures.answered ∙ ap (answer k) (t.passes ∙ sym e); noted = c.check.ensures.noted; inputs = t.inputs }

@@ -9,7 +9,6 @@ use Rattle.circuit.specs.Lists.{nth}
 use Rattle.circuit.specs.Circuit.{size}
 use Rattle.circuit.specs.Rules.{pass, checked}
 use Rattle.circuit.specs.Answer.{answer}
-use Rattle.circuit.specs.Refusals.{refusal_answer}
 use Rattle.circuit.specs.declared.rules.Refusal.{Refusal}
 use Rattle.circuit.proofs.Answers.{answer-pass}
 use Rattle.semantics.specs.Calls.{circuit_of}
@@ -69,46 +68,46 @@ overflow_mul-inputs c = let v = (goal.at.overflow_mul-inputs c).In-Ok in omega (
 pub returns-then-shares-inputs : goal.returns-then-shares-inputs
 returns-then-shares-inputs c =
     let v = (goal.at.returns-then-shares-inputs c).In-Ok in
-    judged (call v) c.check-answer.ensures.noted (ap refusal_answer c.of_call.ensures)
+    judged (call v) c.check-answer.ensures.noted c.refusal.ensures
     (breaks15 (call v) (from15 (call v) (numbers v).passed) (λ e. omega (arith, shares v c.in-Ok.field-0-is)))
 
 pub returns-then-tape-randoms : goal.returns-then-tape-randoms
 returns-then-tape-randoms c =
     let v = (goal.at.returns-then-tape-randoms c).In-Ok in
-    judged (call v) c.check-answer.ensures.noted (ap refusal_answer c.of_call-then-tape-randoms.ensures)
+    judged (call v) c.check-answer.ensures.noted c.refusal-then-tape-randoms.ensures
     (breaks16 (call v) (at16 (call v) (numbers v).passed (omega (arith, shares v c.in-Ok.field-0-is))) (λ e. omega (arith, randoms v c.in-Ok.field-0-is)))
 
 pub returns-then-room-lt-WIRES : goal.returns-then-room-lt-WIRES
 returns-then-room-lt-WIRES c =
     let v = (goal.at.returns-then-room-lt-WIRES c).In-Ok in
-    judged (call v) c.check-answer.ensures.noted (ap refusal_answer c.of_call-then-room-lt-WIRES.ensures)
+    judged (call v) c.check-answer.ensures.noted c.refusal-then-room-lt-WIRES.ensures
     (breaks17 (call v) (at17 (call v) (numbers v).passed (omega (arith, shares v c.in-Ok.field-0-is)) (omega (arith, randoms v c.in-Ok.field-0-is))) (omega arith))
 
 pub returns-in-Some : goal.returns-in-Some
 returns-in-Some c =
     let v = (goal.at.returns-in-Some c).In-Ok in
-    judged (call v) c.check-answer.ensures.noted (ap refusal_answer c.of_call-in-Some.ensures)
-    (breaks_share (call v) c.first_over.ensures (at18 (call v) (numbers v).passed (omega (arith, shares v c.in-Ok.field-0-is)) (omega (arith, randoms v c.in-Ok.field-0-is)) (omega arith)) c.in-Some.is)
+    judged (call v) c.check-answer.ensures.noted c.refusal-in-Some.ensures
+    (breaks_share (call v) c.first_over.ensures.judged (at18 (call v) (numbers v).passed (omega (arith, shares v c.in-Ok.field-0-is)) (omega (arith, randoms v c.in-Ok.field-0-is)) (omega arith)) c.in-Some.is)
 
 pub returns-in-Some-first_over : goal.returns-in-Some-first_over
 returns-in-Some-first_over c =
     let v = (goal.at.returns-in-Some-first_over c).In-Ok in
-    let tape = from_tape (call v) c.first_over.ensures (at18 (call v) (numbers v).passed (omega (arith, shares v c.in-Ok.field-0-is)) (omega (arith, randoms v c.in-Ok.field-0-is)) (omega arith)) c.in_default-first_over.is in
-    judged (call v) c.check-answer.ensures.noted (ap refusal_answer c.of_call-in-Some-first_over.ensures)
-    (breaks_tape (call v) c.first_over-2.ensures tape c.in-Some-first_over.is)
+    let tape = from_tape (call v) c.first_over.ensures.judged (at18 (call v) (numbers v).passed (omega (arith, shares v c.in-Ok.field-0-is)) (omega (arith, randoms v c.in-Ok.field-0-is)) (omega arith)) c.in_default-first_over.is in
+    judged (call v) c.check-answer.ensures.noted c.refusal-in-Some-first_over.ensures
+    (breaks_tape (call v) c.first_over-2.ensures.judged tape c.in-Some-first_over.is)
 
 pub returns-in-Some-first_missing : goal.returns-in-Some-first_missing
 returns-in-Some-first_missing c =
     let v = (goal.at.returns-in-Some-first_missing c).In-Ok in
-    let tape = from_tape (call v) c.first_over.ensures (at18 (call v) (numbers v).passed (omega (arith, shares v c.in-Ok.field-0-is)) (omega (arith, randoms v c.in-Ok.field-0-is)) (omega arith)) c.in_default-first_over.is in
-    let probes = from19 (call v) c.first_over-2.ensures tape c.in_default-first_over-2.is in
-    judged (call v) c.check-answer.ensures.noted (ap refusal_answer c.of_call-in-Some-first_missing.ensures)
-    (breaks19 (call v) c.first_missing.ensures (wires v c.in-Ok.field-0-is) probes c.in-Some-first_missing.is)
+    let tape = from_tape (call v) c.first_over.ensures.judged (at18 (call v) (numbers v).passed (omega (arith, shares v c.in-Ok.field-0-is)) (omega (arith, randoms v c.in-Ok.field-0-is)) (omega arith)) c.in_default-first_over.is in
+    let probes = from19 (call v) c.first_over-2.ensures.judged tape c.in_default-first_over-2.is in
+    judged (call v) c.check-answer.ensures.noted c.refusal-in-Some-first_missing.ensures
+    (breaks19 (call v) c.first_missing.ensures.judged (wires v c.in-Ok.field-0-is) probes c.in-Some-first_missing.is)
 
 pub returns : goal.returns
 returns c =
     let v = (goal.at.returns c).In-Ok in
-    let tape = from_tape (call v) c.first_over.ensures (at18 (call v) (numbers v).passed (omega (arith, shares v c.in-Ok.field-0-is)) (omega (arith, randoms v c.in-Ok.field-0-is)) (omega arith)) c.in_default-first_over.is in
-    let probes = from19 (call v) c.first_over-2.ensures tape c.in_default-first_over-2.is in
+    let tape = from_tape (call v) c.first_over.ensures.judged (at18 (call v) (numbers v).passed (omega (arith, shares v c.in-Ok.field-0-is)) (omega (arith, randoms v c.in-Ok.field-0-is)) (omega arith)) c.in_default-first_over.is in
+    let probes = from19 (call v) c.first_over-2.ensures.judged tape c.in_default-first_over-2.is in
     let told = c.check-answer.ensures.answered ∙ ap (answer (circuit_of c.args.table.now c.args.notes.now)) (numbers v).passed in
-    judged (call v) c.check-answer.ensures.noted told (passes (call v) c.first_missing.ensures (wires v c.in-Ok.field-0-is) probes c.in_default-first_missing.is)
+    judged (call v) c.check-answer.ensures.noted told (passes (call v) c.first_missing.ensures.judged (wires v c.in-Ok.field-0-is) probes c.in_default-first_missing.is)
