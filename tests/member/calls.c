@@ -114,6 +114,9 @@ static void texts(void)
         is("its lines, and the bytes behind", memcmp(text, circuit_a, bytes) == 0 && kept(text, bytes, sizeof text));
         is("its notes", noted());
     }
+    uint64_t both;
+    is("the third number is written first",
+       masked_write_text(table, words, notes, MASKED_NOTES_WORDS, text, sizeof text, &both, &b, &both) == MASKED_ACCEPTED && both == bytes);
     junk();
     answer("rule 23", masked_write_text(table, words, notes, MASKED_NOTES_WORDS, text, bytes - 1, &a, &b, &c),
            MASKED_TEXT_TOO_SHORT, 0, 0, 0);

@@ -135,7 +135,9 @@ pub extern "C" fn masked_write_text(
     ensures written { text.new ≡ text_after table.now notes.old text.old }
 {
     let answer = writer::write(table, notes, text);
-    put(answer, a, b, c)
+    // first of the three, as a caller in C has always found it who lends one place for two of them
+    *c = 0;
+    put(answer, a, b, &mut 0)
 }
 
 // evaluation::evaluate
