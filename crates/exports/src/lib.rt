@@ -135,7 +135,7 @@ pub extern "C" fn masked_write_text(
     ensures written { text.new ≡ text_after table.now notes.old text.old }
 {
     let answer = writer::write(table, notes, text);
-    // first of the three, as a caller in C has always found it who lends one place for two of them
+    // written first: where a caller in C lends one place for two of the numbers, the other one stays there
     *c = 0;
     put(answer, a, b, &mut 0)
 }
